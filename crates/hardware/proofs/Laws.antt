@@ -1,0 +1,28 @@
+-- Laws of the register programs that the proofs cite.
+use Prim.Native.Nat.{ℕ, _-_, suc, zero}
+use mathlib.Core.Path.{_≡_, refl, ap}
+use mathlib.Core.List.{List, [], _∷_}
+use lib.ListN.{getD}
+use native.Mathlib.Numerals.{sub-one}
+use Rattle.hardware.specs.Prog.{ask, erase, orErr, _>>=_}
+use Rattle.hardware.specs.Poll.{poll, polled, pollNext, accessPoll, restPoll}
+use Rattle.hardware.specs.declared.poll.Watch.{Watch}
+use Rattle.hardware.specs.declared.poll.Poll.the-variants.{Reading}
+use Rattle.hardware.specs.declared.poll.PollNext.the-variants.{Going}
+
+-- with a read left, a poll begins by reading the register
+pub poll-more : (w : Watch) (tries last : ℕ) → (tries ≡ 0 → ⊥) → pollNext w (Going (Reading (tries - 1))) ≡ erase (poll w tries last)
+unfolding poll erase _>>=_ pollNext accessPoll restPoll
+poll-more w zero last h = absurd (h refl)
+poll-more w (suc n) last h = ap (λ m. pollNext w (Going (Reading m))) (sub-one (suc n))
+
+-- past the first of one value there is none
+pub one-value : (which v : ℕ) → (which ≡ 0 → ⊥) → 0 ≡ getD (v ∷ []) which 0
+one-value zero v h = absurd (h refl)
+one-value (suc n) v h = refl
+
+-- two values agree with the first alone but at place 1
+pub two-values : (which v w : ℕ) → (which ≡ 1 → ⊥) → getD (v ∷ []) which 0 ≡ getD (v ∷ w ∷ []) which 0
+two-values zero v w h = refl
+two-values (suc zero) v w h = absurd (h refl)
+two-values (suc (suc n)) v w h = refl

@@ -1,0 +1,33 @@
+-- `seen` meets its contract.
+use Rattle.hardware.specs.Poll.{accessPoll, pollNext, polled, restPoll}
+use Rattle.hardware.specs.Prog.{_>>=_, erase, orErr, pick}
+use Rattle.hardware.specs.Registers.{word}
+use Rattle.hardware.specs.Runs.{given}
+use borrow.Author.Needs.{needs}
+use Rattle.hardware.proofs.poll.seen.Statement.{statement}
+use Rattle.hardware.proofs.poll.seen.Tie as tie
+
+enum-known-v : tie.Need-enum-known-v
+enum-known-v c = search needs
+
+none-of-requires : tie.Need-none-of-requires
+none-of-requires c κs = search needs
+
+returns : tie.Need-returns
+unfolding word orErr polled pick erase pollNext
+returns c = rw (c .before .before .before .v .given .1, ← c .before .none-of .ensures, c .if1 .taken)
+
+enum-known-v-2 : tie.Need-enum-known-v-2
+enum-known-v-2 c = search needs
+
+returns-2 : tie.Need-returns-2
+unfolding word orErr polled pick erase _>>=_ pollNext accessPoll restPoll
+returns-2 c = rw (c .before .before .before .v .given .1, ← c .before .none-of .ensures, c .if1 .left)
+
+returns-3 : tie.Need-returns-3
+unfolding erase _>>=_ orErr pick word polled pollNext
+returns-3 c = cc
+
+pub seen-spec : {M : Type 1} → statement M
+seen-spec =
+    tie.close (tie.spec enum-known-v none-of-requires returns enum-known-v-2 returns-2 returns-3)

@@ -1,0 +1,45 @@
+-- `step` meets its contract.
+use Rattle.hardware.specs.Asked.{familyNumbered, openLan, openPort, question}
+use Rattle.hardware.specs.Change.{changed, settled, stored}
+use Rattle.hardware.specs.Poll.{polled, restPoll}
+use Rattle.hardware.specs.Prog.{_>>=_, erase, fed, orErr, pick}
+use Rattle.hardware.specs.Registers.{checked, flushed, outcome, raw, read, word, written}
+use Rattle.hardware.specs.Runs.{given}
+use borrow.Author.Needs.{needs}
+use Rattle.hardware.proofs.poll.step.Statement.{statement}
+use Rattle.hardware.proofs.poll.step.Tie as tie
+
+enum-known-s : tie.Need-enum-known-s
+enum-known-s c = search needs
+
+read-requires : tie.Need-read-requires
+read-requires c κs = search needs
+
+seen-requires : tie.Need-seen-requires
+seen-requires c κs = search needs
+
+enum-known-s-2 : tie.Need-enum-known-s-2
+enum-known-s-2 c = search needs
+
+open-requires : tie.Need-open-requires
+open-requires c κs = search needs
+
+returns : tie.Need-returns
+unfolding restPoll
+returns c = rw (c .before .before .before .s .given .1) (fed _ (c .seen .ensures) (c .before .read .ensures))
+
+returns-2 : tie.Need-returns-2
+unfolding erase _>>=_ orErr pick checked raw written flushed word outcome changed settled stored polled question openLan openPort familyNumbered restPoll
+returns-2 c = cc
+
+pub step-spec : {M : Type 1} → statement M
+step-spec =
+    tie.close
+    (tie.spec
+    enum-known-s
+    read-requires
+    seen-requires
+    enum-known-s-2
+    open-requires
+    returns
+    returns-2)

@@ -1,0 +1,53 @@
+-- A call run over a list of answers.
+use Prim.Native.Nat.{ℕ, _+_, _≤_, suc, zero}
+use mathlib.Core.Path.{_≡_, refl, ap, fun-ext}
+use mathlib.Core.List.{List, [], _∷_}
+use lib.Dec.{T}
+use Rattle.hardware.specs.declared.Access.{Access}
+use Rattle.hardware.specs.declared.Answer.{Answer}
+use Rattle.hardware.specs.Asked.{fits}
+use Rattle.hardware.specs.Prog.{Prog, ret, ask, note, give, erase, _>>=_}
+
+-- how a run stands: it has ended, or waits for the answer to one more access
+pub data Stand (A : Type 0) : Type 0 where
+  ended : A → Stand A
+  waiting : Access → Stand A
+
+-- the accesses that were answered, the bytes given out, and how the run stands when the list is used up or the call
+-- has ended
+pub record Run (A : Type 0) : Type 0 where
+  pub accesses : List Access
+  pub bytes : List ℕ
+  pub stand : Stand A
+
+abbrev pub answered : {A : Type 0} → Access → Run A → Run A
+answered x r = record { accesses = x ∷ r .accesses; bytes = r .bytes; stand = r .stand }
+
+abbrev pub given : {A : Type 0} → ℕ → Run A → Run A
+given b r = record { accesses = r .accesses; bytes = b ∷ r .bytes; stand = r .stand }
+
+unfoldable pub onward : {A : Type 0} → Access → (Answer → List Answer → Run A) → List Answer → Run A
+onward x f [] = record { accesses = []; bytes = []; stand = waiting x }
+onward x f (a ∷ l) = answered x (f a l)
+
+unfoldable pub run : {A : Type 0} → Prog A → List Answer → Run A
+run (ret v) = λ l. record { accesses = []; bytes = []; stand = ended v }
+run (ask x f) = onward x (λ a. run (f a))
+run (note n p) = run p
+run (give b p) = λ l. given b (run p l)
+
+-- a run sees nothing of the notes
+pub run-erase : {A : Type 0} (p : Prog A) → run (erase p) ≡ run p
+unfolding run erase
+run-erase (ret v) = refl
+run-erase (ask x f) = ap (onward x) (fun-ext (λ a. run-erase (f a)))
+run-erase (note n p) = run-erase p
+run-erase (give b p) = fun-ext (λ l. ap (λ r. given b (r l)) (run-erase p))
+
+-- n answers of the awaited kinds bring the call to its end, whatever they are
+unfoldable pub Ends : {A : Type 0} → Prog A → ℕ → Type 0
+Ends (ret v) n = Unit {0}
+Ends (ask x f) zero = ⊥
+Ends (ask x f) (suc n) = (a : Answer) → T (fits x a) → Ends (f a) n
+Ends (note m p) n = Ends p n
+Ends (give b p) n = Ends p n

@@ -1,0 +1,27 @@
+-- `muxing` meets its contract.
+use Rattle.hardware.specs.Change.{accessUpdate, change, restUpdate, updateNext}
+use Rattle.hardware.specs.Prog.{_>>=_, erase, followed, orErr, pick}
+use Rattle.hardware.specs.Registers.{outcome, word}
+use Rattle.hardware.specs.Runs.{given}
+use Rattle.sync.specs.Lock.{lockNext, unlockNext}
+use Rattle.sync.specs.Resource.{accessAcquireBits, accessAcquireStage, accessReleaseBits, acquireBitsNext, against, clearBits, cleared, clearing, free, muxed, releaseBits, releaseBitsNext, restAcquireBits, restAcquireStage, restReleaseBits, settle, syncSeen, taken, tryAgain, tryRead, unmuxed, validAcquireBits, validAcquireStage, validReleaseBits}
+use borrow.Author.Needs.{needs}
+use Rattle.sync.proofs.acquire_bits.muxing.Statement.{statement}
+use Rattle.sync.proofs.acquire_bits.muxing.Tie as tie
+
+enum-known-n : tie.Need-enum-known-n
+enum-known-n c = search needs
+
+enum-known-n-2 : tie.Need-enum-known-n-2
+enum-known-n-2 c = search needs
+
+returns : tie.Need-returns
+unfolding acquireBitsNext accessAcquireBits accessAcquireStage restAcquireBits restAcquireStage releaseBitsNext accessReleaseBits restReleaseBits lockNext unlockNext updateNext followed _>>=_ erase orErr pick word outcome taken free muxed syncSeen tryRead tryAgain settle cleared clearing clearBits against unmuxed releaseBits change accessUpdate restUpdate validAcquireStage validAcquireBits validReleaseBits
+returns c = rw (c .before .n .given .1)
+
+returns-2 : tie.Need-returns-2
+unfolding acquireBitsNext accessAcquireBits accessAcquireStage restAcquireBits restAcquireStage releaseBitsNext accessReleaseBits restReleaseBits lockNext unlockNext updateNext followed _>>=_ erase orErr pick word outcome taken free muxed syncSeen tryRead tryAgain settle cleared clearing clearBits against unmuxed releaseBits change accessUpdate restUpdate validAcquireStage validAcquireBits validReleaseBits
+returns-2 c = rw (c .before .n2 .given .1)
+
+pub muxing-spec : {M : Type 1} → statement M
+muxing-spec = tie.close (tie.spec enum-known-n enum-known-n-2 returns returns-2)

@@ -1,0 +1,65 @@
+-- `seen` meets its contract.
+use Rattle.hardware.specs.Prog.{_>>=_, erase, over, pick}
+use Rattle.hardware.specs.Registers.{word}
+use Rattle.hardware.specs.Runs.{given}
+use Rattle.sync.specs.Regs.{bits}
+use Rattle.sync.specs.Resource.{accessAcquireBits, accessAcquireStage, acquireBitsNext, free, restAcquireBits, restAcquireStage, syncSeen, taken, tryAgain}
+use borrow.Author.Needs.{needs}
+use Rattle.sync.proofs.acquire_bits.seen.Statement.{statement}
+use Rattle.sync.proofs.acquire_bits.seen.Tie as tie
+
+enum-known-w : tie.Need-enum-known-w
+enum-known-w c = search needs
+
+all-requires : tie.Need-all-requires
+all-requires c κs = search needs
+
+none-of-requires : tie.Need-none-of-requires
+none-of-requires c κs = search needs
+
+bits-requires : tie.Need-bits-requires
+bits-requires c κs = search needs
+
+returns : tie.Need-returns
+unfolding word syncSeen pick free erase _>>=_ acquireBitsNext accessAcquireBits accessAcquireStage restAcquireBits restAcquireStage
+returns c = rw (c .before .before .before .before .before .w .given .1, ← c .before .before .before .all .ensures, ← c .before .before .none-of .ensures, c .before .if1 .taken, ← c .bits .ensures)
+
+open-requires : tie.Need-open-requires
+open-requires c κs = search needs
+
+unlocking-requires : tie.Need-unlocking-requires
+unlocking-requires c κs = search needs
+
+enum-known-w-2 : tie.Need-enum-known-w-2
+enum-known-w-2 c = search needs
+
+open-requires-2 : tie.Need-open-requires-2
+open-requires-2 c κs = search needs
+
+failing-requires : tie.Need-failing-requires
+failing-requires c κs = search needs
+
+returns-2 : tie.Need-returns-2
+unfolding word syncSeen pick tryAgain
+returns-2 c = rw (c .before .before .before .before .before .before .w .given .1, ← c .before .before .before .before .all .ensures, ← c .before .before .before .none-of .ensures, c .before .before .if1 .left) (over _ _ (c .unlocking .ensures) (c .before .«open» .ensures))
+
+returns-3 : tie.Need-returns-3
+unfolding word syncSeen
+returns-3 c = rw (c .before .before .before .w2 .given .1) (over _ _ (c .failing .ensures) (c .before .open2 .ensures))
+
+pub seen-spec : {M : Type 1} → statement M
+seen-spec =
+    tie.close
+    (tie.spec
+    enum-known-w
+    all-requires
+    none-of-requires
+    bits-requires
+    returns
+    open-requires
+    unlocking-requires
+    enum-known-w-2
+    open-requires-2
+    failing-requires
+    returns-2
+    returns-3)

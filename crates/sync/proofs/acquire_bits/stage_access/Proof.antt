@@ -1,0 +1,123 @@
+-- `stage_access` meets its contract.
+use Rattle.hardware.specs.Change.{accessUpdate, change, restUpdate, updateNext}
+use Rattle.hardware.specs.Prog.{_>>=_, erase, followed, orErr, pick}
+use Rattle.hardware.specs.Registers.{outcome, word}
+use Rattle.hardware.specs.Runs.{given}
+use Rattle.sync.specs.Lock.{lockNext, unlockNext}
+use Rattle.sync.specs.Resource.{accessAcquireBits, accessAcquireStage, accessReleaseBits, acquireBitsNext, against, clearBits, cleared, clearing, free, muxed, releaseBits, releaseBitsNext, restAcquireBits, restAcquireStage, restReleaseBits, settle, syncSeen, taken, tryAgain, tryRead, unmuxed, validAcquireBits, validAcquireStage, validReleaseBits}
+use borrow.Author.Needs.{needs}
+use Rattle.sync.proofs.acquire_bits.stage_access.Statement.{statement}
+use Rattle.sync.proofs.acquire_bits.stage_access.Tie as tie
+
+enum-known-s : tie.Need-enum-known-s
+enum-known-s c = search needs
+
+access-requires : tie.Need-access-requires
+access-requires c κs = search needs
+
+enum-told : tie.Need-enum-told
+enum-told c = search needs
+
+regs-requires : tie.Need-regs-requires
+regs-requires c κs = search needs
+
+enum-known-s-2 : tie.Need-enum-known-s-2
+enum-known-s-2 c = search needs
+
+access-requires-2 : tie.Need-access-requires-2
+access-requires-2 c κs = search needs
+
+enum-known-s-3 : tie.Need-enum-known-s-3
+enum-known-s-3 c = search needs
+
+regs-requires-2 : tie.Need-regs-requires-2
+regs-requires-2 c κs = search needs
+
+enum-known-s-4 : tie.Need-enum-known-s-4
+enum-known-s-4 c = search needs
+
+access-requires-3 : tie.Need-access-requires-3
+access-requires-3 c κs = search needs
+
+enum-known-s-5 : tie.Need-enum-known-s-5
+enum-known-s-5 c = search needs
+
+set-mux-requires : tie.Need-set-mux-requires
+set-mux-requires c κs = search needs
+
+access-requires-4 : tie.Need-access-requires-4
+access-requires-4 c κs = search needs
+
+enum-known-s-6 : tie.Need-enum-known-s-6
+enum-known-s-6 c = search needs
+
+access-requires-5 : tie.Need-access-requires-5
+access-requires-5 c κs = search needs
+
+enum-told-2 : tie.Need-enum-told-2
+enum-told-2 c = search needs
+
+delay-ms-requires : tie.Need-delay-ms-requires
+delay-ms-requires c κs = search needs
+
+returns : tie.Need-returns
+unfolding restAcquireStage restAcquireBits accessAcquireStage accessAcquireBits restReleaseBits accessReleaseBits releaseBits unmuxed cleared validAcquireStage validReleaseBits clearBits against
+returns c = rw (c .before .before .s .given .1) (c .access .ensures)
+
+returns-2 : tie.Need-returns-2
+unfolding acquireBitsNext accessAcquireBits accessAcquireStage restAcquireBits restAcquireStage releaseBitsNext accessReleaseBits restReleaseBits lockNext unlockNext updateNext followed _>>=_ erase orErr pick word outcome taken free muxed syncSeen tryRead tryAgain settle cleared clearing clearBits against unmuxed releaseBits change accessUpdate restUpdate validAcquireStage validAcquireBits validReleaseBits
+returns-2 c = cc
+
+returns-3 : tie.Need-returns-3
+unfolding restAcquireStage restAcquireBits accessAcquireStage accessAcquireBits restReleaseBits accessReleaseBits releaseBits unmuxed cleared validAcquireStage validReleaseBits clearBits against
+returns-3 c = rw (c .before .before .s2 .given .1) (c .access2 .ensures)
+
+returns-4 : tie.Need-returns-4
+unfolding accessAcquireStage
+returns-4 c = rw (c .before .before .s3 .given .1, ← c .regs2 .ensures .1)
+
+returns-5 : tie.Need-returns-5
+unfolding restAcquireStage restAcquireBits accessAcquireStage accessAcquireBits restReleaseBits accessReleaseBits releaseBits unmuxed cleared validAcquireStage validReleaseBits clearBits against
+returns-5 c = rw (c .before .before .s4 .given .1) (c .access3 .ensures)
+
+returns-6 : tie.Need-returns-6
+unfolding restAcquireStage restAcquireBits accessAcquireStage accessAcquireBits restReleaseBits accessReleaseBits releaseBits unmuxed cleared validAcquireStage validReleaseBits clearBits against
+returns-6 c = rw (c .before .before .before .s5 .given .1, ← c .before .set-mux .ensures) (c .access4 .ensures)
+
+returns-7 : tie.Need-returns-7
+unfolding restAcquireStage restAcquireBits accessAcquireStage accessAcquireBits restReleaseBits accessReleaseBits releaseBits unmuxed cleared validAcquireStage validReleaseBits clearBits against
+returns-7 c = rw (c .before .before .s6 .given .1) (c .access5 .ensures)
+
+returns-8 : tie.Need-returns-8
+unfolding acquireBitsNext accessAcquireBits accessAcquireStage restAcquireBits restAcquireStage releaseBitsNext accessReleaseBits restReleaseBits lockNext unlockNext updateNext followed _>>=_ erase orErr pick word outcome taken free muxed syncSeen tryRead tryAgain settle cleared clearing clearBits against unmuxed releaseBits change accessUpdate restUpdate validAcquireStage validAcquireBits validReleaseBits
+returns-8 c = rw (c .before .enum-told2 .given .1, ← c .delay-ms .ensures)
+
+pub stage-access-spec : {M : Type 1} → statement M
+stage-access-spec =
+    tie.close
+    (tie.spec
+    enum-known-s
+    access-requires
+    enum-told
+    regs-requires
+    enum-known-s-2
+    access-requires-2
+    enum-known-s-3
+    regs-requires-2
+    enum-known-s-4
+    access-requires-3
+    enum-known-s-5
+    set-mux-requires
+    access-requires-4
+    enum-known-s-6
+    access-requires-5
+    enum-told-2
+    delay-ms-requires
+    returns
+    returns-2
+    returns-3
+    returns-4
+    returns-5
+    returns-6
+    returns-7
+    returns-8)

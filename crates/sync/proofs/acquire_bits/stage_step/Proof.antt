@@ -1,0 +1,154 @@
+-- `stage_step` meets its contract.
+use Rattle.hardware.specs.Prog.{over}
+use Rattle.hardware.specs.Registers.{read, write}
+use Rattle.hardware.specs.Runs.{given}
+use Rattle.sync.specs.Resource.{accessAcquireBits, accessAcquireStage, accessReleaseBits, against, clearBits, cleared, releaseBits, restAcquireBits, restAcquireStage, restReleaseBits, unmuxed, validAcquireStage, validReleaseBits}
+use borrow.Author.Needs.{needs}
+use mathlib.Core.Path.{_∙_}
+use Rattle.sync.proofs.acquire_bits.stage_step.Statement.{statement}
+use Rattle.sync.proofs.acquire_bits.stage_step.Tie as tie
+
+enum-known-s : tie.Need-enum-known-s
+enum-known-s c = search needs
+
+step-requires : tie.Need-step-requires
+step-requires c κs = search needs
+
+locking-requires : tie.Need-locking-requires
+locking-requires c κs = search needs
+
+enum-told : tie.Need-enum-told
+enum-told c = search needs
+
+read-requires : tie.Need-read-requires
+read-requires c κs = search needs
+
+seen-requires : tie.Need-seen-requires
+seen-requires c κs = search needs
+
+enum-known-s-2 : tie.Need-enum-known-s-2
+enum-known-s-2 c = search needs
+
+step-requires-2 : tie.Need-step-requires-2
+step-requires-2 c κs = search needs
+
+failing-requires : tie.Need-failing-requires
+failing-requires c κs = search needs
+
+enum-told-2 : tie.Need-enum-told-2
+enum-told-2 c = search needs
+
+write-requires : tie.Need-write-requires
+write-requires c κs = search needs
+
+open-requires : tie.Need-open-requires
+open-requires c κs = search needs
+
+taking-requires : tie.Need-taking-requires
+taking-requires c κs = search needs
+
+enum-known-s-3 : tie.Need-enum-known-s-3
+enum-known-s-3 c = search needs
+
+step-requires-3 : tie.Need-step-requires-3
+step-requires-3 c κs = search needs
+
+taking-requires-2 : tie.Need-taking-requires-2
+taking-requires-2 c κs = search needs
+
+enum-known-s-4 : tie.Need-enum-known-s-4
+enum-known-s-4 c = search needs
+
+set-mux-requires : tie.Need-set-mux-requires
+set-mux-requires c κs = search needs
+
+step-requires-4 : tie.Need-step-requires-4
+step-requires-4 c κs = search needs
+
+muxing-requires : tie.Need-muxing-requires
+muxing-requires c κs = search needs
+
+enum-known-s-5 : tie.Need-enum-known-s-5
+enum-known-s-5 c = search needs
+
+step-requires-5 : tie.Need-step-requires-5
+step-requires-5 c κs = search needs
+
+unlocking-requires : tie.Need-unlocking-requires
+unlocking-requires c κs = search needs
+
+enum-known-s-6 : tie.Need-enum-known-s-6
+enum-known-s-6 c = search needs
+
+open-requires-2 : tie.Need-open-requires-2
+open-requires-2 c κs = search needs
+
+returns : tie.Need-returns
+unfolding restAcquireStage restAcquireBits accessAcquireStage accessAcquireBits restReleaseBits accessReleaseBits releaseBits unmuxed cleared validAcquireStage validReleaseBits clearBits against
+returns c = rw (c .before .before .before .s .given .1) (over _ _ (c .locking .ensures) (c .before .step .ensures))
+
+returns-2 : tie.Need-returns-2
+unfolding restAcquireStage restAcquireBits accessAcquireStage accessAcquireBits restReleaseBits accessReleaseBits releaseBits unmuxed cleared validAcquireStage validReleaseBits clearBits against
+returns-2 c = rw (c .before .before .enum-told .given .1, ← c .before .read .ensures) (c .seen .ensures)
+
+returns-3 : tie.Need-returns-3
+unfolding restAcquireStage restAcquireBits accessAcquireStage accessAcquireBits restReleaseBits accessReleaseBits releaseBits unmuxed cleared validAcquireStage validReleaseBits clearBits against
+returns-3 c = rw (c .before .before .before .s2 .given .1) (over _ _ (c .failing .ensures) (c .before .step2 .ensures))
+
+returns-4 : tie.Need-returns-4
+unfolding restAcquireStage
+returns-4 c = rw (c .before .before .before .enum-told2 .given .1, ← c .before .before .write .ensures) (over _ _ (c .taking .ensures) (c .before .«open» .ensures))
+
+returns-5 : tie.Need-returns-5
+unfolding restAcquireStage restAcquireBits accessAcquireStage accessAcquireBits restReleaseBits accessReleaseBits releaseBits unmuxed cleared validAcquireStage validReleaseBits clearBits against
+returns-5 c = rw (c .before .before .before .s3 .given .1) (over _ _ (c .taking2 .ensures) (c .before .step3 .ensures))
+
+returns-6 : tie.Need-returns-6
+unfolding restAcquireStage restAcquireBits accessAcquireStage accessAcquireBits restReleaseBits accessReleaseBits releaseBits unmuxed cleared validAcquireStage validReleaseBits clearBits against
+returns-6 c = rw (c .before .before .before .before .s4 .given .1) (c .muxing .ensures ∙ (rw (c .before .before .set-mux .ensures) at (c .before .step4 .ensures)))
+
+returns-7 : tie.Need-returns-7
+unfolding restAcquireStage restAcquireBits accessAcquireStage accessAcquireBits restReleaseBits accessReleaseBits releaseBits unmuxed cleared validAcquireStage validReleaseBits clearBits against
+returns-7 c = rw (c .before .before .before .s5 .given .1) (over _ _ (c .unlocking .ensures) (c .before .step5 .ensures))
+
+returns-8 : tie.Need-returns-8
+unfolding restAcquireStage restAcquireBits accessAcquireStage accessAcquireBits restReleaseBits accessReleaseBits releaseBits unmuxed cleared validAcquireStage validReleaseBits clearBits against
+returns-8 c = rw (c .before .before .s6 .given .1) (c .open2 .ensures)
+
+pub stage-step-spec : {M : Type 1} → statement M
+stage-step-spec =
+    tie.close
+    (tie.spec
+    enum-known-s
+    step-requires
+    locking-requires
+    enum-told
+    read-requires
+    seen-requires
+    enum-known-s-2
+    step-requires-2
+    failing-requires
+    enum-told-2
+    write-requires
+    open-requires
+    taking-requires
+    enum-known-s-3
+    step-requires-3
+    taking-requires-2
+    enum-known-s-4
+    set-mux-requires
+    step-requires-4
+    muxing-requires
+    enum-known-s-5
+    step-requires-5
+    unlocking-requires
+    enum-known-s-6
+    open-requires-2
+    returns
+    returns-2
+    returns-3
+    returns-4
+    returns-5
+    returns-6
+    returns-7
+    returns-8)

@@ -1,0 +1,44 @@
+-- `unlock_open` meets its contract.
+use Rattle.hardware.specs.Asked.{andThen, familyOpened, question, yes}
+use Rattle.hardware.specs.Runs.{given}
+use Rattle.sync.specs.Calls.{openLock, openUnlock, saidLock, saidUnlock, stepLock, stepUnlock}
+use Rattle.sync.specs.Lock.{lockNext, unlockNext}
+use borrow.Author.Needs.{needs}
+use mathlib.Core.Path.{_∙_, ap}
+use Rattle.sync.proofs.calls.unlock_open.Statement.{statement}
+use Rattle.sync.proofs.calls.unlock_open.Tie as tie
+
+open-family-requires : tie.Need-open-family-requires
+open-family-requires c κs = search needs
+
+enum-known-f : tie.Need-enum-known-f
+enum-known-f c = search needs
+
+open-requires : tie.Need-open-requires
+open-requires c κs = search needs
+
+unlock-told-requires : tie.Need-unlock-told-requires
+unlock-told-requires c κs = search needs
+
+enum-known-q : tie.Need-enum-known-q
+enum-known-q c = search needs
+
+returns : tie.Need-returns
+unfolding saidLock saidUnlock stepLock stepUnlock openLock openUnlock lockNext unlockNext question andThen familyOpened
+returns c = rw (← c .before .before .before .before .before .open-family .ensures, c .before .before .before .f .given .1) (c .unlock-told .ensures ∙ ap yes (c .before .«open» .ensures))
+
+returns-2 : tie.Need-returns-2
+unfolding saidLock saidUnlock stepLock stepUnlock openLock openUnlock lockNext unlockNext question andThen familyOpened
+returns-2 c = rw (← c .before .before .before .open-family .ensures, c .before .q .given .1)
+
+pub unlock-open-spec : {M : Type 1} → statement M
+unlock-open-spec =
+    tie.close
+    (tie.spec
+    open-family-requires
+    enum-known-f
+    open-requires
+    unlock-told-requires
+    enum-known-q
+    returns
+    returns-2)

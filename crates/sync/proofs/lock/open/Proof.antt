@@ -1,0 +1,22 @@
+-- `open` meets its contract.
+use Rattle.hardware.specs.Prog.{over}
+use Rattle.sync.specs.Lock.{lock}
+use borrow.Author.Needs.{needs}
+use Rattle.sync.proofs.lock.open.Statement.{statement}
+use Rattle.sync.proofs.lock.open.Tie as tie
+
+smbi-requires : tie.Need-smbi-requires
+smbi-requires c κs = search needs
+
+open-requires : tie.Need-open-requires
+open-requires c κs = search needs
+
+smbi-requires-2 : tie.Need-smbi-requires-2
+smbi-requires-2 c κs = search needs
+
+returns : tie.Need-returns
+unfolding lock
+returns c = over _ _ (c .smbi2 .ensures) (rw (c .before .before .smbi .ensures) at (c .before .«open» .ensures))
+
+pub open-spec : {M : Type 1} → statement M
+open-spec = tie.close (tie.spec smbi-requires open-requires smbi-requires-2 returns)

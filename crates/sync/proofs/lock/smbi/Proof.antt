@@ -1,0 +1,31 @@
+-- `smbi` meets its contract.
+use Rattle.hardware.specs.Change.{change, stored, updateNext}
+use Rattle.hardware.specs.Poll.{pollNext}
+use Rattle.hardware.specs.Prog.{_>>=_, erase, followed, going, orErr, pick}
+use Rattle.hardware.specs.Registers.{flag, outcome, word}
+use Rattle.hardware.specs.Runs.{given}
+use Rattle.sync.specs.Lock.{accessLock, accessSwesmbi, accessUnlock, lapsed, lock, lockNext, regsmpDone, restLock, restSwesmbi, restUnlock, second, smbiDone, swesmbiCheck, swesmbiDone, swesmbiNext, swesmbiSeen, unlock, unlockNext, validLock, validSwesmbi}
+use Rattle.sync.specs.Regs.{backSwsm, bits, bits82599, bitsX540, clearSync, mux, phy, regsmpWatch, releaseUs, setMux, setSwesmbi, smbiWatch, swFwSync, swsm}
+use borrow.Author.Needs.{needs}
+use Rattle.sync.proofs.lock.smbi.Statement.{statement}
+use Rattle.sync.proofs.lock.smbi.Tie as tie
+
+enum-known-n : tie.Need-enum-known-n
+enum-known-n c = search needs
+
+enum-known-n-2 : tie.Need-enum-known-n-2
+enum-known-n-2 c = search needs
+
+smbi-done-requires : tie.Need-smbi-done-requires
+smbi-done-requires c κs = search needs
+
+returns : tie.Need-returns
+unfolding restSwesmbi accessSwesmbi swesmbiNext restLock accessLock lockNext restUnlock accessUnlock unlockNext pollNext updateNext
+returns c = rw (c .before .n .given .1) (going _ _ _)
+
+returns-2 : tie.Need-returns-2
+unfolding restSwesmbi accessSwesmbi swesmbiNext restLock accessLock lockNext restUnlock accessUnlock unlockNext lock second unlock lapsed smbiDone swesmbiDone regsmpDone swesmbiSeen swesmbiCheck validLock validSwesmbi followed _>>=_ erase orErr pick word outcome flag pollNext updateNext phy swsm swFwSync bits82599 bitsX540 bits mux smbiWatch regsmpWatch backSwsm clearSync setMux releaseUs setSwesmbi change stored
+returns-2 c = rw (c .before .before .n2 .given .1) (c .smbi-done .ensures)
+
+pub smbi-spec : {M : Type 1} → statement M
+smbi-spec = tie.close (tie.spec enum-known-n enum-known-n-2 smbi-done-requires returns returns-2)

@@ -1,0 +1,19 @@
+-- `clear_done` meets its contract.
+use Rattle.hardware.specs.Prog.{over}
+use Rattle.sync.specs.Resource.{accessAcquireBits, accessAcquireStage, accessReleaseBits, against, clearBits, cleared, releaseBits, restAcquireBits, restAcquireStage, restReleaseBits, unmuxed, validAcquireStage, validReleaseBits}
+use borrow.Author.Needs.{needs}
+use Rattle.sync.proofs.release_bits.clear_done.Statement.{statement}
+use Rattle.sync.proofs.release_bits.clear_done.Tie as tie
+
+open-requires : tie.Need-open-requires
+open-requires c κs = search needs
+
+unlocking-requires : tie.Need-unlocking-requires
+unlocking-requires c κs = search needs
+
+returns : tie.Need-returns
+unfolding restAcquireStage restAcquireBits accessAcquireStage accessAcquireBits restReleaseBits accessReleaseBits releaseBits unmuxed cleared validAcquireStage validReleaseBits clearBits against
+returns c = over _ _ (c .unlocking .ensures) (c .before .«open» .ensures)
+
+pub clear-done-spec : {M : Type 1} → statement M
+clear-done-spec = tie.close (tie.spec open-requires unlocking-requires returns)

@@ -1,0 +1,34 @@
+-- `finish` meets its contract.
+use Rattle.hardware.specs.Change.{accessUpdate, change, restUpdate, updateNext}
+use Rattle.hardware.specs.Prog.{_>>=_, erase, followed, orErr, pick}
+use Rattle.hardware.specs.Registers.{outcome, word}
+use Rattle.hardware.specs.Runs.{given}
+use Rattle.sync.specs.Lock.{lockNext, unlockNext}
+use Rattle.sync.specs.Resource.{accessAcquireBits, accessAcquireStage, accessReleaseBits, acquireBitsNext, against, clearBits, cleared, clearing, free, muxed, releaseBits, releaseBitsNext, restAcquireBits, restAcquireStage, restReleaseBits, settle, syncSeen, taken, tryAgain, tryRead, unmuxed, validAcquireBits, validAcquireStage, validReleaseBits}
+use borrow.Author.Needs.{needs}
+use Rattle.sync.proofs.release_bits.finish.Statement.{statement}
+use Rattle.sync.proofs.release_bits.finish.Tie as tie
+
+enum-told : tie.Need-enum-told
+enum-told c = search needs
+
+same-requires : tie.Need-same-requires
+same-requires c κs = search needs
+
+returns : tie.Need-returns
+unfolding acquireBitsNext accessAcquireBits accessAcquireStage restAcquireBits restAcquireStage releaseBitsNext accessReleaseBits restReleaseBits lockNext unlockNext updateNext followed _>>=_ erase orErr pick word outcome taken free muxed syncSeen tryRead tryAgain settle cleared clearing clearBits against unmuxed releaseBits change accessUpdate restUpdate validAcquireStage validAcquireBits validReleaseBits
+returns c = rw (c .before .before .enum-told .given .1, ← c .before .same .ensures, c .if1 .taken)
+
+enum-known-w : tie.Need-enum-known-w
+enum-known-w c = search needs
+
+returns-2 : tie.Need-returns-2
+unfolding acquireBitsNext accessAcquireBits accessAcquireStage restAcquireBits restAcquireStage releaseBitsNext accessReleaseBits restReleaseBits lockNext unlockNext updateNext followed _>>=_ erase orErr pick word outcome taken free muxed syncSeen tryRead tryAgain settle cleared clearing clearBits against unmuxed releaseBits change accessUpdate restUpdate validAcquireStage validAcquireBits validReleaseBits
+returns-2 c = rw (c .before .before .enum-told .given .1, ← c .before .same .ensures, c .if1 .left)
+
+returns-3 : tie.Need-returns-3
+unfolding acquireBitsNext accessAcquireBits accessAcquireStage restAcquireBits restAcquireStage releaseBitsNext accessReleaseBits restReleaseBits lockNext unlockNext updateNext followed _>>=_ erase orErr pick word outcome taken free muxed syncSeen tryRead tryAgain settle cleared clearing clearBits against unmuxed releaseBits change accessUpdate restUpdate validAcquireStage validAcquireBits validReleaseBits
+returns-3 c = rw (c .before .w .given .1)
+
+pub finish-spec : {M : Type 1} → statement M
+finish-spec = tie.close (tie.spec enum-told same-requires returns enum-known-w returns-2 returns-3)

@@ -1,0 +1,19 @@
+-- `lock` meets its contract.
+use Rattle.hardware.specs.Prog.{over}
+use Rattle.sync.specs.Resource.{accessAcquireBits, accessAcquireStage, accessReleaseBits, against, clearBits, cleared, releaseBits, restAcquireBits, restAcquireStage, restReleaseBits, unmuxed, validAcquireStage, validReleaseBits}
+use borrow.Author.Needs.{needs}
+use Rattle.sync.proofs.release_bits.lock.Statement.{statement}
+use Rattle.sync.proofs.release_bits.lock.Tie as tie
+
+open-requires : tie.Need-open-requires
+open-requires c κs = search needs
+
+locking-requires : tie.Need-locking-requires
+locking-requires c κs = search needs
+
+returns : tie.Need-returns
+unfolding restAcquireStage restAcquireBits accessAcquireStage accessAcquireBits restReleaseBits accessReleaseBits releaseBits unmuxed cleared validAcquireStage validReleaseBits clearBits against
+returns c = over _ _ (c .locking .ensures) (c .before .«open» .ensures)
+
+pub lock-spec : {M : Type 1} → statement M
+lock-spec = tie.close (tie.spec open-requires locking-requires returns)

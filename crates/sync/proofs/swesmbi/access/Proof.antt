@@ -1,0 +1,51 @@
+-- `access` meets its contract.
+use Rattle.hardware.specs.Change.{change, stored, updateNext}
+use Rattle.hardware.specs.Poll.{pollNext}
+use Rattle.hardware.specs.Prog.{_>>=_, erase, followed, orErr, pick}
+use Rattle.hardware.specs.Registers.{flag, outcome, word}
+use Rattle.hardware.specs.Runs.{given}
+use Rattle.sync.specs.Lock.{accessLock, accessSwesmbi, accessUnlock, lapsed, lock, lockNext, regsmpDone, restLock, restSwesmbi, restUnlock, second, smbiDone, swesmbiCheck, swesmbiDone, swesmbiNext, swesmbiSeen, unlock, unlockNext, validLock, validSwesmbi}
+use Rattle.sync.specs.Regs.{backSwsm, bits, bits82599, bitsX540, clearSync, mux, phy, regsmpWatch, releaseUs, setMux, setSwesmbi, smbiWatch, swFwSync, swsm}
+use borrow.Author.Needs.{needs}
+use Rattle.sync.proofs.swesmbi.access.Statement.{statement}
+use Rattle.sync.proofs.swesmbi.access.Tie as tie
+
+enum-known-s : tie.Need-enum-known-s
+enum-known-s c = search needs
+
+setting-requires : tie.Need-setting-requires
+setting-requires c κs = search needs
+
+access-requires : tie.Need-access-requires
+access-requires c κs = search needs
+
+enum-told : tie.Need-enum-told
+enum-told c = search needs
+
+enum-told-2 : tie.Need-enum-told-2
+enum-told-2 c = search needs
+
+returns : tie.Need-returns
+unfolding restSwesmbi accessSwesmbi restLock accessLock restUnlock accessUnlock lock second unlock validLock validSwesmbi swesmbiCheck
+returns c = rw (c .before .before .before .s .given .1, ← c .before .setting .ensures) (c .access .ensures)
+
+returns-2 : tie.Need-returns-2
+unfolding restSwesmbi accessSwesmbi swesmbiNext restLock accessLock lockNext restUnlock accessUnlock unlockNext lock second unlock lapsed smbiDone swesmbiDone regsmpDone swesmbiSeen swesmbiCheck validLock validSwesmbi followed _>>=_ erase orErr pick word outcome flag pollNext updateNext phy swsm swFwSync bits82599 bitsX540 bits mux smbiWatch regsmpWatch backSwsm clearSync setMux releaseUs setSwesmbi change stored
+returns-2 c = rw (c .enum-told .given .1)
+
+returns-3 : tie.Need-returns-3
+unfolding restSwesmbi accessSwesmbi swesmbiNext restLock accessLock lockNext restUnlock accessUnlock unlockNext lock second unlock lapsed smbiDone swesmbiDone regsmpDone swesmbiSeen swesmbiCheck validLock validSwesmbi followed _>>=_ erase orErr pick word outcome flag pollNext updateNext phy swsm swFwSync bits82599 bitsX540 bits mux smbiWatch regsmpWatch backSwsm clearSync setMux releaseUs setSwesmbi change stored
+returns-3 c = rw (c .enum-told2 .given .1)
+
+pub access-spec : {M : Type 1} → statement M
+access-spec =
+    tie.close
+    (tie.spec
+    enum-known-s
+    setting-requires
+    access-requires
+    enum-told
+    enum-told-2
+    returns
+    returns-2
+    returns-3)

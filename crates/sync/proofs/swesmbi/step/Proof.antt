@@ -1,0 +1,64 @@
+-- `step` meets its contract.
+use Rattle.hardware.specs.Prog.{fed, over}
+use Rattle.hardware.specs.Registers.{read}
+use Rattle.hardware.specs.Runs.{given}
+use Rattle.sync.specs.Lock.{accessLock, accessSwesmbi, accessUnlock, lock, restLock, restSwesmbi, restUnlock, second, swesmbiCheck, unlock, validLock, validSwesmbi}
+use borrow.Author.Needs.{needs}
+use Rattle.sync.proofs.swesmbi.step.Statement.{statement}
+use Rattle.sync.proofs.swesmbi.step.Tie as tie
+
+enum-known-s : tie.Need-enum-known-s
+enum-known-s c = search needs
+
+setting-requires : tie.Need-setting-requires
+setting-requires c κs = search needs
+
+step-requires : tie.Need-step-requires
+step-requires c κs = search needs
+
+set-requires : tie.Need-set-requires
+set-requires c κs = search needs
+
+enum-known-s-2 : tie.Need-enum-known-s-2
+enum-known-s-2 c = search needs
+
+read-requires : tie.Need-read-requires
+read-requires c κs = search needs
+
+seen-requires : tie.Need-seen-requires
+seen-requires c κs = search needs
+
+enum-known-s-3 : tie.Need-enum-known-s-3
+enum-known-s-3 c = search needs
+
+open-requires : tie.Need-open-requires
+open-requires c κs = search needs
+
+returns : tie.Need-returns
+unfolding restSwesmbi accessSwesmbi restLock accessLock restUnlock accessUnlock lock second unlock validLock validSwesmbi swesmbiCheck
+returns c = rw (c .before .before .before .before .s .given .1) (over _ _ (c .set .ensures) (rw (c .before .before .setting .ensures) at (c .before .step .ensures)))
+
+returns-2 : tie.Need-returns-2
+unfolding restSwesmbi accessSwesmbi restLock accessLock restUnlock accessUnlock lock second unlock validLock validSwesmbi swesmbiCheck
+returns-2 c = rw (c .before .before .before .s2 .given .1) (fed _ (c .seen .ensures) (c .before .read .ensures))
+
+returns-3 : tie.Need-returns-3
+unfolding restSwesmbi accessSwesmbi restLock accessLock restUnlock accessUnlock lock second unlock validLock validSwesmbi swesmbiCheck
+returns-3 c = rw (c .before .before .s3 .given .1) (c .«open» .ensures)
+
+pub step-spec : {M : Type 1} → statement M
+step-spec =
+    tie.close
+    (tie.spec
+    enum-known-s
+    setting-requires
+    step-requires
+    set-requires
+    enum-known-s-2
+    read-requires
+    seen-requires
+    enum-known-s-3
+    open-requires
+    returns
+    returns-2
+    returns-3)

@@ -1,0 +1,49 @@
+-- What the public calls of `lock` and `unlock` yield: a refusal by its number, or what is left of the call.
+use Prim.Native.Nat.{ℕ}
+use Rattle.hardware.specs.declared.Answer.{Answer}
+use Rattle.hardware.specs.Asked.{Asked, yes, no, question, andThen, openFamily, fits}
+use Rattle.hardware.specs.Numbers.{refusalNumber}
+use Rattle.hardware.specs.Prog.{Prog, ret, ask, erase, R}
+use Rattle.hardware.specs.Registers.{outcome}
+use Rattle.sync.specs.declared.calls.LockCall.{LockCall}
+use Rattle.sync.specs.declared.calls.LockCall.the-variants.{Going as LockGoing, Over as LockOver}
+use Rattle.sync.specs.declared.calls.LockTold.{LockTold}
+use Rattle.sync.specs.declared.calls.LockTold.the-variants.{Ask as LockAsk, End as LockEnd, Refused as LockRefused}
+use Rattle.sync.specs.declared.calls.UnlockCall.{UnlockCall}
+use Rattle.sync.specs.declared.calls.UnlockCall.the-variants.{Going as UnlockGoing, Over as UnlockOver}
+use Rattle.sync.specs.declared.calls.UnlockTold.{UnlockTold}
+use Rattle.sync.specs.declared.calls.UnlockTold.the-variants.{Ask as UnlockAsk, End as UnlockEnd, Refused as UnlockRefused}
+use Rattle.sync.specs.Lock.{lock, accessLock, restLock, validLock, unlock, accessUnlock, restUnlock}
+
+-- `lock`: question 1
+unfoldable pub openLock : ℕ → Asked (Prog (R (Unit {0})))
+openLock family = andThen (openFamily family) (λ f. yes (erase (lock f)))
+
+-- a step: 10, 11, 12
+unfoldable pub stepLock : LockCall → Answer → Asked (Prog (R (Unit {0})))
+stepLock (LockGoing f t) a = question (validLock t) 10 (question (fits (accessLock f t) a) 12 (yes (erase (restLock f t a))))
+stepLock LockOver a = no 11
+
+-- an access comes with a state to go on from, the end with the finished state
+unfoldable pub saidLock : LockTold → Asked (Prog (R (Unit {0})))
+saidLock (LockAsk x (LockGoing f t)) = yes (ask x (λ a. erase (restLock f t a)))
+saidLock (LockAsk x LockOver) = no 0
+saidLock (LockEnd o LockOver) = yes (ret (outcome o))
+saidLock (LockEnd o (LockGoing f t)) = no 0
+saidLock (LockRefused q) = no (refusalNumber q)
+
+-- `unlock`: question 1
+unfoldable pub openUnlock : ℕ → Asked (Prog (R (Unit {0})))
+openUnlock family = andThen (openFamily family) (λ f. yes (erase (unlock f)))
+
+-- its state has no counter, so that 10 is never a no
+unfoldable pub stepUnlock : UnlockCall → Answer → Asked (Prog (R (Unit {0})))
+stepUnlock (UnlockGoing f t) a = question (fits (accessUnlock f t) a) 12 (yes (erase (restUnlock f t a)))
+stepUnlock UnlockOver a = no 11
+
+unfoldable pub saidUnlock : UnlockTold → Asked (Prog (R (Unit {0})))
+saidUnlock (UnlockAsk x (UnlockGoing f t)) = yes (ask x (λ a. erase (restUnlock f t a)))
+saidUnlock (UnlockAsk x UnlockOver) = no 0
+saidUnlock (UnlockEnd o UnlockOver) = yes (ret (outcome o))
+saidUnlock (UnlockEnd o (UnlockGoing f t)) = no 0
+saidUnlock (UnlockRefused q) = no (refusalNumber q)

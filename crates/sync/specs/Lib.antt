@@ -1,0 +1,4 @@
+pub mod Regs
+pub mod Lock
+pub mod Resource
+pub mod Calls

@@ -1,0 +1,110 @@
+// The stepwise calls of `lock` and `unlock`: an opening names the first access, and each step the next, or the end.
+use crate::lock::Lock;
+use crate::lock::LockNext;
+use crate::unlock::Unlock;
+use crate::unlock::UnlockNext;
+use hardware::Access;
+use hardware::Answer;
+use hardware::Family;
+use hardware::FamilyOpening;
+use hardware::Outcome;
+use hardware::Refusal;
+ghost use mathlib.Core.Path.{_≡_};
+ghost use Rattle.hardware.specs.Asked.{yes};
+ghost use Rattle.sync.specs.Lock.{lockNext, unlockNext};
+ghost use Rattle.sync.specs.Calls.{openLock, stepLock, saidLock, openUnlock, stepUnlock, saidUnlock};
+
+pub enum LockCall {
+    Going(Family, Lock),
+    Over,
+}
+
+pub enum LockTold {
+    Ask(Access, LockCall),
+    End(Outcome, LockCall),
+    Refused(Refusal),
+}
+
+pub enum UnlockCall {
+    Going(Family, Unlock),
+    Over,
+}
+
+pub enum UnlockTold {
+    Ask(Access, UnlockCall),
+    End(Outcome, UnlockCall),
+    Refused(Refusal),
+}
+
+fn lock_told(family: Family, n: LockNext) -> LockTold
+    ensures { λ r. ⌜ saidLock r ≡ yes (lockNext family n) ⌝ }
+{
+    match n {
+        LockNext::Going(t) => LockTold::Ask(
+            crate::lock::access(family, t),
+            LockCall::Going(family, t),
+        ),
+        LockNext::End(o) => LockTold::End(o, LockCall::Over),
+    }
+}
+
+pub fn lock_open(family: u32) -> LockTold
+    ensures { λ r. ⌜ saidLock r ≡ openLock family ⌝ }
+{
+    match hardware::open_family(family) {
+        FamilyOpening::Family(f) => lock_told(f, crate::lock::open(f)),
+        FamilyOpening::Refused(q) => LockTold::Refused(q),
+    }
+}
+
+pub fn lock_step(s: LockCall, a: Answer) -> LockTold
+    ensures { λ r. ⌜ saidLock r ≡ stepLock s a ⌝ }
+{
+    match s {
+        LockCall::Going(f, t) => {
+            if crate::lock::valid(t) {
+                if hardware::awaited(crate::lock::access(f, t), a) {
+                    return lock_told(f, crate::lock::step(f, t, a));
+                }
+                return LockTold::Refused(Refusal::Kind);
+            }
+            LockTold::Refused(Refusal::State)
+        }
+        LockCall::Over => LockTold::Refused(Refusal::Finished),
+    }
+}
+
+fn unlock_told(family: Family, n: UnlockNext) -> UnlockTold
+    ensures { λ r. ⌜ saidUnlock r ≡ yes (unlockNext family n) ⌝ }
+{
+    match n {
+        UnlockNext::Going(t) => UnlockTold::Ask(
+            crate::unlock::access(family, t),
+            UnlockCall::Going(family, t),
+        ),
+        UnlockNext::End(o) => UnlockTold::End(o, UnlockCall::Over),
+    }
+}
+
+pub fn unlock_open(family: u32) -> UnlockTold
+    ensures { λ r. ⌜ saidUnlock r ≡ openUnlock family ⌝ }
+{
+    match hardware::open_family(family) {
+        FamilyOpening::Family(f) => unlock_told(f, crate::unlock::open(f)),
+        FamilyOpening::Refused(q) => UnlockTold::Refused(q),
+    }
+}
+
+pub fn unlock_step(s: UnlockCall, a: Answer) -> UnlockTold
+    ensures { λ r. ⌜ saidUnlock r ≡ stepUnlock s a ⌝ }
+{
+    match s {
+        UnlockCall::Going(f, t) => {
+            if hardware::awaited(crate::unlock::access(f, t), a) {
+                return unlock_told(f, crate::unlock::step(f, t, a));
+            }
+            UnlockTold::Refused(Refusal::Kind)
+        }
+        UnlockCall::Over => UnlockTold::Refused(Refusal::Finished),
+    }
+}

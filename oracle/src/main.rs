@@ -1,0 +1,99 @@
+//! Runs the original driver over the answers of many cases and prints what it
+//! did, for a port to compare itself with. See README.md for the line format.
+
+mod answers;
+mod case;
+mod driver;
+mod fresh;
+mod list;
+mod rules;
+
+use std::io::{self, BufWriter, Write};
+use std::process::ExitCode;
+
+use case::Case;
+use fresh::Fresh;
+
+const USAGE: &str = "usage: oracle list | fresh SEED COUNT | replay FILE | trace FILE LINE";
+/// Differing lines that `replay` shows.
+const SHOWN: usize = 10;
+
+fn main() -> ExitCode {
+    let words: Vec<String> = std::env::args().skip(1).collect();
+    let words: Vec<&str> = words.iter().map(String::as_str).collect();
+    let done = match words[..] {
+        ["list"] => print(list::cases().into_iter()),
+        ["fresh", seed, count] => fresh(seed, count),
+        ["replay", file] => replay(file),
+        ["trace", file, line] => trace(file, line),
+        _ => Err(USAGE.into()),
+    };
+    match done {
+        Ok(()) => ExitCode::SUCCESS,
+        Err(why) => {
+            eprintln!("oracle: {why}");
+            ExitCode::FAILURE
+        }
+    }
+}
+
+fn print(cases: impl Iterator<Item = Case>) -> Result<(), String> {
+    let mut out = BufWriter::new(io::stdout().lock());
+    for case in cases {
+        writeln!(out, "{}", case.line(&case.run())).map_err(|e| e.to_string())?;
+    }
+    out.flush().map_err(|e| e.to_string())
+}
+
+fn fresh(seed: &str, count: &str) -> Result<(), String> {
+    let seed: u64 = seed.parse().map_err(|_| "SEED is a number below 2^64")?;
+    let count: usize = count.parse().map_err(|_| "COUNT is a number")?;
+    let mut fresh = Fresh::new(seed);
+    print((0..count).map(|_| fresh.next()))
+}
+
+fn text(file: &str) -> Result<String, String> {
+    std::fs::read_to_string(file).map_err(|e| format!("{file}: {e}"))
+}
+
+/// Runs every line again and compares all of it.
+fn replay(file: &str) -> Result<(), String> {
+    let text = text(file)?;
+    let (mut agree, mut differ) = (0, 0);
+    for (i, line) in text.lines().enumerate() {
+        let (case, _) = Case::parse(line).map_err(|e| format!("line {}: {e}", i + 1))?;
+        let again = case.line(&case.run());
+        if again == line {
+            agree += 1;
+            continue;
+        }
+        differ += 1;
+        if differ <= SHOWN {
+            eprintln!("line {}:\n  file {line}\n  here {again}", i + 1);
+        }
+    }
+    println!("{agree} agree, {differ} differ");
+    if differ == 0 {
+        Ok(())
+    } else {
+        Err("the file is not what the original does".into())
+    }
+}
+
+/// Every access of one line's case with its answer (hexadecimal, waits in
+/// decimal microseconds), to find where a port differs.
+fn trace(file: &str, line: &str) -> Result<(), String> {
+    let number: usize = line.parse().map_err(|_| "LINE is a number from 1")?;
+    let text = text(file)?;
+    let line = text.lines().nth(number.wrapping_sub(1)).ok_or("no such line")?;
+    let (case, _) = Case::parse(line)?;
+    let mut player = case.player().logged();
+    let outcome = case.run_with(&mut player);
+    let mut out = BufWriter::new(io::stdout().lock());
+    for (i, access) in player.log().iter().enumerate() {
+        writeln!(out, "{i} {access}").map_err(|e| e.to_string())?;
+    }
+    let [code, v1, v2, v3] = outcome.result;
+    writeln!(out, "ends with {code}: {v1:x} {v2:x} {v3:x}").map_err(|e| e.to_string())?;
+    out.flush().map_err(|e| e.to_string())
+}

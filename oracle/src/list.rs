@@ -1,5 +1,5 @@
 //! The fixed list. Each group has a purpose, named above it; a change of the
-//! list's makers must be followed by writing list.txt anew.
+//! list's makers must be followed by writing crates/replay/stdin anew.
 
 use std::collections::HashSet;
 

@@ -4,7 +4,10 @@ use mathlib.Core.Path.{_≡_, refl, ap}
 use mathlib.Core.List.{List, [], _∷_}
 use lib.ListN.{getD}
 use native.Mathlib.Numerals.{sub-one}
-use Rattle.hardware.specs.Prog.{ask, erase, orErr, _>>=_}
+use Rattle.hardware.specs.Prog.{Prog, ask, erase, orErr, _>>=_}
+use Rattle.hardware.specs.Asked.{Asked, no, yes, andThen}
+use Rattle.hardware.specs.Runs.{run, ran, run-erase}
+use Rattle.hardware.specs.declared.Answer.{Answer}
 use Rattle.hardware.specs.Poll.{poll, polled, pollNext, accessPoll, restPoll}
 use Rattle.hardware.specs.declared.poll.Watch.{Watch}
 use Rattle.hardware.specs.declared.poll.Poll.the-variants.{Reading}
@@ -26,3 +29,10 @@ pub two-values : (which v w : ℕ) → (which ≡ 1 → ⊥) → getD (v ∷ [])
 two-values zero v w h = refl
 two-values (suc zero) v w h = absurd (h refl)
 two-values (suc (suc n)) v w h = refl
+
+-- an opening whose call is the Rust's has the Rust's runs
+pub runs-open : {A B : Type 0} (o : Asked A) (p : A → Prog B) (l : List Answer)
+    → ran (andThen o (λ a. yes (erase (p a)))) l ≡ andThen o (λ a. yes (run (p a) l))
+unfolding ran andThen
+runs-open (no n) p l = refl
+runs-open (yes a) p l = ap (λ r. yes (r l)) (run-erase (p a))

@@ -5,7 +5,7 @@ use mathlib.Core.List.{List, [], _∷_}
 use lib.Dec.{T}
 use Rattle.hardware.specs.declared.Access.{Access}
 use Rattle.hardware.specs.declared.Answer.{Answer}
-use Rattle.hardware.specs.Asked.{fits}
+use Rattle.hardware.specs.Asked.{Asked, no, yes, fits}
 use Rattle.hardware.specs.Prog.{Prog, ret, ask, note, give, erase, _>>=_}
 
 -- how a run stands: it has ended, or waits for the answer to one more access
@@ -51,3 +51,16 @@ Ends (ask x f) zero = ⊥
 Ends (ask x f) (suc n) = (a : Answer) → T (fits x a) → Ends (f a) n
 Ends (note m p) n = Ends p n
 Ends (give b p) n = Ends p n
+
+-- each answer is of the kind that the access it answers awaits; those after the end are not looked at
+unfoldable pub Awaited : {A : Type 0} → Prog A → List Answer → Type 0
+Awaited (ret v) l = Unit {0}
+Awaited (ask x f) [] = Unit {0}
+Awaited (ask x f) (a ∷ l) = T (fits x a) × Awaited (f a) l
+Awaited (note n p) l = Awaited p l
+Awaited (give b p) l = Awaited p l
+
+-- an opening run over a list of answers: refused, or the call's run
+unfoldable pub ran : {A : Type 0} → Asked (Prog A) → List Answer → Asked (Run A)
+ran (no n) l = no n
+ran (yes p) l = yes (run p l)

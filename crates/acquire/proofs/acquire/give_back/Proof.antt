@@ -1,0 +1,29 @@
+-- `give_back` meets its contract.
+use Rattle.acquire.specs.Acquire.{givenBack, withBits}
+use Rattle.hardware.specs.Prog.{_>>=_, orErr, over, pick}
+use Rattle.sync.specs.Resource.{taken}
+use borrow.Author.Needs.{needs}
+use borrow.Author.Tests.{eq-eqb, ne-eqb}
+use Rattle.acquire.proofs.acquire.give_back.Statement.{statement}
+use Rattle.acquire.proofs.acquire.give_back.Tie as tie
+
+token-refused-requires : tie.Need-token-refused-requires
+token-refused-requires c κs = search needs
+
+returns : tie.Need-returns
+unfolding givenBack withBits pick _>>=_ orErr
+returns c = rw (eq-eqb _ _ (c .before .if1 .taken)) (c .token-refused .ensures)
+
+open-requires : tie.Need-open-requires
+open-requires c κs = search needs
+
+releasing-requires : tie.Need-releasing-requires
+releasing-requires c κs = search needs
+
+returns-2 : tie.Need-returns-2
+unfolding givenBack withBits pick
+returns-2 c = rw (ne-eqb _ _ (c .before .before .if1 .left)) (over _ _ (c .releasing .ensures) (c .before .«open» .ensures))
+
+pub give-back-spec : {M : Type 1} → statement M
+give-back-spec =
+    tie.close (tie.spec token-refused-requires returns open-requires releasing-requires returns-2)

@@ -1,0 +1,42 @@
+-- `open` meets its contract.
+use Rattle.acquire.specs.Acquire.{acquire}
+use Rattle.hardware.specs.Prog.{over, pick}
+use Rattle.sync.specs.Resource.{taken}
+use borrow.Author.Needs.{needs}
+use Rattle.acquire.proofs.acquire.open.Statement.{statement}
+use Rattle.acquire.proofs.acquire.open.Tie as tie
+
+hw-requires : tie.Need-hw-requires
+hw-requires c κs = search needs
+
+none-of-requires : tie.Need-none-of-requires
+none-of-requires c κs = search needs
+
+first-requires : tie.Need-first-requires
+first-requires c κs = search needs
+
+plain-requires : tie.Need-plain-requires
+plain-requires c κs = search needs
+
+returns : tie.Need-returns
+unfolding acquire pick
+returns c = rw (← c .before .before .before .none-of .ensures, c .before .before .if1 .taken) (over _ _ (rw (c .before .before .before .before .hw .ensures) at (c .plain .ensures)) (rw (c .before .before .before .before .hw .ensures) at (c .before .first .ensures)))
+
+open-token-requires : tie.Need-open-token-requires
+open-token-requires c κs = search needs
+
+returns-2 : tie.Need-returns-2
+unfolding acquire pick
+returns-2 c = rw (← c .before .before .none-of .ensures, c .before .if1 .left) (rw (c .before .before .before .hw .ensures) at (c .open-token .ensures))
+
+pub open-spec : {M : Type 1} → statement M
+open-spec =
+    tie.close
+    (tie.spec
+    hw-requires
+    none-of-requires
+    first-requires
+    plain-requires
+    returns
+    open-token-requires
+    returns-2)

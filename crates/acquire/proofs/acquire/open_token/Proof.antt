@@ -1,0 +1,49 @@
+-- `open_token` meets its contract.
+use Rattle.acquire.proofs.Laws.{token-alone, token-bits}
+use Rattle.acquire.specs.Acquire.{acquireNext, acquireToken}
+use Rattle.hardware.specs.Prog.{erase, over}
+use Rattle.hardware.specs.Registers.{outcome}
+use Rattle.sync.specs.Regs.{bits}
+use Rattle.sync.specs.Resource.{taken}
+use borrow.Author.Needs.{needs}
+use mathlib.Core.Path.{_∙_}
+use Rattle.acquire.proofs.acquire.open_token.Statement.{statement}
+use Rattle.acquire.proofs.acquire.open_token.Tie as tie
+
+returns : tie.Need-returns
+unfolding acquireToken erase acquireNext outcome
+returns c = rw (c .if1 .taken)
+
+sub-try-token : tie.Need-sub-try-token
+sub-try-token c = search needs
+
+try-token-requires : tie.Need-try-token-requires
+try-token-requires c κs = search needs
+
+returns-2 : tie.Need-returns-2
+returns-2 c = c .try-token .ensures ∙ token-alone _ _ _ (c .before .if2 .taken) (c .before .before .if1 .left)
+
+sub-bits : tie.Need-sub-bits
+sub-bits c = search needs
+
+first-requires : tie.Need-first-requires
+first-requires c κs = search needs
+
+bits-requires : tie.Need-bits-requires
+bits-requires c κs = search needs
+
+returns-3 : tie.Need-returns-3
+returns-3 c = over _ _ (c .bits .ensures) (c .before .first .ensures) ∙ token-bits _ _ _ (c .before .before .if2 .left) (c .before .before .before .if1 .left)
+
+pub open-token-spec : {M : Type 1} → statement M
+open-token-spec =
+    tie.close
+    (tie.spec
+    returns
+    sub-try-token
+    try-token-requires
+    returns-2
+    sub-bits
+    first-requires
+    bits-requires
+    returns-3)

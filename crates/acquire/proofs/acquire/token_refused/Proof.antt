@@ -1,0 +1,25 @@
+-- `token_refused` meets its contract.
+use Rattle.acquire.specs.Acquire.{accessAcquire, accessAcquireAt, acquireNext, notGranted, restAcquire, restAcquireAt}
+use Rattle.hardware.specs.Prog.{erase}
+use Rattle.hardware.specs.Registers.{flag, outcome}
+use Rattle.hardware.specs.Runs.{given}
+use borrow.Author.Needs.{needs}
+use Rattle.acquire.proofs.acquire.token_refused.Statement.{statement}
+use Rattle.acquire.proofs.acquire.token_refused.Tie as tie
+
+enum-told : tie.Need-enum-told
+enum-told c = search needs
+
+enum-known-g : tie.Need-enum-known-g
+enum-known-g c = search needs
+
+returns : tie.Need-returns
+unfolding notGranted flag outcome erase acquireNext accessAcquire accessAcquireAt restAcquire restAcquireAt
+returns c = rw (c .enum-told .given .1)
+
+returns-2 : tie.Need-returns-2
+unfolding notGranted flag outcome erase acquireNext accessAcquire accessAcquireAt restAcquire restAcquireAt
+returns-2 c = rw (c .before .g .given .1)
+
+pub token-refused-spec : {M : Type 1} → statement M
+token-refused-spec = tie.close (tie.spec enum-told enum-known-g returns returns-2)

@@ -1,0 +1,47 @@
+-- `acquire_open` meets its contract.
+use Rattle.acquire.specs.Calls.{openAcquire, saidAcquire}
+use Rattle.hardware.specs.Asked.{andThen, portOpened, yes}
+use Rattle.hardware.specs.Runs.{given}
+use borrow.Author.Needs.{needs}
+use mathlib.Core.Path.{_∙_, ap}
+use Rattle.acquire.proofs.calls.acquire_open.Statement.{statement}
+use Rattle.acquire.proofs.calls.acquire_open.Tie as tie
+
+open-port-requires : tie.Need-open-port-requires
+open-port-requires c κs = search needs
+
+enum-known-p : tie.Need-enum-known-p
+enum-known-p c = search needs
+
+hw-requires : tie.Need-hw-requires
+hw-requires c κs = search needs
+
+open-requires : tie.Need-open-requires
+open-requires c κs = search needs
+
+acquire-told-requires : tie.Need-acquire-told-requires
+acquire-told-requires c κs = search needs
+
+enum-known-q : tie.Need-enum-known-q
+enum-known-q c = search needs
+
+returns : tie.Need-returns
+unfolding openAcquire andThen portOpened
+returns c = rw (← c .before .before .before .before .before .before .open-port .ensures, c .before .before .before .before .p .given .1) (rw (c .before .before .hw .ensures) at (c .acquire-told .ensures) ∙ ap yes (c .before .«open» .ensures))
+
+returns-2 : tie.Need-returns-2
+unfolding openAcquire andThen portOpened saidAcquire
+returns-2 c = rw (← c .before .before .before .open-port .ensures, c .before .q .given .1)
+
+pub acquire-open-spec : {M : Type 1} → statement M
+acquire-open-spec =
+    tie.close
+    (tie.spec
+    open-port-requires
+    enum-known-p
+    hw-requires
+    open-requires
+    acquire-told-requires
+    enum-known-q
+    returns
+    returns-2)

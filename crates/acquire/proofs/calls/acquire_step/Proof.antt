@@ -1,0 +1,71 @@
+-- `acquire_step` meets its contract.
+use Rattle.acquire.specs.Calls.{saidAcquire, stepAcquire}
+use Rattle.hardware.specs.Asked.{question, yes}
+use Rattle.hardware.specs.Runs.{given}
+use Rattle.sync.specs.Resource.{taken}
+use borrow.Author.Needs.{needs}
+use mathlib.Core.Path.{_∙_, ap}
+use Rattle.acquire.proofs.calls.acquire_step.Statement.{statement}
+use Rattle.acquire.proofs.calls.acquire_step.Tie as tie
+
+enum-known-s : tie.Need-enum-known-s
+enum-known-s c = search needs
+
+valid-port-requires : tie.Need-valid-port-requires
+valid-port-requires c κs = search needs
+
+valid-requires : tie.Need-valid-requires
+valid-requires c κs = search needs
+
+access-requires : tie.Need-access-requires
+access-requires c κs = search needs
+
+awaited-requires : tie.Need-awaited-requires
+awaited-requires c κs = search needs
+
+step-requires : tie.Need-step-requires
+step-requires c κs = search needs
+
+acquire-told-requires : tie.Need-acquire-told-requires
+acquire-told-requires c κs = search needs
+
+returns : tie.Need-returns
+unfolding stepAcquire question
+returns c = rw (c .before .before .before .before .before .before .before .before .before .before .s .given .1, ← c .before .before .before .before .before .before .before .before .valid-port .ensures, c .before .before .before .before .before .before .before .if1 .taken, ← c .before .before .before .before .before .before .valid .ensures, c .before .before .before .before .before .if2 .taken, ← c .before .before .before .before .access .ensures, ← c .before .before .before .awaited .ensures, c .before .before .if3 .taken) (c .acquire-told .ensures ∙ ap yes (c .before .step .ensures))
+
+returns-2 : tie.Need-returns-2
+unfolding stepAcquire question saidAcquire
+returns-2 c = rw (c .before .before .before .before .before .before .before .before .s .given .1, ← c .before .before .before .before .before .before .valid-port .ensures, c .before .before .before .before .before .if1 .taken, ← c .before .before .before .before .valid .ensures, c .before .before .before .if2 .taken, ← c .before .before .access .ensures, ← c .before .awaited .ensures, c .if3 .left)
+
+enum-told : tie.Need-enum-told
+enum-told c = search needs
+
+returns-3 : tie.Need-returns-3
+unfolding stepAcquire question saidAcquire
+returns-3 c = rw (c .before .before .before .before .before .s .given .1, ← c .before .before .before .valid-port .ensures, c .before .before .if1 .taken, ← c .before .valid .ensures, c .if2 .left)
+
+returns-4 : tie.Need-returns-4
+unfolding stepAcquire question saidAcquire
+returns-4 c = rw (c .before .before .before .s .given .1, ← c .before .valid-port .ensures, c .if1 .left)
+
+returns-5 : tie.Need-returns-5
+unfolding stepAcquire question saidAcquire
+returns-5 c = rw (c .enum-told .given .1)
+
+pub acquire-step-spec : {M : Type 1} → statement M
+acquire-step-spec =
+    tie.close
+    (tie.spec
+    enum-known-s
+    valid-port-requires
+    valid-requires
+    access-requires
+    awaited-requires
+    step-requires
+    acquire-told-requires
+    returns
+    returns-2
+    enum-told
+    returns-3
+    returns-4
+    returns-5)

@@ -1,0 +1,28 @@
+-- `acquire_told` meets its contract.
+use Rattle.acquire.specs.Acquire.{acquireNext}
+use Rattle.acquire.specs.Calls.{saidAcquire}
+use Rattle.hardware.specs.Runs.{given}
+use borrow.Author.Needs.{needs}
+use Rattle.acquire.proofs.calls.acquire_told.Statement.{statement}
+use Rattle.acquire.proofs.calls.acquire_told.Tie as tie
+
+enum-known-n : tie.Need-enum-known-n
+enum-known-n c = search needs
+
+access-requires : tie.Need-access-requires
+access-requires c κs = search needs
+
+enum-known-n-2 : tie.Need-enum-known-n-2
+enum-known-n-2 c = search needs
+
+returns : tie.Need-returns
+unfolding saidAcquire acquireNext
+returns c = rw (c .before .before .n .given .1, ← c .access .ensures)
+
+returns-2 : tie.Need-returns-2
+unfolding saidAcquire acquireNext
+returns-2 c = rw (c .before .n2 .given .1)
+
+pub acquire-told-spec : {M : Type 1} → statement M
+acquire-told-spec =
+    tie.close (tie.spec enum-known-n access-requires enum-known-n-2 returns returns-2)

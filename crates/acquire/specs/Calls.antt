@@ -1,0 +1,51 @@
+-- What the public calls of `acquire` and `release` yield: a refusal by its number, or what is left of the call.
+use Prim.Native.Nat.{ℕ}
+use Rattle.hardware.specs.declared.Answer.{Answer}
+use Rattle.hardware.specs.Asked.{Asked, yes, no, question, andThen, openPort, validPort, fits}
+use Rattle.hardware.specs.Numbers.{refusalNumber}
+use Rattle.hardware.specs.Prog.{Prog, ret, ask, erase, R}
+use Rattle.hardware.specs.Registers.{outcome}
+use Rattle.acquire.specs.declared.calls.AcquireCall.{AcquireCall}
+use Rattle.acquire.specs.declared.calls.AcquireCall.the-variants.{Going as AcquireGoing, Over as AcquireOver}
+use Rattle.acquire.specs.declared.calls.AcquireTold.{AcquireTold}
+use Rattle.acquire.specs.declared.calls.AcquireTold.the-variants.{Ask as AcquireAsk, End as AcquireEnd, Refused as AcquireRefused}
+use Rattle.acquire.specs.declared.calls.ReleaseCall.{ReleaseCall}
+use Rattle.acquire.specs.declared.calls.ReleaseCall.the-variants.{Going as ReleaseGoing, Over as ReleaseOver}
+use Rattle.acquire.specs.declared.calls.ReleaseTold.{ReleaseTold}
+use Rattle.acquire.specs.declared.calls.ReleaseTold.the-variants.{Ask as ReleaseAsk, End as ReleaseEnd, Refused as ReleaseRefused}
+use Rattle.acquire.specs.Acquire.{acquire, accessAcquire, restAcquire, validAcquire, release, accessRelease, restRelease, validRelease}
+
+-- `acquire`: 1 and 2. The mask is any 32 bits
+unfoldable pub openAcquire : ℕ → ℕ → ℕ → ℕ → Asked (Prog (R (Unit {0})))
+openAcquire family device lan mask = andThen (openPort family device lan) (λ port. yes (erase (acquire port mask)))
+
+-- a step: 10, 11, 12
+unfoldable pub stepAcquire : AcquireCall → Answer → Asked (Prog (R (Unit {0})))
+stepAcquire (AcquireGoing port hw t) a =
+    question (validPort port) 10
+    (question (validAcquire port t) 10 (question (fits (accessAcquire port hw t) a) 12 (yes (erase (restAcquire port hw t a)))))
+stepAcquire AcquireOver a = no 11
+
+unfoldable pub saidAcquire : AcquireTold → Asked (Prog (R (Unit {0})))
+saidAcquire (AcquireAsk x (AcquireGoing port hw t)) = yes (ask x (λ a. erase (restAcquire port hw t a)))
+saidAcquire (AcquireAsk x AcquireOver) = no 0
+saidAcquire (AcquireEnd o AcquireOver) = yes (ret (outcome o))
+saidAcquire (AcquireEnd o (AcquireGoing port hw t)) = no 0
+saidAcquire (AcquireRefused q) = no (refusalNumber q)
+
+-- `release`: 1 and 2
+unfoldable pub openRelease : ℕ → ℕ → ℕ → ℕ → Asked (Prog (R (Unit {0})))
+openRelease family device lan mask = andThen (openPort family device lan) (λ port. yes (erase (release port mask)))
+
+unfoldable pub stepRelease : ReleaseCall → Answer → Asked (Prog (R (Unit {0})))
+stepRelease (ReleaseGoing port hw t) a =
+    question (validPort port) 10
+    (question (validRelease port t) 10 (question (fits (accessRelease port hw t) a) 12 (yes (erase (restRelease port hw t a)))))
+stepRelease ReleaseOver a = no 11
+
+unfoldable pub saidRelease : ReleaseTold → Asked (Prog (R (Unit {0})))
+saidRelease (ReleaseAsk x (ReleaseGoing port hw t)) = yes (ask x (λ a. erase (restRelease port hw t a)))
+saidRelease (ReleaseAsk x ReleaseOver) = no 0
+saidRelease (ReleaseEnd o ReleaseOver) = yes (ret (outcome o))
+saidRelease (ReleaseEnd o (ReleaseGoing port hw t)) = no 0
+saidRelease (ReleaseRefused q) = no (refusalNumber q)

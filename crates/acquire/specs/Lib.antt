@@ -1,0 +1,2 @@
+pub mod Acquire
+pub mod Calls

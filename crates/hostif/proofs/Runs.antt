@@ -1,0 +1,47 @@
+-- Whole calls of `command` and `token`: for every port and block that is accepted and every list of answers the
+-- library's run is the Rust's, and every list of answers of the awaited kinds that is long enough brings it to its end.
+use Prim.Native.Nat.{ℕ, _≤_}
+use mathlib.Core.Path.{_≡_, refl, ap, _∙_}
+use mathlib.Core.Bool.{Bool, true, false}
+use mathlib.Core.List.{List}
+use lib.ListN.{length}
+use Rattle.hardware.specs.declared.Answer.{Answer}
+use Rattle.hardware.specs.declared.Port.{Port}
+use Rattle.hardware.specs.Asked.{Asked, no, yes, andThen, openPort}
+use Rattle.hardware.specs.Prog.{R, erase}
+use Rattle.hardware.specs.Runs.{Run, run, ran, run-erase, Awaited, ended}
+use Rattle.hardware.proofs.Laws.{runs-open}
+use Rattle.hardware.proofs.Ends.{run-ends}
+use Rattle.hostif.specs.declared.calls.CommandTold.{CommandTold}
+use Rattle.hostif.specs.declared.calls.TokenTold.{TokenTold}
+use Rattle.hostif.specs.Hostif.{Left, command, token}
+use Rattle.hostif.specs.Calls.{goes, asked, blockFits, openedBlock, openCommand, saidCommand, openToken, saidToken}
+use Rattle.hostif.proofs.Ends.{COMMAND-STEPS, command-ends, TOKEN-STEPS, token-ends}
+
+accepted : (b : Bool) (block : List ℕ) (port : Port) → b ≡ true → asked b 8 block (goes (erase (command port block))) ≡ goes (erase (command port block))
+unfolding asked
+accepted true block port e = refl
+accepted false block port e = cc
+
+-- an accepted command goes on as the Rust's, from the first access to the block that it leaves
+pub command-goes : (family device lan : ℕ) (block : List ℕ) (port : Port) (r : CommandTold)
+    → saidCommand r block ≡ openCommand family device lan block → openPort family device lan ≡ yes port → blockFits block ≡ true
+    → saidCommand r block ≡ goes (erase (command port block))
+unfolding openCommand openedBlock
+command-goes family device lan block port r e p b = e ∙ ap (openedBlock block) p ∙ accepted _ block port b
+
+pub command-runs : (port : Port) (block : List ℕ) (l : List Answer) → run (erase (command port block)) l ≡ run (command port block) l
+command-runs port block l = ap (λ f. f l) (run-erase (command port block))
+
+pub command-finishes : (port : Port) (block : List ℕ) (l : List Answer) → COMMAND-STEPS (port .family) (length block) ≤ length l
+    → Awaited (command port block) l → (v : Left) × ((run (command port block) l) .stand ≡ ended v)
+command-finishes port block l h w = run-ends (command port block) (COMMAND-STEPS (port .family) (length block)) l (command-ends port block) h w
+
+pub token-runs : (family device lan : ℕ) (take : Bool) (r : TokenTold) → saidToken r ≡ openToken family device lan take → (l : List Answer)
+    → ran (saidToken r) l ≡ andThen (openPort family device lan) (λ port. yes (run (token port take) l))
+unfolding openToken
+token-runs family device lan take r e l = ap (λ x. ran x l) e ∙ runs-open (openPort family device lan) (λ port. token port take) l
+
+pub token-finishes : (port : Port) (take : Bool) (l : List Answer) → TOKEN-STEPS (port .family) ≤ length l → Awaited (token port take) l
+    → (v : R Bool) × ((run (token port take) l) .stand ≡ ended v)
+token-finishes port take l h w = run-ends (token port take) (TOKEN-STEPS (port .family)) l (token-ends port take) h w

@@ -1,0 +1,28 @@
+-- `command_told` meets its contract.
+use Rattle.hardware.specs.Runs.{given}
+use Rattle.hostif.specs.Calls.{saidCommand, saidToken}
+use Rattle.hostif.specs.Hostif.{commandNext, tokenNext}
+use borrow.Author.Needs.{needs}
+use Rattle.hostif.proofs.calls.command_told.Statement.{statement}
+use Rattle.hostif.proofs.calls.command_told.Tie as tie
+
+enum-known-n : tie.Need-enum-known-n
+enum-known-n c = search needs
+
+access-requires : tie.Need-access-requires
+access-requires c κs = search needs
+
+enum-known-n-2 : tie.Need-enum-known-n-2
+enum-known-n-2 c = search needs
+
+returns : tie.Need-returns
+unfolding saidCommand commandNext
+returns c = rw (c .before .before .n .given .1, ← c .access .ensures)
+
+returns-2 : tie.Need-returns-2
+unfolding saidCommand saidToken commandNext tokenNext
+returns-2 c = rw (c .before .n2 .given .1)
+
+pub command-told-spec : {M : Type 1} → statement M
+command-told-spec =
+    tie.close (tie.spec enum-known-n access-requires enum-known-n-2 returns returns-2)

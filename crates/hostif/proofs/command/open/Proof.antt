@@ -1,0 +1,24 @@
+-- `open` meets its contract.
+use Rattle.hardware.specs.Prog.{over}
+use Rattle.hostif.specs.Hostif.{command}
+use Rattle.sync.specs.Regs.{tries}
+use Rattle.sync.specs.Resource.{acquireBits}
+use borrow.Author.Needs.{needs}
+use Rattle.hostif.proofs.command.open.Statement.{statement}
+use Rattle.hostif.proofs.command.open.Tie as tie
+
+tries-requires : tie.Need-tries-requires
+tries-requires c κs = search needs
+
+open-requires : tie.Need-open-requires
+open-requires c κs = search needs
+
+acquiring-requires : tie.Need-acquiring-requires
+acquiring-requires c κs = search needs
+
+returns : tie.Need-returns
+unfolding command acquireBits
+returns c = λ l. over _ _ (c .acquiring .ensures l) (rw (c .before .before .tries .ensures) at (c .before .«open» .ensures))
+
+pub open-spec : {M : Type 1} → statement M
+open-spec = tie.close (tie.spec tries-requires open-requires acquiring-requires returns)

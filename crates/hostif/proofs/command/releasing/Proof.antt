@@ -1,0 +1,32 @@
+-- `releasing` meets its contract.
+use Rattle.hardware.specs.Change.{accessUpdate, change, restUpdate, updateNext}
+use Rattle.hardware.specs.Poll.{pollNext}
+use Rattle.hardware.specs.Prog.{_>>=_, erase, followed, going, orErr, pick}
+use Rattle.hardware.specs.Registers.{byte, flag, outcome, word}
+use Rattle.hardware.specs.Runs.{given}
+use Rattle.hostif.specs.Hostif.{accessCommand, accessRequest, accessResponse, accessToken, acquired, both, closed, commandNext, completed, enabled, headSeen, header, hicrRead, lenOf, polling, released, request, requestNext, requested, respond, responseNext, restCommand, restRequest, restResponse, restToken, start, statusOf, tokenBlock, tokenNext, tokenSecond, tokenStatus, tokened, validCommand, validRequest, validResponse, validToken, wordSeen, words, wordsOf}
+use Rattle.sync.specs.Resource.{acquireBitsNext, releaseBitsNext}
+use borrow.Author.Needs.{needs}
+use Rattle.hostif.proofs.command.releasing.Statement.{statement}
+use Rattle.hostif.proofs.command.releasing.Tie as tie
+
+enum-known-n : tie.Need-enum-known-n
+enum-known-n c = search needs
+
+enum-known-n-2 : tie.Need-enum-known-n-2
+enum-known-n-2 c = search needs
+
+outcome-of-requires : tie.Need-outcome-of-requires
+outcome-of-requires c κs = search needs
+
+returns : tie.Need-returns
+unfolding requestNext accessRequest restRequest responseNext accessResponse restResponse commandNext accessCommand restCommand tokenNext accessToken restToken acquireBitsNext releaseBitsNext pollNext updateNext
+returns c = λ l. rw (c .before .n .given .1) (going _ _ _)
+
+returns-2 : tie.Need-returns-2
+unfolding requestNext accessRequest restRequest responseNext accessResponse restResponse commandNext accessCommand restCommand tokenNext accessToken restToken acquireBitsNext releaseBitsNext pollNext updateNext followed _>>=_ erase orErr pick word outcome byte flag completed polling start enabled hicrRead request headSeen wordSeen respond both closed released requested acquired tokenBlock tokenSecond tokenStatus tokened header lenOf statusOf wordsOf change accessUpdate restUpdate validRequest validResponse validCommand validToken words
+returns-2 c = λ l. rw (c .before .before .n2 .given .1, ← c .outcome-of .ensures)
+
+pub releasing-spec : {M : Type 1} → statement M
+releasing-spec =
+    tie.close (tie.spec enum-known-n enum-known-n-2 outcome-of-requires returns returns-2)

@@ -1,0 +1,43 @@
+-- `hicr` meets its contract.
+use Rattle.hardware.specs.Change.{accessUpdate, change, restUpdate, updateNext}
+use Rattle.hardware.specs.Poll.{pollNext}
+use Rattle.hardware.specs.Prog.{_>>=_, erase, followed, orErr, pick}
+use Rattle.hardware.specs.Registers.{byte, flag, outcome, word}
+use Rattle.hardware.specs.Runs.{given}
+use Rattle.hostif.proofs.Laws.{words-at, words-none}
+use Rattle.hostif.specs.Hostif.{accessCommand, accessRequest, accessResponse, accessToken, acquired, both, closed, commandNext, completed, enabled, headSeen, header, hicrRead, lenOf, polling, released, request, requestNext, requested, respond, responseNext, restCommand, restRequest, restResponse, restToken, start, statusOf, tokenBlock, tokenNext, tokenSecond, tokenStatus, tokened, validCommand, validRequest, validResponse, validToken, wordSeen, words, wordsOf}
+use Rattle.sync.specs.Resource.{acquireBitsNext, releaseBitsNext, taken}
+use borrow.Author.Needs.{needs}
+use native.Mathlib.Omega.{arith}
+use Rattle.hostif.proofs.request.hicr.Statement.{statement}
+use Rattle.hostif.proofs.request.hicr.Tie as tie
+
+enum-known-w : tie.Need-enum-known-w
+enum-known-w c = search needs
+
+none-of-requires : tie.Need-none-of-requires
+none-of-requires c κs = search needs
+
+returns : tie.Need-returns
+unfolding requestNext accessRequest restRequest responseNext accessResponse restResponse commandNext accessCommand restCommand tokenNext accessToken restToken acquireBitsNext releaseBitsNext pollNext updateNext followed _>>=_ erase orErr pick word outcome byte flag completed polling start enabled hicrRead request headSeen wordSeen respond both closed released requested acquired tokenBlock tokenSecond tokenStatus tokened header lenOf statusOf wordsOf change accessUpdate restUpdate validRequest validResponse validCommand validToken words
+returns c = λ l h. rw (c .before .before .before .w .given .1, ← c .before .none-of .ensures, c .if1 .taken)
+
+returns-2 : tie.Need-returns-2
+unfolding word orErr enabled pick
+returns-2 c = λ l h. rw (c .before .before .before .before .w .given .1, ← c .before .before .none-of .ensures, c .before .if1 .left) (words-none l 0 _ (omega (arith, c .if2 .taken)))
+
+enum-known-w-2 : tie.Need-enum-known-w-2
+enum-known-w-2 c = search needs
+
+returns-3 : tie.Need-returns-3
+unfolding word orErr enabled pick
+returns-3 c = λ l h. rw (c .before .before .before .before .w .given .1, ← c .before .before .none-of .ensures, c .before .if1 .left) (words-at l 0 _ (omega (arith, c .if2 .left)))
+
+returns-4 : tie.Need-returns-4
+unfolding requestNext accessRequest restRequest responseNext accessResponse restResponse commandNext accessCommand restCommand tokenNext accessToken restToken acquireBitsNext releaseBitsNext pollNext updateNext followed _>>=_ erase orErr pick word outcome byte flag completed polling start enabled hicrRead request headSeen wordSeen respond both closed released requested acquired tokenBlock tokenSecond tokenStatus tokened header lenOf statusOf wordsOf change accessUpdate restUpdate validRequest validResponse validCommand validToken words
+returns-4 c = λ l h. rw (c .before .w2 .given .1)
+
+pub hicr-spec : {M : Type 1} → statement M
+hicr-spec =
+    tie.close
+    (tie.spec enum-known-w none-of-requires returns returns-2 enum-known-w-2 returns-3 returns-4)

@@ -1,0 +1,107 @@
+-- `step` meets its contract.
+use Rattle.hardware.specs.Poll.{poll}
+use Rattle.hardware.specs.Prog.{fed, over}
+use Rattle.hardware.specs.Registers.{read, write, written}
+use Rattle.hardware.specs.Runs.{given}
+use Rattle.hostif.specs.Hostif.{accessCommand, accessRequest, accessResponse, accessToken, command, hicrRead, polling, released, request, restCommand, restRequest, restResponse, restToken, token, tokenBlock, validCommand, validRequest, validResponse, validToken, wordsOf}
+use borrow.Author.Needs.{needs}
+use Rattle.hostif.proofs.request.step.Statement.{statement}
+use Rattle.hostif.proofs.request.step.Tie as tie
+
+enum-known-s : tie.Need-enum-known-s
+enum-known-s c = search needs
+
+fwri-requires : tie.Need-fwri-requires
+fwri-requires c κs = search needs
+
+step-requires : tie.Need-step-requires
+step-requires c κs = search needs
+
+fwsts-requires : tie.Need-fwsts-requires
+fwsts-requires c κs = search needs
+
+enum-told : tie.Need-enum-told
+enum-told c = search needs
+
+read-requires : tie.Need-read-requires
+read-requires c κs = search needs
+
+hicr-requires : tie.Need-hicr-requires
+hicr-requires c κs = search needs
+
+enum-known-s-2 : tie.Need-enum-known-s-2
+enum-known-s-2 c = search needs
+
+write-requires : tie.Need-write-requires
+write-requires c κs = search needs
+
+written-requires : tie.Need-written-requires
+written-requires c κs = search needs
+
+enum-known-s-3 : tie.Need-enum-known-s-3
+enum-known-s-3 c = search needs
+
+write-requires-2 : tie.Need-write-requires-2
+write-requires-2 c κs = search needs
+
+started-requires : tie.Need-started-requires
+started-requires c κs = search needs
+
+enum-known-s-4 : tie.Need-enum-known-s-4
+enum-known-s-4 c = search needs
+
+watch-requires : tie.Need-watch-requires
+watch-requires c κs = search needs
+
+step-requires-2 : tie.Need-step-requires-2
+step-requires-2 c κs = search needs
+
+poll-requires : tie.Need-poll-requires
+poll-requires c κs = search needs
+
+returns : tie.Need-returns
+unfolding restRequest accessRequest restResponse accessResponse restCommand accessCommand restToken accessToken request hicrRead polling released command token tokenBlock wordsOf validRequest validResponse validCommand validToken
+returns c = λ l h. rw (c .before .before .before .before .s .given .1) (over _ _ (c .fwsts .ensures l) (rw (c .before .before .fwri .ensures) at (c .before .step .ensures)))
+
+returns-2 : tie.Need-returns-2
+unfolding restRequest accessRequest restResponse accessResponse restCommand accessCommand restToken accessToken request hicrRead polling released command token tokenBlock wordsOf validRequest validResponse validCommand validToken
+returns-2 c = λ l h. rw (c .before .before .enum-told .given .1) (fed _ (c .hicr .ensures l h) (c .before .read .ensures))
+
+returns-3 : tie.Need-returns-3
+unfolding restRequest accessRequest restResponse accessResponse restCommand accessCommand restToken accessToken request hicrRead polling released command token tokenBlock wordsOf validRequest validResponse validCommand validToken
+returns-3 c = λ l h. rw (c .before .before .before .s2 .given .1) (fed _ (c .written .ensures l h) (c .before .write .ensures))
+
+returns-4 : tie.Need-returns-4
+unfolding restRequest accessRequest restResponse accessResponse restCommand accessCommand restToken accessToken request hicrRead polling released command token tokenBlock wordsOf validRequest validResponse validCommand validToken
+returns-4 c = λ l h. rw (c .before .before .before .s3 .given .1) (fed _ (c .started .ensures l) (c .before .write2 .ensures))
+
+returns-5 : tie.Need-returns-5
+unfolding restRequest accessRequest restResponse accessResponse restCommand accessCommand restToken accessToken request hicrRead polling released command token tokenBlock wordsOf validRequest validResponse validCommand validToken
+returns-5 c = λ l h. rw (c .before .before .before .before .s4 .given .1) (over _ _ (c .poll .ensures l) (rw (c .before .before .watch .ensures) at (c .before .step2 .ensures)))
+
+pub step-spec : {M : Type 1} → statement M
+step-spec =
+    tie.close
+    (tie.spec
+    enum-known-s
+    fwri-requires
+    step-requires
+    fwsts-requires
+    enum-told
+    read-requires
+    hicr-requires
+    enum-known-s-2
+    write-requires
+    written-requires
+    enum-known-s-3
+    write-requires-2
+    started-requires
+    enum-known-s-4
+    watch-requires
+    step-requires-2
+    poll-requires
+    returns
+    returns-2
+    returns-3
+    returns-4
+    returns-5)

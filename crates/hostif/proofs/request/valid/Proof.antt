@@ -1,0 +1,69 @@
+-- `valid` meets its contract.
+use Rattle.hardware.specs.Change.{accessUpdate, change, restUpdate, updateNext}
+use Rattle.hardware.specs.Poll.{pollNext}
+use Rattle.hardware.specs.Prog.{_>>=_, erase, followed, orErr, pick}
+use Rattle.hardware.specs.Registers.{byte, flag, outcome, word}
+use Rattle.hardware.specs.Runs.{given}
+use Rattle.hostif.specs.Hostif.{accessCommand, accessRequest, accessResponse, accessToken, acquired, both, closed, command, commandNext, completed, enabled, headSeen, header, hicrRead, lenOf, polling, released, request, requestNext, requested, respond, responseNext, restCommand, restRequest, restResponse, restToken, start, statusOf, token, tokenBlock, tokenNext, tokenSecond, tokenStatus, tokened, validCommand, validRequest, validResponse, validToken, wordSeen, words, wordsOf}
+use Rattle.sync.specs.Resource.{acquireBitsNext, releaseBitsNext}
+use borrow.Author.Needs.{needs}
+use Rattle.hostif.proofs.request.valid.Statement.{statement}
+use Rattle.hostif.proofs.request.valid.Tie as tie
+
+enum-told : tie.Need-enum-told
+enum-told c = search needs
+
+enum-told-2 : tie.Need-enum-told-2
+enum-told-2 c = search needs
+
+enum-known-s : tie.Need-enum-known-s
+enum-known-s c = search needs
+
+cast-result : tie.Need-cast-result
+cast-result c = search needs
+
+enum-told-3 : tie.Need-enum-told-3
+enum-told-3 c = search needs
+
+enum-known-s-2 : tie.Need-enum-known-s-2
+enum-known-s-2 c = search needs
+
+valid-requires : tie.Need-valid-requires
+valid-requires c κs = search needs
+
+returns : tie.Need-returns
+unfolding requestNext accessRequest restRequest responseNext accessResponse restResponse commandNext accessCommand restCommand tokenNext accessToken restToken acquireBitsNext releaseBitsNext pollNext updateNext followed _>>=_ erase orErr pick word outcome byte flag completed polling start enabled hicrRead request headSeen wordSeen respond both closed released requested acquired tokenBlock tokenSecond tokenStatus tokened header lenOf statusOf wordsOf change accessUpdate restUpdate validRequest validResponse validCommand validToken words
+returns c = rw (c .enum-told .given .1)
+
+returns-2 : tie.Need-returns-2
+unfolding requestNext accessRequest restRequest responseNext accessResponse restResponse commandNext accessCommand restCommand tokenNext accessToken restToken acquireBitsNext releaseBitsNext pollNext updateNext followed _>>=_ erase orErr pick word outcome byte flag completed polling start enabled hicrRead request headSeen wordSeen respond both closed released requested acquired tokenBlock tokenSecond tokenStatus tokened header lenOf statusOf wordsOf change accessUpdate restUpdate validRequest validResponse validCommand validToken words
+returns-2 c = rw (c .enum-told2 .given .1)
+
+returns-3 : tie.Need-returns-3
+unfolding requestNext accessRequest restRequest responseNext accessResponse restResponse commandNext accessCommand restCommand tokenNext accessToken restToken acquireBitsNext releaseBitsNext pollNext updateNext followed _>>=_ erase orErr pick word outcome byte flag completed polling start enabled hicrRead request headSeen wordSeen respond both closed released requested acquired tokenBlock tokenSecond tokenStatus tokened header lenOf statusOf wordsOf change accessUpdate restUpdate validRequest validResponse validCommand validToken words
+returns-3 c = rw (c .before .s .given .1)
+
+returns-4 : tie.Need-returns-4
+unfolding requestNext accessRequest restRequest responseNext accessResponse restResponse commandNext accessCommand restCommand tokenNext accessToken restToken acquireBitsNext releaseBitsNext pollNext updateNext followed _>>=_ erase orErr pick word outcome byte flag completed polling start enabled hicrRead request headSeen wordSeen respond both closed released requested acquired tokenBlock tokenSecond tokenStatus tokened header lenOf statusOf wordsOf change accessUpdate restUpdate validRequest validResponse validCommand validToken words
+returns-4 c = rw (c .enum-told3 .given .1)
+
+returns-5 : tie.Need-returns-5
+unfolding restRequest accessRequest restResponse accessResponse restCommand accessCommand restToken accessToken request hicrRead polling released command token tokenBlock wordsOf validRequest validResponse validCommand validToken
+returns-5 c = rw (c .before .before .s2 .given .1) (c .valid .ensures)
+
+pub valid-spec : {M : Type 1} → statement M
+valid-spec =
+    tie.close
+    (tie.spec
+    enum-told
+    enum-told-2
+    enum-known-s
+    cast-result
+    enum-told-3
+    enum-known-s-2
+    valid-requires
+    returns
+    returns-2
+    returns-3
+    returns-4
+    returns-5)

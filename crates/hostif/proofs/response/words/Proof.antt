@@ -1,0 +1,29 @@
+-- `words` meets its contract.
+use Rattle.hardware.specs.Change.{accessUpdate, change, restUpdate, updateNext}
+use Rattle.hardware.specs.Poll.{pollNext}
+use Rattle.hardware.specs.Prog.{_>>=_, erase, followed, orErr, pick}
+use Rattle.hardware.specs.Registers.{byte, flag, outcome, word}
+use Rattle.hostif.specs.Hostif.{accessCommand, accessRequest, accessResponse, accessToken, acquired, both, closed, commandNext, completed, enabled, headSeen, header, hicrRead, lenOf, polling, released, request, requestNext, requested, respond, responseNext, restCommand, restRequest, restResponse, restToken, start, statusOf, tokenBlock, tokenNext, tokenSecond, tokenStatus, tokened, validCommand, validRequest, validResponse, validToken, wordSeen, words, wordsOf}
+use Rattle.sync.specs.Resource.{acquireBitsNext, releaseBitsNext}
+use borrow.Author.Needs.{needs}
+use native.Mathlib.Omega.{arith}
+use Rattle.hostif.proofs.response.words.Statement.{statement}
+use Rattle.hostif.proofs.response.words.Tie as tie
+
+len-requires : tie.Need-len-requires
+len-requires c κs = search needs
+
+add-result : tie.Need-add-result
+unfolding lenOf
+add-result c = omega (arith, c .len .ensures)
+
+cast-result : tie.Need-cast-result
+unfolding lenOf
+cast-result c = omega (arith, c .len .ensures)
+
+returns : tie.Need-returns
+unfolding requestNext accessRequest restRequest responseNext accessResponse restResponse commandNext accessCommand restCommand tokenNext accessToken restToken acquireBitsNext releaseBitsNext pollNext updateNext followed _>>=_ erase orErr pick word outcome byte flag completed polling start enabled hicrRead request headSeen wordSeen respond both closed released requested acquired tokenBlock tokenSecond tokenStatus tokened header lenOf statusOf wordsOf change accessUpdate restUpdate validRequest validResponse validCommand validToken words
+returns c = rw (← c .len .ensures)
+
+pub words-spec : {M : Type 1} → statement M
+words-spec = tie.close (tie.spec len-requires add-result cast-result returns)

@@ -1,0 +1,78 @@
+-- What the public calls of `command` and `token` yield: a refusal by its number, or what is left of the call.
+use Prim.Native.Nat.{ℕ}
+use mathlib.Core.Bool.{Bool, true, false}
+use mathlib.Core.List.{List}
+use lib.Dec.{leb}
+use lib.ListN.{length}
+use Rattle.hardware.specs.declared.Answer.{Answer}
+use Rattle.hardware.specs.declared.Port.{Port}
+use Rattle.hardware.specs.Asked.{Asked, yes, no, question, andThen, openPort, validPort, fits}
+use Rattle.hardware.specs.Numbers.{refusalNumber}
+use Rattle.hardware.specs.Prog.{Prog, ret, ask, erase, R, pick}
+use Rattle.hardware.specs.Registers.{byte, flag}
+use Rattle.hostif.specs.declared.calls.CommandCall.{CommandCall}
+use Rattle.hostif.specs.declared.calls.CommandCall.the-variants.{Going as CommandGoing, Over as CommandOver}
+use Rattle.hostif.specs.declared.calls.CommandTold.{CommandTold}
+use Rattle.hostif.specs.declared.calls.CommandTold.the-variants.{Ask as CommandAsk, End as CommandEnd, Refused as CommandRefused}
+use Rattle.hostif.specs.declared.calls.TokenCall.{TokenCall}
+use Rattle.hostif.specs.declared.calls.TokenCall.the-variants.{Going as TokenGoing, Over as TokenOver}
+use Rattle.hostif.specs.declared.calls.TokenTold.{TokenTold}
+use Rattle.hostif.specs.declared.calls.TokenTold.the-variants.{Ask as TokenAsk, End as TokenEnd, Refused as TokenRefused}
+use Rattle.hostif.specs.Hostif.{Left, command, accessCommand, restCommand, validCommand, token, accessToken, restToken, validToken}
+
+-- a call with a lent block: refused with a number, the block as it is now, or gone on with
+pub data Lent : Type 0 where
+  refused : ℕ → List ℕ → Lent
+  goes : Prog Left → Lent
+
+unfoldable pub asked : Bool → ℕ → List ℕ → Lent → Lent
+asked true n block k = k
+asked false n block k = refused n block
+
+-- Has the block 1 to 64 words?
+unfoldable pub blockFits : List ℕ → Bool
+blockFits block = pick (leb 1 (length block)) (leb (length block) 64) false
+
+-- `command`: 1 and 2, then 8
+unfoldable pub openedBlock : List ℕ → Asked Port → Lent
+openedBlock block (no n) = refused n block
+openedBlock block (yes port) = asked (blockFits block) 8 block (goes (erase (command port block)))
+
+unfoldable pub openCommand : ℕ → ℕ → ℕ → List ℕ → Lent
+openCommand family device lan block = openedBlock block (openPort family device lan)
+
+-- a step: 8 again, 10, 11, 12. The finished state is well formed
+unfoldable pub stepped : CommandCall → List ℕ → Answer → Lent
+stepped (CommandGoing port t) block a =
+    asked (validPort port) 10 block
+    (asked (validCommand port (length block) t) 10 block
+    (asked (fits (accessCommand port t block) a) 12 block (goes (erase (restCommand port t block a)))))
+stepped CommandOver block a = refused 11 block
+
+unfoldable pub stepCommand : CommandCall → List ℕ → Answer → Lent
+stepCommand s block a = asked (blockFits block) 8 block (stepped s block a)
+
+-- what was told, with the block as it is then
+unfoldable pub saidCommand : CommandTold → List ℕ → Lent
+saidCommand (CommandAsk x (CommandGoing port t)) block = goes (ask x (λ a. erase (restCommand port t block a)))
+saidCommand (CommandAsk x CommandOver) block = refused 0 block
+saidCommand (CommandEnd b CommandOver) block = goes (ret (record { status = byte b; block = block }))
+saidCommand (CommandEnd b (CommandGoing port t)) block = refused 0 block
+saidCommand (CommandRefused q) block = refused (refusalNumber q) block
+
+-- `token`: 1 and 2
+unfoldable pub openToken : ℕ → ℕ → ℕ → Bool → Asked (Prog (R Bool))
+openToken family device lan take = andThen (openPort family device lan) (λ port. yes (erase (token port take)))
+
+unfoldable pub stepToken : TokenCall → Answer → Asked (Prog (R Bool))
+stepToken (TokenGoing port take t) a =
+    question (validPort port) 10
+    (question (validToken port t) 10 (question (fits (accessToken port t) a) 12 (yes (erase (restToken port take t a)))))
+stepToken TokenOver a = no 11
+
+unfoldable pub saidToken : TokenTold → Asked (Prog (R Bool))
+saidToken (TokenAsk x (TokenGoing port take t)) = yes (ask x (λ a. erase (restToken port take t a)))
+saidToken (TokenAsk x TokenOver) = no 0
+saidToken (TokenEnd b TokenOver) = yes (ret (flag b))
+saidToken (TokenEnd b (TokenGoing port take t)) = no 0
+saidToken (TokenRefused q) = no (refusalNumber q)

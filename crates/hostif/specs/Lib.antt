@@ -1,0 +1,2 @@
+pub mod Hostif
+pub mod Calls

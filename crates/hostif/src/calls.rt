@@ -1,0 +1,153 @@
+// The stepwise calls of `command` and `token`. A command's block is lent at its opening and at every step.
+use crate::command::Command;
+use crate::command::CommandNext;
+use crate::token::Token;
+use crate::token::TokenNext;
+use hardware::Access;
+use hardware::Answer;
+use hardware::Byte;
+use hardware::Flag;
+use hardware::Opening;
+use hardware::Port;
+use hardware::Refusal;
+ghost use Prim.Native.Nat.{ℕ, _≤_};
+ghost use mathlib.Core.Path.{_≡_};
+ghost use mathlib.Core.List.{List};
+ghost use lib.ListN.{length};
+ghost use Rattle.hardware.specs.Asked.{yes};
+ghost use Rattle.hardware.specs.Prog.{erase};
+ghost use Rattle.hostif.specs.Hostif.{commandNext, restCommand, tokenNext};
+ghost use Rattle.hostif.specs.Calls.{goes, blockFits, openCommand, stepped, stepCommand, saidCommand, openToken, stepToken, saidToken};
+
+pub enum CommandCall {
+    Going(Port, Command),
+    Over,
+}
+
+pub enum CommandTold {
+    Ask(Access, CommandCall),
+    End(Byte, CommandCall),
+    Refused(Refusal),
+}
+
+// take: whether the token is asked for or given back.
+pub enum TokenCall {
+    Going(Port, bool, Token),
+    Over,
+}
+
+pub enum TokenTold {
+    Ask(Access, TokenCall),
+    End(Flag, TokenCall),
+    Refused(Refusal),
+}
+
+fn fits(n: usize) -> bool
+    ensures { λ r. ⌜ ((l : List ℕ) → length l ≡ n → r ≡ blockFits l) ⌝ }
+{
+    if 1 <= n {
+        return n <= 64;
+    }
+    false
+}
+
+fn command_told(port: Port, block: &[u32], n: CommandNext) -> CommandTold
+    ensures { λ r. ⌜ saidCommand r (now (block .entry)) ≡ goes (commandNext port n (now (block .entry))) ⌝ }
+{
+    match n {
+        CommandNext::Going(t) => CommandTold::Ask(
+            crate::command::access(port, t, block),
+            CommandCall::Going(port, t),
+        ),
+        CommandNext::End(b) => CommandTold::End(b, CommandCall::Over),
+    }
+}
+
+pub fn command_open(family: u32, device: u16, lan: u32, block: &[u32]) -> CommandTold
+    ensures { λ r. ⌜ saidCommand r (now (block .entry)) ≡ openCommand family device lan (now (block .entry)) ⌝ }
+{
+    match hardware::open_port(family, device, lan) {
+        Opening::Port(p) => {
+            if fits(block.len()) {
+                return command_told(p, block, crate::command::open(p));
+            }
+            CommandTold::Refused(Refusal::Block)
+        }
+        Opening::Refused(q) => CommandTold::Refused(q),
+    }
+}
+
+fn go(port: Port, t: Command, block: &mut [u32], a: Answer) -> CommandTold
+    requires { ⌜ length (now block) ≤ 64 ⌝ }
+    ensures { λ r. ⌜ saidCommand r (now (block .exit)) ≡ goes (erase (restCommand port t (now (block .entry)) a)) ⌝ }
+{
+    let n = crate::command::step(port, t, block, a);
+    command_told(port, block, n)
+}
+
+fn command_on(port: Port, t: Command, block: &mut [u32], a: Answer) -> CommandTold
+    requires { ⌜ length (now block) ≤ 64 ⌝ }
+    ensures { λ r. ⌜ saidCommand r (now (block .exit)) ≡ stepped (CommandCall.Going port t) (now (block .entry)) a ⌝ }
+{
+    if hardware::valid_port(port) {
+        if crate::command::valid(port, block.len(), t) {
+            if hardware::awaited(crate::command::access(port, t, block), a) {
+                return go(port, t, block, a);
+            }
+            return CommandTold::Refused(Refusal::Kind);
+        }
+    }
+    CommandTold::Refused(Refusal::State)
+}
+
+pub fn command_step(s: CommandCall, block: &mut [u32], a: Answer) -> CommandTold
+    ensures { λ r. ⌜ saidCommand r (now (block .exit)) ≡ stepCommand s (now (block .entry)) a ⌝ }
+{
+    if fits(block.len()) {
+        return match s {
+            CommandCall::Going(port, t) => command_on(port, t, block, a),
+            CommandCall::Over => CommandTold::Refused(Refusal::Finished),
+        };
+    }
+    CommandTold::Refused(Refusal::Block)
+}
+
+fn token_told(port: Port, take: bool, n: TokenNext) -> TokenTold
+    ensures { λ r. ⌜ saidToken r ≡ yes (tokenNext port take n) ⌝ }
+{
+    match n {
+        TokenNext::Going(t) => TokenTold::Ask(
+            crate::token::access(port, t),
+            TokenCall::Going(port, take, t),
+        ),
+        TokenNext::End(b) => TokenTold::End(b, TokenCall::Over),
+    }
+}
+
+pub fn token_open(family: u32, device: u16, lan: u32, take: bool) -> TokenTold
+    ensures { λ r. ⌜ saidToken r ≡ openToken family device lan take ⌝ }
+{
+    match hardware::open_port(family, device, lan) {
+        Opening::Port(p) => token_told(p, take, crate::token::open(p, take)),
+        Opening::Refused(q) => TokenTold::Refused(q),
+    }
+}
+
+pub fn token_step(s: TokenCall, a: Answer) -> TokenTold
+    ensures { λ r. ⌜ saidToken r ≡ stepToken s a ⌝ }
+{
+    match s {
+        TokenCall::Going(port, take, t) => {
+            if hardware::valid_port(port) {
+                if crate::token::valid(port, t) {
+                    if hardware::awaited(crate::token::access(port, t), a) {
+                        return token_told(port, take, crate::token::step(port, take, t, a));
+                    }
+                    return TokenTold::Refused(Refusal::Kind);
+                }
+            }
+            TokenTold::Refused(Refusal::State)
+        }
+        TokenCall::Over => TokenTold::Refused(Refusal::Finished),
+    }
+}

@@ -1,0 +1,157 @@
+// A firmware command: SW_MNG is held while the block is handed over and the response read back into it.
+use crate::request::Request;
+use crate::request::RequestNext;
+use crate::response::Response;
+use crate::response::ResponseNext;
+use hardware::Access;
+use hardware::Answer;
+use hardware::Byte;
+use hardware::Outcome;
+use hardware::Port;
+use hardware::Word;
+use hardware::change::Update;
+use sync::acquire_bits::AcquireBits;
+use sync::acquire_bits::AcquireBitsNext;
+use sync::regs::SW_MNG;
+use sync::release_bits::ReleaseBits;
+use sync::release_bits::ReleaseBitsNext;
+ghost use Prim.Native.Nat.{ℕ, _≤_};
+ghost use mathlib.Core.Path.{_≡_};
+ghost use mathlib.Core.List.{List};
+ghost use lib.ListN.{length};
+ghost use Rattle.hardware.specs.Prog.{erase, followed};
+ghost use Rattle.hardware.specs.Registers.{word, outcome, byte};
+ghost use Rattle.sync.specs.Regs.{SW-MNG};
+ghost use Rattle.sync.specs.Resource.{acquireBitsNext, releaseBitsNext};
+ghost use Rattle.hostif.specs.Hostif.{both, closed, requestNext, responseNext, released, requested, acquired, command, accessCommand, restCommand, commandNext, validCommand};
+
+// Releasing: with how the command closed.
+pub enum Command {
+    Acquiring(AcquireBits),
+    Requesting(Request),
+    Responding(Response),
+    Releasing(ReleaseBits, Byte),
+}
+
+pub enum CommandNext {
+    Going(Command),
+    End(Byte),
+}
+
+// The command's own failure goes first, then the release's.
+fn outcome_of(s: Byte, o: Outcome) -> Byte
+    ensures { λ r. ⌜ byte r ≡ both (byte s) (outcome o) ⌝ }
+{
+    match s {
+        Byte::Ok(b) => match o {
+            Outcome::Ok => Byte::Ok(b),
+            Outcome::Err(e) => Byte::Err(e),
+        },
+        Byte::Err(e) => Byte::Err(e),
+    }
+}
+
+fn releasing(port: Port, s: Byte, n: ReleaseBitsNext) -> CommandNext
+    ensures { λ r. ⌜ ((l : List ℕ) → commandNext port r l ≡ followed (releaseBitsNext port SW-MNG n) (closed (byte s) l)) ⌝ }
+{
+    match n {
+        ReleaseBitsNext::Going(t) => CommandNext::Going(Command::Releasing(t, s)),
+        ReleaseBitsNext::End(o) => CommandNext::End(outcome_of(s, o)),
+    }
+}
+
+fn release(port: Port, s: Byte) -> CommandNext
+    ensures { λ r. ⌜ ((l : List ℕ) → commandNext port r l ≡ erase (released port (record { status = byte s; block = l }))) ⌝ }
+{
+    releasing(port, s, sync::release_bits::open(port, SW_MNG))
+}
+
+fn responding(port: Port, n: ResponseNext) -> CommandNext
+    ensures { λ r. ⌜ ((l : List ℕ) → commandNext port r l ≡ followed (responseNext n l) (released port)) ⌝ }
+{
+    match n {
+        ResponseNext::Going(t) => CommandNext::Going(Command::Responding(t)),
+        ResponseNext::End(s) => release(port, s),
+    }
+}
+
+fn request_done(port: Port, w: Word) -> CommandNext
+    ensures { λ r. ⌜ ((l : List ℕ) → commandNext port r l ≡ erase (requested port l (word w))) ⌝ }
+{
+    match w {
+        Word::Ok(last) => CommandNext::Going(Command::Responding(Response::Head(last))),
+        Word::Err(e) => release(port, Byte::Err(e)),
+    }
+}
+
+fn requesting(port: Port, n: RequestNext) -> CommandNext
+    ensures { λ r. ⌜ ((l : List ℕ) → commandNext port r l ≡ followed (requestNext n l) (requested port l)) ⌝ }
+{
+    match n {
+        RequestNext::Going(t) => CommandNext::Going(Command::Requesting(t)),
+        RequestNext::End(w) => request_done(port, w),
+    }
+}
+
+fn acquiring(port: Port, n: AcquireBitsNext) -> CommandNext
+    ensures { λ r. ⌜ ((l : List ℕ) → commandNext port r l ≡ followed (acquireBitsNext port SW-MNG n) (acquired port l)) ⌝ }
+{
+    match n {
+        AcquireBitsNext::Going(t) => CommandNext::Going(Command::Acquiring(t)),
+        AcquireBitsNext::End(o) => match o {
+            Outcome::Ok => CommandNext::Going(Command::Requesting(Request::Fwsts(Update::Reading))),
+            Outcome::Err(e) => CommandNext::End(Byte::Err(e)),
+        },
+    }
+}
+
+pub(crate) fn open(port: Port) -> CommandNext
+    ensures { λ r. ⌜ ((l : List ℕ) → commandNext port r l ≡ erase (command port l)) ⌝ }
+{
+    let family = port.family;
+    acquiring(
+        port,
+        sync::acquire_bits::open(port, SW_MNG, sync::regs::tries(family), 0),
+    )
+}
+
+pub(crate) fn access(port: Port, s: Command, block: &[u32]) -> Access
+    ensures { λ r. ⌜ r ≡ accessCommand port s (now (block .entry)) ⌝ }
+{
+    match s {
+        Command::Acquiring(t) => sync::acquire_bits::access(port, SW_MNG, t),
+        Command::Requesting(t) => crate::request::access(t, block),
+        Command::Responding(t) => crate::response::access(t),
+        Command::Releasing(t, _) => sync::release_bits::access(port, SW_MNG, t),
+    }
+}
+
+pub(crate) fn step(port: Port, s: Command, block: &mut [u32], a: Answer) -> CommandNext
+    requires { ⌜ length (now block) ≤ 64 ⌝ }
+    ensures { λ r. ⌜ commandNext port r (now (block .exit)) ≡ erase (restCommand port s (now (block .entry)) a) ⌝ }
+{
+    match s {
+        Command::Acquiring(t) => acquiring(port, sync::acquire_bits::step(port, SW_MNG, t, a)),
+        Command::Requesting(t) => requesting(port, crate::request::step(block.len(), t, a)),
+        Command::Responding(t) => responding(port, crate::response::step(t, block, a)),
+        Command::Releasing(t, b) => releasing(
+            port,
+            b,
+            sync::release_bits::step(port, SW_MNG, t, a),
+        ),
+    }
+}
+
+pub(crate) fn valid(port: Port, n: usize, s: Command) -> bool
+    ensures { λ r. ⌜ r ≡ validCommand port n s ⌝ }
+{
+    match s {
+        Command::Acquiring(t) => {
+            let family = port.family;
+            sync::acquire_bits::valid(family, t)
+        }
+        Command::Requesting(t) => crate::request::valid(n, t),
+        Command::Responding(t) => crate::response::valid(n, t),
+        Command::Releasing(t, _) => sync::release_bits::valid(t),
+    }
+}

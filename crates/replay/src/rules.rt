@@ -1,0 +1,99 @@
+// The rules that bend a read's value.
+ghost use Prim.Native.Nat.{_≤_};
+
+// One rule, with the reads of its register so far.
+pub struct Rule {
+    pub used: bool,
+    pub register: u32,
+    pub period: u32,
+    pub hold: u32,
+    pub and1: u32,
+    pub or1: u32,
+    pub and2: u32,
+    pub or2: u32,
+    pub reads: u32,
+}
+
+pub struct Rules {
+    pub list: [Rule; 4],
+}
+
+// A read's value, and the rules after it.
+pub struct Bent {
+    pub rules: Rules,
+    pub value: u32,
+}
+
+pub fn unused() -> Rule {
+    Rule {
+        used: false,
+        register: 0,
+        period: 0,
+        hold: 0,
+        and1: 0,
+        or1: 0,
+        and2: 0,
+        or2: 0,
+        reads: 0,
+    }
+}
+
+pub fn none() -> Rules {
+    let rule = unused();
+    Rules { list: [rule; 4] }
+}
+
+fn names(rule: Rule, register: u32) -> bool {
+    if rule.used {
+        return rule.register == register;
+    }
+    false
+}
+
+// The first rule that names the register, 4 where none does.
+fn find(rules: Rules, register: u32) -> usize
+    ensures { λ r. ⌜ r ≤ 4 ⌝ }
+{
+    let mut i = 0;
+    while i < 4 {
+        let rule = rules.list[i];
+        if names(rule, register) {
+            return i;
+        }
+        i += 1;
+    }
+    4
+}
+
+fn turn(rule: Rule) -> u32 {
+    if rule.period == 0 {
+        return rule.reads;
+    }
+    rule.reads % rule.period
+}
+
+fn bend(rule: Rule, v: u32) -> u32 {
+    if turn(rule) < rule.hold {
+        return v & rule.and1 | rule.or1;
+    }
+    v & rule.and2 | rule.or2
+}
+
+fn counted(rule: Rule) -> Rule {
+    let mut next = rule;
+    next.reads = std::num::wrapping_add_u32(rule.reads, 1);
+    next
+}
+
+pub fn apply(rules: Rules, register: u32, v: u32) -> Bent {
+    let i = find(rules, register);
+    if i < 4 {
+        let mut all = rules;
+        let rule = all.list[i];
+        let value = bend(rule, v);
+        let next = counted(rule);
+        all.list[i] = next;
+        return Bent { rules: all, value };
+    }
+    Bent { rules, value: v }
+}

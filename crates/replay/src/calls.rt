@@ -28,7 +28,7 @@ pub struct Ran {
     pub v3: u32,
 }
 
-pub fn same(a: Ran, b: Ran) -> bool {
+pub(crate) fn same(a: Ran, b: Ran) -> bool {
     a.ended == b.ended
         && a.accesses == b.accesses
         && a.sum == b.sum
@@ -100,7 +100,7 @@ fn of_flag(h: Host, f: Flag) -> Ran {
     }
 }
 
-pub fn lock(h: Host, family: u32) -> Ran {
+pub(crate) fn lock(h: Host, family: u32) -> Ran {
     let mut host = h;
     let mut told = sync::calls::lock_open(family);
     let mut left = BUDGET;
@@ -120,7 +120,7 @@ pub fn lock(h: Host, family: u32) -> Ran {
     unended(host)
 }
 
-pub fn unlock(h: Host, family: u32) -> Ran {
+pub(crate) fn unlock(h: Host, family: u32) -> Ran {
     let mut host = h;
     let mut told = sync::calls::unlock_open(family);
     let mut left = BUDGET;
@@ -140,7 +140,7 @@ pub fn unlock(h: Host, family: u32) -> Ran {
     unended(host)
 }
 
-pub fn acquire(h: Host, family: u32, device: u16, lan: u32, mask: u32) -> Ran {
+pub(crate) fn acquire(h: Host, family: u32, device: u16, lan: u32, mask: u32) -> Ran {
     let mut host = h;
     let mut told = acquire::calls::acquire_open(family, device, lan, mask);
     let mut left = BUDGET;
@@ -160,7 +160,7 @@ pub fn acquire(h: Host, family: u32, device: u16, lan: u32, mask: u32) -> Ran {
     unended(host)
 }
 
-pub fn release(h: Host, family: u32, device: u16, lan: u32, mask: u32) -> Ran {
+pub(crate) fn release(h: Host, family: u32, device: u16, lan: u32, mask: u32) -> Ran {
     let mut host = h;
     let mut told = acquire::calls::release_open(family, device, lan, mask);
     let mut left = BUDGET;
@@ -180,7 +180,7 @@ pub fn release(h: Host, family: u32, device: u16, lan: u32, mask: u32) -> Ran {
     unended(host)
 }
 
-pub fn token(h: Host, family: u32, device: u16, lan: u32, take: bool) -> Ran {
+pub(crate) fn token(h: Host, family: u32, device: u16, lan: u32, take: bool) -> Ran {
     let mut host = h;
     let mut told = hostif::calls::token_open(family, device, lan, take);
     let mut left = BUDGET;
@@ -228,7 +228,7 @@ fn command_in(h: Host, family: u32, device: u16, lan: u32, block: &mut [u32], se
     ran
 }
 
-pub fn command(h: Host, family: u32, device: u16, lan: u32, words: u32, seed: u32) -> Ran {
+pub(crate) fn command(h: Host, family: u32, device: u16, lan: u32, words: u32, seed: u32) -> Ran {
     if 64 < words {
         return unended(h);
     }
@@ -237,7 +237,7 @@ pub fn command(h: Host, family: u32, device: u16, lan: u32, words: u32, seed: u3
     command_in(h, family, device, lan, &mut block[..n], seed)
 }
 
-pub fn regs(h: Host, family: u32) -> Ran {
+pub(crate) fn regs(h: Host, family: u32) -> Ran {
     match hardware::open_family(family) {
         FamilyOpening::Family(f) => {
             let r = sync::regs::regs(f);
@@ -247,7 +247,7 @@ pub fn regs(h: Host, family: u32) -> Ran {
     }
 }
 
-pub fn bits(h: Host, family: u32, mask: u32) -> Ran {
+pub(crate) fn bits(h: Host, family: u32, mask: u32) -> Ran {
     match hardware::open_family(family) {
         FamilyOpening::Family(f) => {
             let m = sync::regs::bits(f, mask);

@@ -19,7 +19,7 @@ fn device(d: u32) -> u16 {
 }
 
 // Whether the numbers, so many of them, are a case.
-pub fn is_case(words: &[u32; 45], count: usize) -> bool {
+pub(crate) fn is_case(words: &[u32; 45], count: usize) -> bool {
     if words[0] < 8 {
         if words[2] < 65536 {
             return parse::whole(words, count);
@@ -62,7 +62,7 @@ fn listed(words: &[u32; 45], count: usize) -> Ran
 }
 
 // Whether the port does what the line says.
-pub fn agrees(words: &[u32; 45], count: usize) -> bool
+pub(crate) fn agrees(words: &[u32; 45], count: usize) -> bool
     requires { ⌜ (6 ≤ count) × (count ≤ 45) ⌝ }
 {
     calls::same(call(words), listed(words, count))

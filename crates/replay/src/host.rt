@@ -19,7 +19,7 @@ pub struct Played {
     pub answer: Answer,
 }
 
-pub fn begin(seed: u32, fail_at: u32, ones_at: u32, rules: Rules) -> Host {
+pub(crate) fn begin(seed: u32, fail_at: u32, ones_at: u32, rules: Rules) -> Host {
     Host {
         stream: seed,
         fail_at,
@@ -86,7 +86,7 @@ fn wait(h: Host, us: u32) -> Played {
     }
 }
 
-pub fn answer(h: Host, x: Access) -> Played {
+pub(crate) fn answer(h: Host, x: Access) -> Played {
     match x {
         Access::Read(register) => read(h, register),
         Access::Write(register, v) => write(h, register, v),

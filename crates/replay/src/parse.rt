@@ -13,7 +13,7 @@ pub struct Line {
     pub good: bool,
 }
 
-pub fn blank() -> Line {
+pub(crate) fn blank() -> Line {
     Line {
         words: [0; 45],
         count: 0,
@@ -61,7 +61,7 @@ fn ended(l: Line) -> Line {
 }
 
 // A byte of a line.
-pub fn byte(l: Line, b: u8) -> Line {
+pub(crate) fn byte(l: Line, b: u8) -> Line {
     match b {
         b'0'..=b'9' => digit(l, b - b'0'),
         b' ' | b'\n' => ended(l),
@@ -70,7 +70,7 @@ pub fn byte(l: Line, b: u8) -> Line {
 }
 
 // Whether the line has no byte yet.
-pub fn empty(l: Line) -> bool {
+pub(crate) fn empty(l: Line) -> bool {
     if l.count == 0 {
         return l.digits == 0;
     }
@@ -78,7 +78,7 @@ pub fn empty(l: Line) -> bool {
 }
 
 // Whether the count is that of a line with its number of rules.
-pub fn whole(words: &[u32; 45], count: usize) -> bool {
+pub(crate) fn whole(words: &[u32; 45], count: usize) -> bool {
     match words[10] {
         0 => count == 17,
         1 => count == 24,
@@ -105,7 +105,7 @@ fn rule_at(words: &[u32; 45], i: usize) -> Rule
     }
 }
 
-pub fn rules_of(words: &[u32; 45]) -> Rules {
+pub(crate) fn rules_of(words: &[u32; 45]) -> Rules {
     let mut all = rules::none();
     if 0 < words[10] {
         let r = rule_at(words, 11);

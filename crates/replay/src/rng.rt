@@ -7,7 +7,7 @@ ghost use lib.Bits.{bitXor};
 pub const BASIS: u32 = 2166136261;
 
 // The state after x.
-pub fn next(x: u32) -> u32
+pub(crate) fn next(x: u32) -> u32
     ensures { λ r. ⌜ r ≡ (x * 1664525 + 1013904223) % 2 ^ 32 ⌝ }
 {
     let y = x as u64 * 1664525 + 1013904223;
@@ -15,14 +15,14 @@ pub fn next(x: u32) -> u32
 }
 
 // The output at the state x: its halves swapped.
-pub fn swapped(x: u32) -> u32
+pub(crate) fn swapped(x: u32) -> u32
     ensures { λ r. ⌜ r ≡ x % 65536 * 65536 + x / 65536 ⌝ }
 {
     x % 65536 * 65536 + x / 65536
 }
 
 // The sum h with the word w, FNV-1a.
-pub fn fnv(h: u32, w: u32) -> u32
+pub(crate) fn fnv(h: u32, w: u32) -> u32
     ensures { λ r. ⌜ r ≡ (bitXor h w * 16777619) % 2 ^ 32 ⌝ }
 {
     let y = (h ^ w) as u64 * 16777619;
@@ -30,7 +30,7 @@ pub fn fnv(h: u32, w: u32) -> u32
 }
 
 // The words of a block: the outputs of a stream of its own.
-pub fn fill(block: &mut [u32], seed: u32) {
+pub(crate) fn fill(block: &mut [u32], seed: u32) {
     let mut x = seed;
     let mut i = 0;
     while i < block.len() {
@@ -40,7 +40,7 @@ pub fn fill(block: &mut [u32], seed: u32) {
     }
 }
 
-pub fn sum(block: &[u32]) -> u32 {
+pub(crate) fn sum(block: &[u32]) -> u32 {
     let mut h = BASIS;
     let mut i = 0;
     while i < block.len() {

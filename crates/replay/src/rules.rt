@@ -24,7 +24,7 @@ pub struct Bent {
     pub value: u32,
 }
 
-pub fn unused() -> Rule {
+pub(crate) fn unused() -> Rule {
     Rule {
         used: false,
         register: 0,
@@ -38,7 +38,7 @@ pub fn unused() -> Rule {
     }
 }
 
-pub fn none() -> Rules {
+pub(crate) fn none() -> Rules {
     let rule = unused();
     Rules { list: [rule; 4] }
 }
@@ -85,7 +85,7 @@ fn counted(rule: Rule) -> Rule {
     next
 }
 
-pub fn apply(rules: Rules, register: u32, v: u32) -> Bent {
+pub(crate) fn apply(rules: Rules, register: u32, v: u32) -> Bent {
     let i = find(rules, register);
     if i < 4 {
         let mut all = rules;

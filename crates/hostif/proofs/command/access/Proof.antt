@@ -1,6 +1,6 @@
 -- `access` meets its contract.
 use Rattle.hardware.specs.Runs.{given}
-use Rattle.hostif.specs.Hostif.{accessCommand, accessRequest, accessResponse, accessToken, command, hicrRead, polling, released, request, restCommand, restRequest, restResponse, restToken, token, tokenBlock, validCommand, validRequest, validResponse, validToken, wordsOf}
+use Rattle.hostif.specs.Hostif.{accessCommand, accessRequest, accessResponse}
 use borrow.Author.Needs.{needs}
 use Rattle.hostif.proofs.command.access.Statement.{statement}
 use Rattle.hostif.proofs.command.access.Tie as tie
@@ -30,19 +30,19 @@ access-requires-4 : tie.Need-access-requires-4
 access-requires-4 c κs = search needs
 
 returns : tie.Need-returns
-unfolding restRequest accessRequest restResponse accessResponse restCommand accessCommand restToken accessToken request hicrRead polling released command token tokenBlock wordsOf validRequest validResponse validCommand validToken
+unfolding accessRequest accessResponse accessCommand
 returns c = rw (c .before .before .s .given .1) (c .access .ensures)
 
 returns-2 : tie.Need-returns-2
-unfolding restRequest accessRequest restResponse accessResponse restCommand accessCommand restToken accessToken request hicrRead polling released command token tokenBlock wordsOf validRequest validResponse validCommand validToken
+unfolding accessRequest accessResponse accessCommand
 returns-2 c = rw (c .before .before .s2 .given .1) (c .access2 .ensures)
 
 returns-3 : tie.Need-returns-3
-unfolding restRequest accessRequest restResponse accessResponse restCommand accessCommand restToken accessToken request hicrRead polling released command token tokenBlock wordsOf validRequest validResponse validCommand validToken
+unfolding accessRequest accessResponse accessCommand
 returns-3 c = rw (c .before .before .s3 .given .1) (c .access3 .ensures)
 
 returns-4 : tie.Need-returns-4
-unfolding restRequest accessRequest restResponse accessResponse restCommand accessCommand restToken accessToken request hicrRead polling released command token tokenBlock wordsOf validRequest validResponse validCommand validToken
+unfolding accessRequest accessResponse accessCommand
 returns-4 c = rw (c .before .before .s4 .given .1) (c .access4 .ensures)
 
 pub access-spec : {M : Type 1} → statement M

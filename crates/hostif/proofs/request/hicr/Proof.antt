@@ -5,8 +5,8 @@ use Rattle.hardware.specs.Prog.{_>>=_, erase, followed, orErr, pick}
 use Rattle.hardware.specs.Registers.{byte, flag, outcome, word}
 use Rattle.hardware.specs.Runs.{given}
 use Rattle.hostif.proofs.Laws.{words-at, words-none}
-use Rattle.hostif.specs.Hostif.{accessCommand, accessRequest, accessResponse, accessToken, acquired, both, closed, commandNext, completed, enabled, headSeen, header, hicrRead, lenOf, polling, released, request, requestNext, requested, respond, responseNext, restCommand, restRequest, restResponse, restToken, start, statusOf, tokenBlock, tokenNext, tokenSecond, tokenStatus, tokened, validCommand, validRequest, validResponse, validToken, wordSeen, words, wordsOf}
-use Rattle.sync.specs.Resource.{acquireBitsNext, releaseBitsNext, taken}
+use Rattle.hostif.specs.Hostif.{accessRequest, completed, enabled, hicrRead, polling, request, requestNext, restRequest, start, validRequest, words}
+use Rattle.sync.specs.Resource.{taken}
 use borrow.Author.Needs.{needs}
 use native.Mathlib.Omega.{arith}
 use Rattle.hostif.proofs.request.hicr.Statement.{statement}
@@ -19,7 +19,7 @@ none-of-requires : tie.Need-none-of-requires
 none-of-requires c κs = search needs
 
 returns : tie.Need-returns
-unfolding requestNext accessRequest restRequest responseNext accessResponse restResponse commandNext accessCommand restCommand tokenNext accessToken restToken acquireBitsNext releaseBitsNext pollNext updateNext followed _>>=_ erase orErr pick word outcome byte flag completed polling start enabled hicrRead request headSeen wordSeen respond both closed released requested acquired tokenBlock tokenSecond tokenStatus tokened header lenOf statusOf wordsOf change accessUpdate restUpdate validRequest validResponse validCommand validToken words
+unfolding requestNext accessRequest restRequest pollNext updateNext followed _>>=_ erase orErr pick word outcome byte flag completed polling start enabled hicrRead request change accessUpdate restUpdate validRequest words
 returns c = λ l h. rw (c .before .before .before .w .given .1, ← c .before .none-of .ensures, c .if1 .taken)
 
 returns-2 : tie.Need-returns-2
@@ -34,7 +34,7 @@ unfolding word orErr enabled pick
 returns-3 c = λ l h. rw (c .before .before .before .before .w .given .1, ← c .before .before .none-of .ensures, c .before .if1 .left) (words-at l 0 _ (omega (arith, c .if2 .left)))
 
 returns-4 : tie.Need-returns-4
-unfolding requestNext accessRequest restRequest responseNext accessResponse restResponse commandNext accessCommand restCommand tokenNext accessToken restToken acquireBitsNext releaseBitsNext pollNext updateNext followed _>>=_ erase orErr pick word outcome byte flag completed polling start enabled hicrRead request headSeen wordSeen respond both closed released requested acquired tokenBlock tokenSecond tokenStatus tokened header lenOf statusOf wordsOf change accessUpdate restUpdate validRequest validResponse validCommand validToken words
+unfolding requestNext accessRequest restRequest pollNext updateNext followed _>>=_ erase orErr pick word outcome byte flag completed polling start enabled hicrRead request change accessUpdate restUpdate validRequest words
 returns-4 c = λ l h. rw (c .before .w2 .given .1)
 
 pub hicr-spec : {M : Type 1} → statement M

@@ -4,8 +4,7 @@ use Rattle.hardware.specs.Poll.{poll, pollNext}
 use Rattle.hardware.specs.Prog.{_>>=_, erase, followed, orErr, over, pick}
 use Rattle.hardware.specs.Registers.{byte, flag, outcome, word}
 use Rattle.hardware.specs.Runs.{given}
-use Rattle.hostif.specs.Hostif.{accessCommand, accessRequest, accessResponse, accessToken, acquired, both, closed, commandNext, completed, enabled, headSeen, header, hicrRead, lenOf, polling, released, request, requestNext, requested, respond, responseNext, restCommand, restRequest, restResponse, restToken, start, statusOf, tokenBlock, tokenNext, tokenSecond, tokenStatus, tokened, validCommand, validRequest, validResponse, validToken, wordSeen, words, wordsOf}
-use Rattle.sync.specs.Resource.{acquireBitsNext, releaseBitsNext}
+use Rattle.hostif.specs.Hostif.{accessRequest, completed, enabled, hicrRead, polling, request, requestNext, restRequest, start, validRequest, words}
 use borrow.Author.Needs.{needs}
 use Rattle.hostif.proofs.request.started.Statement.{statement}
 use Rattle.hostif.proofs.request.started.Tie as tie
@@ -30,7 +29,7 @@ unfolding outcome orErr polling
 returns c = λ l. rw (c .before .before .before .enum-told .given .1) (over _ _ (c .poll .ensures l) (rw (c .before .before .watch .ensures) at (c .before .«open» .ensures)))
 
 returns-2 : tie.Need-returns-2
-unfolding requestNext accessRequest restRequest responseNext accessResponse restResponse commandNext accessCommand restCommand tokenNext accessToken restToken acquireBitsNext releaseBitsNext pollNext updateNext followed _>>=_ erase orErr pick word outcome byte flag completed polling start enabled hicrRead request headSeen wordSeen respond both closed released requested acquired tokenBlock tokenSecond tokenStatus tokened header lenOf statusOf wordsOf change accessUpdate restUpdate validRequest validResponse validCommand validToken words
+unfolding requestNext accessRequest restRequest pollNext updateNext followed _>>=_ erase orErr pick word outcome byte flag completed polling start enabled hicrRead request change accessUpdate restUpdate validRequest words
 returns-2 c = λ l. rw (c .before .o .given .1)
 
 pub started-spec : {M : Type 1} → statement M

@@ -3,7 +3,7 @@ use Rattle.hardware.specs.Poll.{poll}
 use Rattle.hardware.specs.Prog.{fed, over}
 use Rattle.hardware.specs.Registers.{read, write, written}
 use Rattle.hardware.specs.Runs.{given}
-use Rattle.hostif.specs.Hostif.{accessCommand, accessRequest, accessResponse, accessToken, command, hicrRead, polling, released, request, restCommand, restRequest, restResponse, restToken, token, tokenBlock, validCommand, validRequest, validResponse, validToken, wordsOf}
+use Rattle.hostif.specs.Hostif.{hicrRead, polling, request, restRequest}
 use borrow.Author.Needs.{needs}
 use Rattle.hostif.proofs.request.step.Statement.{statement}
 use Rattle.hostif.proofs.request.step.Tie as tie
@@ -60,23 +60,23 @@ poll-requires : tie.Need-poll-requires
 poll-requires c κs = search needs
 
 returns : tie.Need-returns
-unfolding restRequest accessRequest restResponse accessResponse restCommand accessCommand restToken accessToken request hicrRead polling released command token tokenBlock wordsOf validRequest validResponse validCommand validToken
+unfolding restRequest request hicrRead polling
 returns c = λ l h. rw (c .before .before .before .before .s .given .1) (over _ _ (c .fwsts .ensures l) (rw (c .before .before .fwri .ensures) at (c .before .step .ensures)))
 
 returns-2 : tie.Need-returns-2
-unfolding restRequest accessRequest restResponse accessResponse restCommand accessCommand restToken accessToken request hicrRead polling released command token tokenBlock wordsOf validRequest validResponse validCommand validToken
+unfolding restRequest request hicrRead polling
 returns-2 c = λ l h. rw (c .before .before .enum-told .given .1) (fed _ (c .hicr .ensures l h) (c .before .read .ensures))
 
 returns-3 : tie.Need-returns-3
-unfolding restRequest accessRequest restResponse accessResponse restCommand accessCommand restToken accessToken request hicrRead polling released command token tokenBlock wordsOf validRequest validResponse validCommand validToken
+unfolding restRequest request hicrRead polling
 returns-3 c = λ l h. rw (c .before .before .before .s2 .given .1) (fed _ (c .written .ensures l h) (c .before .write .ensures))
 
 returns-4 : tie.Need-returns-4
-unfolding restRequest accessRequest restResponse accessResponse restCommand accessCommand restToken accessToken request hicrRead polling released command token tokenBlock wordsOf validRequest validResponse validCommand validToken
+unfolding restRequest request hicrRead polling
 returns-4 c = λ l h. rw (c .before .before .before .s3 .given .1) (fed _ (c .started .ensures l) (c .before .write2 .ensures))
 
 returns-5 : tie.Need-returns-5
-unfolding restRequest accessRequest restResponse accessResponse restCommand accessCommand restToken accessToken request hicrRead polling released command token tokenBlock wordsOf validRequest validResponse validCommand validToken
+unfolding restRequest request hicrRead polling
 returns-5 c = λ l h. rw (c .before .before .before .before .s4 .given .1) (over _ _ (c .poll .ensures l) (rw (c .before .before .watch .ensures) at (c .before .step2 .ensures)))
 
 pub step-spec : {M : Type 1} → statement M

@@ -1,15 +1,12 @@
 -- `len` meets its contract.
-use Rattle.hardware.specs.Change.{accessUpdate, change, restUpdate, updateNext}
-use Rattle.hardware.specs.Poll.{pollNext}
 use Rattle.hardware.specs.Prog.{_>>=_, erase, followed, orErr, pick}
 use Rattle.hardware.specs.Registers.{byte, flag, outcome, word}
-use Rattle.hostif.specs.Hostif.{accessCommand, accessRequest, accessResponse, accessToken, acquired, both, closed, commandNext, completed, enabled, headSeen, header, hicrRead, lenOf, polling, released, request, requestNext, requested, respond, responseNext, restCommand, restRequest, restResponse, restToken, start, statusOf, tokenBlock, tokenNext, tokenSecond, tokenStatus, tokened, validCommand, validRequest, validResponse, validToken, wordSeen, words, wordsOf}
-use Rattle.sync.specs.Resource.{acquireBitsNext, releaseBitsNext}
+use Rattle.hostif.specs.Hostif.{accessResponse, headSeen, lenOf, respond, responseNext, restResponse, statusOf, validResponse, wordSeen, wordsOf}
 use Rattle.hostif.proofs.response.len.Statement.{statement}
 use Rattle.hostif.proofs.response.len.Tie as tie
 
 returns : tie.Need-returns
-unfolding requestNext accessRequest restRequest responseNext accessResponse restResponse commandNext accessCommand restCommand tokenNext accessToken restToken acquireBitsNext releaseBitsNext pollNext updateNext followed _>>=_ erase orErr pick word outcome byte flag completed polling start enabled hicrRead request headSeen wordSeen respond both closed released requested acquired tokenBlock tokenSecond tokenStatus tokened header lenOf statusOf wordsOf change accessUpdate restUpdate validRequest validResponse validCommand validToken words
+unfolding responseNext accessResponse restResponse followed _>>=_ erase orErr pick word outcome byte flag headSeen wordSeen respond lenOf statusOf wordsOf validResponse
 returns c = cc
 
 pub len-spec : {M : Type 1} → statement M

@@ -1,11 +1,8 @@
 -- `valid` meets its contract.
-use Rattle.hardware.specs.Change.{accessUpdate, change, restUpdate, updateNext}
-use Rattle.hardware.specs.Poll.{pollNext}
-use Rattle.hardware.specs.Prog.{_>>=_, erase, followed, orErr, pick}
-use Rattle.hardware.specs.Registers.{byte, flag, outcome, word}
+use Rattle.hardware.specs.Prog.{pick}
 use Rattle.hardware.specs.Runs.{given}
-use Rattle.hostif.specs.Hostif.{accessCommand, accessRequest, accessResponse, accessToken, acquired, both, closed, commandNext, completed, enabled, headSeen, header, hicrRead, lenOf, polling, released, request, requestNext, requested, respond, responseNext, restCommand, restRequest, restResponse, restToken, start, statusOf, tokenBlock, tokenNext, tokenSecond, tokenStatus, tokened, validCommand, validRequest, validResponse, validToken, wordSeen, words, wordsOf}
-use Rattle.sync.specs.Resource.{acquireBitsNext, releaseBitsNext, taken}
+use Rattle.hostif.specs.Hostif.{validResponse, words}
+use Rattle.sync.specs.Resource.{taken}
 use borrow.Author.Needs.{needs}
 use borrow.Author.Tests.{le-ltb, lt-ltb}
 use Rattle.hostif.proofs.response.valid.Statement.{statement}
@@ -28,7 +25,7 @@ unfolding validResponse pick
 returns c = rw (c .before .before .before .s .given .1, ← c .before .words .ensures, lt-ltb _ _ (c .if1 .taken))
 
 returns-2 : tie.Need-returns-2
-unfolding requestNext accessRequest restRequest responseNext accessResponse restResponse commandNext accessCommand restCommand tokenNext accessToken restToken acquireBitsNext releaseBitsNext pollNext updateNext followed _>>=_ erase orErr pick word outcome byte flag completed polling start enabled hicrRead request headSeen wordSeen respond both closed released requested acquired tokenBlock tokenSecond tokenStatus tokened header lenOf statusOf wordsOf change accessUpdate restUpdate validRequest validResponse validCommand validToken words
+unfolding pick validResponse
 returns-2 c = rw (c .enum-told .given .1)
 
 returns-3 : tie.Need-returns-3

@@ -1,5 +1,5 @@
 -- `access` meets its contract.
-use Rattle.hostif.specs.Hostif.{accessCommand, accessRequest, accessResponse, accessToken, command, hicrRead, polling, released, request, restCommand, restRequest, restResponse, restToken, token, tokenBlock, validCommand, validRequest, validResponse, validToken, wordsOf}
+use Rattle.hostif.specs.Hostif.{accessToken}
 use borrow.Author.Needs.{needs}
 use Rattle.hostif.proofs.token.access.Statement.{statement}
 use Rattle.hostif.proofs.token.access.Tie as tie
@@ -11,7 +11,7 @@ access-requires : tie.Need-access-requires
 access-requires c κs = search needs
 
 returns : tie.Need-returns
-unfolding restRequest accessRequest restResponse accessResponse restCommand accessCommand restToken accessToken request hicrRead polling released command token tokenBlock wordsOf validRequest validResponse validCommand validToken
+unfolding accessToken
 returns c = c .access .ensures
 
 pub access-spec : {M : Type 1} → statement M

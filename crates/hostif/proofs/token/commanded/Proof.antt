@@ -1,11 +1,8 @@
 -- `commanded` meets its contract.
-use Rattle.hardware.specs.Change.{accessUpdate, change, restUpdate, updateNext}
-use Rattle.hardware.specs.Poll.{pollNext}
 use Rattle.hardware.specs.Prog.{_>>=_, erase, followed, going, orErr, pick}
 use Rattle.hardware.specs.Registers.{byte, flag, outcome, word}
 use Rattle.hardware.specs.Runs.{given}
-use Rattle.hostif.specs.Hostif.{accessCommand, accessRequest, accessResponse, accessToken, acquired, both, closed, commandNext, completed, enabled, headSeen, header, hicrRead, lenOf, polling, released, request, requestNext, requested, respond, responseNext, restCommand, restRequest, restResponse, restToken, start, statusOf, tokenBlock, tokenNext, tokenSecond, tokenStatus, tokened, validCommand, validRequest, validResponse, validToken, wordSeen, words, wordsOf}
-use Rattle.sync.specs.Resource.{acquireBitsNext, releaseBitsNext}
+use Rattle.hostif.specs.Hostif.{accessToken, commandNext, header, restToken, tokenBlock, tokenNext, tokenSecond, tokenStatus, tokened, validToken}
 use borrow.Author.Needs.{needs}
 use Rattle.hostif.proofs.token.commanded.Statement.{statement}
 use Rattle.hostif.proofs.token.commanded.Tie as tie
@@ -20,11 +17,11 @@ status-requires : tie.Need-status-requires
 status-requires c κs = search needs
 
 returns : tie.Need-returns
-unfolding requestNext accessRequest restRequest responseNext accessResponse restResponse commandNext accessCommand restCommand tokenNext accessToken restToken acquireBitsNext releaseBitsNext pollNext updateNext
+unfolding commandNext tokenNext accessToken restToken
 returns c = rw (c .before .n .given .1) (going _ _ _)
 
 returns-2 : tie.Need-returns-2
-unfolding requestNext accessRequest restRequest responseNext accessResponse restResponse commandNext accessCommand restCommand tokenNext accessToken restToken acquireBitsNext releaseBitsNext pollNext updateNext followed _>>=_ erase orErr pick word outcome byte flag completed polling start enabled hicrRead request headSeen wordSeen respond both closed released requested acquired tokenBlock tokenSecond tokenStatus tokened header lenOf statusOf wordsOf change accessUpdate restUpdate validRequest validResponse validCommand validToken words
+unfolding commandNext tokenNext accessToken restToken followed _>>=_ erase orErr pick word outcome byte flag tokenBlock tokenSecond tokenStatus tokened header validToken
 returns-2 c = rw (c .before .before .n2 .given .1, ← c .status .ensures)
 
 pub commanded-spec : {M : Type 1} → statement M

@@ -1,10 +1,8 @@
 -- `second` meets its contract.
-use Rattle.hardware.specs.Change.{accessUpdate, change, restUpdate, updateNext}
-use Rattle.hardware.specs.Poll.{pollNext}
 use Rattle.hardware.specs.Prog.{_>>=_, erase, followed, orErr, pick}
 use Rattle.hardware.specs.Registers.{byte, flag, outcome, word}
-use Rattle.hostif.specs.Hostif.{accessCommand, accessRequest, accessResponse, accessToken, acquired, both, closed, commandNext, completed, enabled, headSeen, header, hicrRead, lenOf, polling, released, request, requestNext, requested, respond, responseNext, restCommand, restRequest, restResponse, restToken, start, statusOf, tokenBlock, tokenNext, tokenSecond, tokenStatus, tokened, validCommand, validRequest, validResponse, validToken, wordSeen, words, wordsOf}
-use Rattle.sync.specs.Resource.{acquireBitsNext, releaseBitsNext, taken}
+use Rattle.hostif.specs.Hostif.{accessToken, commandNext, header, restToken, tokenBlock, tokenNext, tokenSecond, tokenStatus, tokened, validToken}
+use Rattle.sync.specs.Resource.{taken}
 use borrow.Author.Needs.{needs}
 use Rattle.hostif.proofs.token.second.Statement.{statement}
 use Rattle.hostif.proofs.token.second.Tie as tie
@@ -13,7 +11,7 @@ cast-result : tie.Need-cast-result
 cast-result c = search needs
 
 returns : tie.Need-returns
-unfolding requestNext accessRequest restRequest responseNext accessResponse restResponse commandNext accessCommand restCommand tokenNext accessToken restToken acquireBitsNext releaseBitsNext pollNext updateNext followed _>>=_ erase orErr pick word outcome byte flag completed polling start enabled hicrRead request headSeen wordSeen respond both closed released requested acquired tokenBlock tokenSecond tokenStatus tokened header lenOf statusOf wordsOf change accessUpdate restUpdate validRequest validResponse validCommand validToken words
+unfolding commandNext tokenNext accessToken restToken followed _>>=_ erase orErr pick word outcome byte flag tokenBlock tokenSecond tokenStatus tokened header validToken
 returns c = rw (c .before .if1 .taken)
 
 cast-result-2 : tie.Need-cast-result-2
@@ -23,7 +21,7 @@ add-result : tie.Need-add-result
 add-result c = search needs
 
 returns-2 : tie.Need-returns-2
-unfolding requestNext accessRequest restRequest responseNext accessResponse restResponse commandNext accessCommand restCommand tokenNext accessToken restToken acquireBitsNext releaseBitsNext pollNext updateNext followed _>>=_ erase orErr pick word outcome byte flag completed polling start enabled hicrRead request headSeen wordSeen respond both closed released requested acquired tokenBlock tokenSecond tokenStatus tokened header lenOf statusOf wordsOf change accessUpdate restUpdate validRequest validResponse validCommand validToken words
+unfolding commandNext tokenNext accessToken restToken followed _>>=_ erase orErr pick word outcome byte flag tokenBlock tokenSecond tokenStatus tokened header validToken
 returns-2 c = rw (c .before .if1 .left)
 
 pub second-spec : {M : Type 1} → statement M

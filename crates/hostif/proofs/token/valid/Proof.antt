@@ -1,5 +1,5 @@
 -- `valid` meets its contract.
-use Rattle.hostif.specs.Hostif.{accessCommand, accessRequest, accessResponse, accessToken, command, hicrRead, polling, released, request, restCommand, restRequest, restResponse, restToken, token, tokenBlock, validCommand, validRequest, validResponse, validToken, wordsOf}
+use Rattle.hostif.specs.Hostif.{validToken}
 use borrow.Author.Needs.{needs}
 use Rattle.hostif.proofs.token.valid.Statement.{statement}
 use Rattle.hostif.proofs.token.valid.Tie as tie
@@ -8,7 +8,7 @@ valid-requires : tie.Need-valid-requires
 valid-requires c κs = search needs
 
 returns : tie.Need-returns
-unfolding restRequest accessRequest restResponse accessResponse restCommand accessCommand restToken accessToken request hicrRead polling released command token tokenBlock wordsOf validRequest validResponse validCommand validToken
+unfolding validToken
 returns c = c .valid .ensures
 
 pub valid-spec : {M : Type 1} → statement M

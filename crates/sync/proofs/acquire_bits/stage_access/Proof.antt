@@ -1,10 +1,6 @@
 -- `stage_access` meets its contract.
-use Rattle.hardware.specs.Change.{accessUpdate, change, restUpdate, updateNext}
-use Rattle.hardware.specs.Prog.{_>>=_, erase, followed, orErr, pick}
-use Rattle.hardware.specs.Registers.{outcome, word}
 use Rattle.hardware.specs.Runs.{given}
-use Rattle.sync.specs.Lock.{lockNext, unlockNext}
-use Rattle.sync.specs.Resource.{accessAcquireBits, accessAcquireStage, accessReleaseBits, acquireBitsNext, against, clearBits, cleared, clearing, free, muxed, releaseBits, releaseBitsNext, restAcquireBits, restAcquireStage, restReleaseBits, settle, syncSeen, taken, tryAgain, tryRead, unmuxed, validAcquireBits, validAcquireStage, validReleaseBits}
+use Rattle.sync.specs.Resource.{accessAcquireBits, accessAcquireStage}
 use borrow.Author.Needs.{needs}
 use Rattle.sync.proofs.acquire_bits.stage_access.Statement.{statement}
 use Rattle.sync.proofs.acquire_bits.stage_access.Tie as tie
@@ -61,15 +57,15 @@ delay-ms-requires : tie.Need-delay-ms-requires
 delay-ms-requires c κs = search needs
 
 returns : tie.Need-returns
-unfolding restAcquireStage restAcquireBits accessAcquireStage accessAcquireBits restReleaseBits accessReleaseBits releaseBits unmuxed cleared validAcquireStage validReleaseBits clearBits against
+unfolding accessAcquireStage accessAcquireBits
 returns c = rw (c .before .before .s .given .1) (c .access .ensures)
 
 returns-2 : tie.Need-returns-2
-unfolding acquireBitsNext accessAcquireBits accessAcquireStage restAcquireBits restAcquireStage releaseBitsNext accessReleaseBits restReleaseBits lockNext unlockNext updateNext followed _>>=_ erase orErr pick word outcome taken free muxed syncSeen tryRead tryAgain settle cleared clearing clearBits against unmuxed releaseBits change accessUpdate restUpdate validAcquireStage validAcquireBits validReleaseBits
+unfolding accessAcquireBits accessAcquireStage
 returns-2 c = cc
 
 returns-3 : tie.Need-returns-3
-unfolding restAcquireStage restAcquireBits accessAcquireStage accessAcquireBits restReleaseBits accessReleaseBits releaseBits unmuxed cleared validAcquireStage validReleaseBits clearBits against
+unfolding accessAcquireStage accessAcquireBits
 returns-3 c = rw (c .before .before .s2 .given .1) (c .access2 .ensures)
 
 returns-4 : tie.Need-returns-4
@@ -77,19 +73,19 @@ unfolding accessAcquireStage
 returns-4 c = rw (c .before .before .s3 .given .1, ← c .regs2 .ensures .1)
 
 returns-5 : tie.Need-returns-5
-unfolding restAcquireStage restAcquireBits accessAcquireStage accessAcquireBits restReleaseBits accessReleaseBits releaseBits unmuxed cleared validAcquireStage validReleaseBits clearBits against
+unfolding accessAcquireStage accessAcquireBits
 returns-5 c = rw (c .before .before .s4 .given .1) (c .access3 .ensures)
 
 returns-6 : tie.Need-returns-6
-unfolding restAcquireStage restAcquireBits accessAcquireStage accessAcquireBits restReleaseBits accessReleaseBits releaseBits unmuxed cleared validAcquireStage validReleaseBits clearBits against
+unfolding accessAcquireStage accessAcquireBits
 returns-6 c = rw (c .before .before .before .s5 .given .1, ← c .before .set-mux .ensures) (c .access4 .ensures)
 
 returns-7 : tie.Need-returns-7
-unfolding restAcquireStage restAcquireBits accessAcquireStage accessAcquireBits restReleaseBits accessReleaseBits releaseBits unmuxed cleared validAcquireStage validReleaseBits clearBits against
+unfolding accessAcquireStage accessAcquireBits
 returns-7 c = rw (c .before .before .s6 .given .1) (c .access5 .ensures)
 
 returns-8 : tie.Need-returns-8
-unfolding acquireBitsNext accessAcquireBits accessAcquireStage restAcquireBits restAcquireStage releaseBitsNext accessReleaseBits restReleaseBits lockNext unlockNext updateNext followed _>>=_ erase orErr pick word outcome taken free muxed syncSeen tryRead tryAgain settle cleared clearing clearBits against unmuxed releaseBits change accessUpdate restUpdate validAcquireStage validAcquireBits validReleaseBits
+unfolding accessAcquireBits accessAcquireStage
 returns-8 c = rw (c .before .enum-told2 .given .1, ← c .delay-ms .ensures)
 
 pub stage-access-spec : {M : Type 1} → statement M

@@ -2,7 +2,7 @@
 use Rattle.hardware.specs.Prog.{over}
 use Rattle.hardware.specs.Registers.{read, write}
 use Rattle.hardware.specs.Runs.{given}
-use Rattle.sync.specs.Resource.{accessAcquireBits, accessAcquireStage, accessReleaseBits, against, clearBits, cleared, releaseBits, restAcquireBits, restAcquireStage, restReleaseBits, unmuxed, validAcquireStage, validReleaseBits}
+use Rattle.sync.specs.Resource.{restAcquireBits, restAcquireStage}
 use borrow.Author.Needs.{needs}
 use mathlib.Core.Path.{_∙_}
 use Rattle.sync.proofs.acquire_bits.stage_step.Statement.{statement}
@@ -84,15 +84,15 @@ open-requires-2 : tie.Need-open-requires-2
 open-requires-2 c κs = search needs
 
 returns : tie.Need-returns
-unfolding restAcquireStage restAcquireBits accessAcquireStage accessAcquireBits restReleaseBits accessReleaseBits releaseBits unmuxed cleared validAcquireStage validReleaseBits clearBits against
+unfolding restAcquireStage restAcquireBits
 returns c = rw (c .before .before .before .s .given .1) (over _ _ (c .locking .ensures) (c .before .step .ensures))
 
 returns-2 : tie.Need-returns-2
-unfolding restAcquireStage restAcquireBits accessAcquireStage accessAcquireBits restReleaseBits accessReleaseBits releaseBits unmuxed cleared validAcquireStage validReleaseBits clearBits against
+unfolding restAcquireStage restAcquireBits
 returns-2 c = rw (c .before .before .enum-told .given .1, ← c .before .read .ensures) (c .seen .ensures)
 
 returns-3 : tie.Need-returns-3
-unfolding restAcquireStage restAcquireBits accessAcquireStage accessAcquireBits restReleaseBits accessReleaseBits releaseBits unmuxed cleared validAcquireStage validReleaseBits clearBits against
+unfolding restAcquireStage restAcquireBits
 returns-3 c = rw (c .before .before .before .s2 .given .1) (over _ _ (c .failing .ensures) (c .before .step2 .ensures))
 
 returns-4 : tie.Need-returns-4
@@ -100,19 +100,19 @@ unfolding restAcquireStage
 returns-4 c = rw (c .before .before .before .enum-told2 .given .1, ← c .before .before .write .ensures) (over _ _ (c .taking .ensures) (c .before .«open» .ensures))
 
 returns-5 : tie.Need-returns-5
-unfolding restAcquireStage restAcquireBits accessAcquireStage accessAcquireBits restReleaseBits accessReleaseBits releaseBits unmuxed cleared validAcquireStage validReleaseBits clearBits against
+unfolding restAcquireStage restAcquireBits
 returns-5 c = rw (c .before .before .before .s3 .given .1) (over _ _ (c .taking2 .ensures) (c .before .step3 .ensures))
 
 returns-6 : tie.Need-returns-6
-unfolding restAcquireStage restAcquireBits accessAcquireStage accessAcquireBits restReleaseBits accessReleaseBits releaseBits unmuxed cleared validAcquireStage validReleaseBits clearBits against
+unfolding restAcquireStage restAcquireBits
 returns-6 c = rw (c .before .before .before .before .s4 .given .1) (c .muxing .ensures ∙ (rw (c .before .before .set-mux .ensures) at (c .before .step4 .ensures)))
 
 returns-7 : tie.Need-returns-7
-unfolding restAcquireStage restAcquireBits accessAcquireStage accessAcquireBits restReleaseBits accessReleaseBits releaseBits unmuxed cleared validAcquireStage validReleaseBits clearBits against
+unfolding restAcquireStage restAcquireBits
 returns-7 c = rw (c .before .before .before .s5 .given .1) (over _ _ (c .unlocking .ensures) (c .before .step5 .ensures))
 
 returns-8 : tie.Need-returns-8
-unfolding restAcquireStage restAcquireBits accessAcquireStage accessAcquireBits restReleaseBits accessReleaseBits releaseBits unmuxed cleared validAcquireStage validReleaseBits clearBits against
+unfolding restAcquireStage restAcquireBits
 returns-8 c = rw (c .before .before .s6 .given .1) (c .open2 .ensures)
 
 pub stage-step-spec : {M : Type 1} → statement M

@@ -1,10 +1,7 @@
 -- `stage_valid` meets its contract.
-use Rattle.hardware.specs.Change.{accessUpdate, change, restUpdate, updateNext}
-use Rattle.hardware.specs.Prog.{_>>=_, erase, followed, orErr, pick}
-use Rattle.hardware.specs.Registers.{outcome, word}
+use Rattle.hardware.specs.Prog.{pick}
 use Rattle.hardware.specs.Runs.{given}
-use Rattle.sync.specs.Lock.{lockNext, unlockNext}
-use Rattle.sync.specs.Resource.{accessAcquireBits, accessAcquireStage, accessReleaseBits, acquireBitsNext, against, clearBits, cleared, clearing, free, muxed, releaseBits, releaseBitsNext, restAcquireBits, restAcquireStage, restReleaseBits, settle, syncSeen, taken, tryAgain, tryRead, unmuxed, validAcquireBits, validAcquireStage, validReleaseBits}
+use Rattle.sync.specs.Resource.{validAcquireBits, validAcquireStage}
 use borrow.Author.Needs.{needs}
 use Rattle.sync.proofs.acquire_bits.stage_valid.Statement.{statement}
 use Rattle.sync.proofs.acquire_bits.stage_valid.Tie as tie
@@ -37,35 +34,35 @@ enum-told-7 : tie.Need-enum-told-7
 enum-told-7 c = search needs
 
 returns : tie.Need-returns
-unfolding restAcquireStage restAcquireBits accessAcquireStage accessAcquireBits restReleaseBits accessReleaseBits releaseBits unmuxed cleared validAcquireStage validReleaseBits clearBits against
+unfolding validAcquireStage
 returns c = rw (c .before .before .s .given .1) (c .valid .ensures)
 
 returns-2 : tie.Need-returns-2
-unfolding acquireBitsNext accessAcquireBits accessAcquireStage restAcquireBits restAcquireStage releaseBitsNext accessReleaseBits restReleaseBits lockNext unlockNext updateNext followed _>>=_ erase orErr pick word outcome taken free muxed syncSeen tryRead tryAgain settle cleared clearing clearBits against unmuxed releaseBits change accessUpdate restUpdate validAcquireStage validAcquireBits validReleaseBits
+unfolding pick validAcquireStage validAcquireBits
 returns-2 c = rw (c .enum-told .given .1)
 
 returns-3 : tie.Need-returns-3
-unfolding acquireBitsNext accessAcquireBits accessAcquireStage restAcquireBits restAcquireStage releaseBitsNext accessReleaseBits restReleaseBits lockNext unlockNext updateNext followed _>>=_ erase orErr pick word outcome taken free muxed syncSeen tryRead tryAgain settle cleared clearing clearBits against unmuxed releaseBits change accessUpdate restUpdate validAcquireStage validAcquireBits validReleaseBits
+unfolding pick validAcquireStage validAcquireBits
 returns-3 c = rw (c .enum-told2 .given .1)
 
 returns-4 : tie.Need-returns-4
-unfolding acquireBitsNext accessAcquireBits accessAcquireStage restAcquireBits restAcquireStage releaseBitsNext accessReleaseBits restReleaseBits lockNext unlockNext updateNext followed _>>=_ erase orErr pick word outcome taken free muxed syncSeen tryRead tryAgain settle cleared clearing clearBits against unmuxed releaseBits change accessUpdate restUpdate validAcquireStage validAcquireBits validReleaseBits
+unfolding pick validAcquireStage validAcquireBits
 returns-4 c = rw (c .enum-told3 .given .1)
 
 returns-5 : tie.Need-returns-5
-unfolding acquireBitsNext accessAcquireBits accessAcquireStage restAcquireBits restAcquireStage releaseBitsNext accessReleaseBits restReleaseBits lockNext unlockNext updateNext followed _>>=_ erase orErr pick word outcome taken free muxed syncSeen tryRead tryAgain settle cleared clearing clearBits against unmuxed releaseBits change accessUpdate restUpdate validAcquireStage validAcquireBits validReleaseBits
+unfolding pick validAcquireStage validAcquireBits
 returns-5 c = rw (c .enum-told4 .given .1)
 
 returns-6 : tie.Need-returns-6
-unfolding acquireBitsNext accessAcquireBits accessAcquireStage restAcquireBits restAcquireStage releaseBitsNext accessReleaseBits restReleaseBits lockNext unlockNext updateNext followed _>>=_ erase orErr pick word outcome taken free muxed syncSeen tryRead tryAgain settle cleared clearing clearBits against unmuxed releaseBits change accessUpdate restUpdate validAcquireStage validAcquireBits validReleaseBits
+unfolding pick validAcquireStage validAcquireBits
 returns-6 c = rw (c .enum-told5 .given .1)
 
 returns-7 : tie.Need-returns-7
-unfolding acquireBitsNext accessAcquireBits accessAcquireStage restAcquireBits restAcquireStage releaseBitsNext accessReleaseBits restReleaseBits lockNext unlockNext updateNext followed _>>=_ erase orErr pick word outcome taken free muxed syncSeen tryRead tryAgain settle cleared clearing clearBits against unmuxed releaseBits change accessUpdate restUpdate validAcquireStage validAcquireBits validReleaseBits
+unfolding pick validAcquireStage validAcquireBits
 returns-7 c = rw (c .enum-told6 .given .1)
 
 returns-8 : tie.Need-returns-8
-unfolding acquireBitsNext accessAcquireBits accessAcquireStage restAcquireBits restAcquireStage releaseBitsNext accessReleaseBits restReleaseBits lockNext unlockNext updateNext followed _>>=_ erase orErr pick word outcome taken free muxed syncSeen tryRead tryAgain settle cleared clearing clearBits against unmuxed releaseBits change accessUpdate restUpdate validAcquireStage validAcquireBits validReleaseBits
+unfolding pick validAcquireStage validAcquireBits
 returns-8 c = rw (c .enum-told7 .given .1)
 
 pub stage-valid-spec : {M : Type 1} → statement M

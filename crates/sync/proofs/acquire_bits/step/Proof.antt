@@ -1,5 +1,5 @@
 -- `step` meets its contract.
-use Rattle.sync.specs.Resource.{accessAcquireBits, accessAcquireStage, accessReleaseBits, against, clearBits, cleared, releaseBits, restAcquireBits, restAcquireStage, restReleaseBits, unmuxed, validAcquireStage, validReleaseBits}
+use Rattle.sync.specs.Resource.{restAcquireBits, restAcquireStage}
 use borrow.Author.Needs.{needs}
 use Rattle.sync.proofs.acquire_bits.step.Statement.{statement}
 use Rattle.sync.proofs.acquire_bits.step.Tie as tie
@@ -8,7 +8,7 @@ stage-step-requires : tie.Need-stage-step-requires
 stage-step-requires c κs = search needs
 
 returns : tie.Need-returns
-unfolding restAcquireStage restAcquireBits accessAcquireStage accessAcquireBits restReleaseBits accessReleaseBits releaseBits unmuxed cleared validAcquireStage validReleaseBits clearBits against
+unfolding restAcquireStage restAcquireBits
 returns c = c .stage-step .ensures
 
 pub step-spec : {M : Type 1} → statement M

@@ -5,7 +5,7 @@ use Rattle.hardware.specs.Registers.{outcome, word}
 use Rattle.hardware.specs.Runs.{given}
 use Rattle.sync.specs.Lock.{lockNext, unlockNext}
 use Rattle.sync.specs.Regs.{mux}
-use Rattle.sync.specs.Resource.{accessAcquireBits, accessAcquireStage, accessReleaseBits, acquireBitsNext, against, clearBits, cleared, clearing, free, muxed, releaseBits, releaseBitsNext, restAcquireBits, restAcquireStage, restReleaseBits, settle, syncSeen, taken, tryAgain, tryRead, unmuxed, validAcquireBits, validAcquireStage, validReleaseBits}
+use Rattle.sync.specs.Resource.{accessAcquireBits, accessAcquireStage, acquireBitsNext, against, free, muxed, restAcquireBits, restAcquireStage, syncSeen, taken, tryAgain, tryRead, validAcquireBits, validAcquireStage}
 use borrow.Author.Needs.{needs}
 use Rattle.sync.proofs.acquire_bits.wrote.Statement.{statement}
 use Rattle.sync.proofs.acquire_bits.wrote.Tie as tie
@@ -20,11 +20,11 @@ enum-known-w : tie.Need-enum-known-w
 enum-known-w c = search needs
 
 returns : tie.Need-returns
-unfolding acquireBitsNext accessAcquireBits accessAcquireStage restAcquireBits restAcquireStage releaseBitsNext accessReleaseBits restReleaseBits lockNext unlockNext updateNext followed _>>=_ erase orErr pick word outcome taken free muxed syncSeen tryRead tryAgain settle cleared clearing clearBits against unmuxed releaseBits change accessUpdate restUpdate validAcquireStage validAcquireBits validReleaseBits
+unfolding acquireBitsNext accessAcquireBits accessAcquireStage restAcquireBits restAcquireStage lockNext unlockNext updateNext followed _>>=_ erase orErr pick word outcome taken free muxed syncSeen tryRead tryAgain against change accessUpdate restUpdate validAcquireStage validAcquireBits
 returns c = rw (c .before .enum-told .given .1) (c .mux .ensures)
 
 returns-2 : tie.Need-returns-2
-unfolding acquireBitsNext accessAcquireBits accessAcquireStage restAcquireBits restAcquireStage releaseBitsNext accessReleaseBits restReleaseBits lockNext unlockNext updateNext followed _>>=_ erase orErr pick word outcome taken free muxed syncSeen tryRead tryAgain settle cleared clearing clearBits against unmuxed releaseBits change accessUpdate restUpdate validAcquireStage validAcquireBits validReleaseBits
+unfolding acquireBitsNext accessAcquireBits accessAcquireStage restAcquireBits restAcquireStage lockNext unlockNext updateNext followed _>>=_ erase orErr pick word outcome taken free muxed syncSeen tryRead tryAgain against change accessUpdate restUpdate validAcquireStage validAcquireBits
 returns-2 c = rw (c .before .w .given .1)
 
 pub wrote-spec : {M : Type 1} → statement M

@@ -1,6 +1,6 @@
 -- `access` meets its contract.
 use Rattle.hardware.specs.Runs.{given}
-use Rattle.sync.specs.Lock.{accessLock, accessSwesmbi, accessUnlock, lock, restLock, restSwesmbi, restUnlock, second, swesmbiCheck, unlock, validLock, validSwesmbi}
+use Rattle.sync.specs.Lock.{accessLock}
 use borrow.Author.Needs.{needs}
 use Rattle.sync.proofs.lock.access.Statement.{statement}
 use Rattle.sync.proofs.lock.access.Tie as tie
@@ -39,19 +39,19 @@ access-requires-4 : tie.Need-access-requires-4
 access-requires-4 c κs = search needs
 
 returns : tie.Need-returns
-unfolding restSwesmbi accessSwesmbi restLock accessLock restUnlock accessUnlock lock second unlock validLock validSwesmbi swesmbiCheck
+unfolding accessLock
 returns c = rw (c .before .before .before .s .given .1, ← c .before .smbi .ensures) (c .access .ensures)
 
 returns-2 : tie.Need-returns-2
-unfolding restSwesmbi accessSwesmbi restLock accessLock restUnlock accessUnlock lock second unlock validLock validSwesmbi swesmbiCheck
+unfolding accessLock
 returns-2 c = rw (c .before .before .s2 .given .1) (c .access2 .ensures)
 
 returns-3 : tie.Need-returns-3
-unfolding restSwesmbi accessSwesmbi restLock accessLock restUnlock accessUnlock lock second unlock validLock validSwesmbi swesmbiCheck
+unfolding accessLock
 returns-3 c = rw (c .before .before .before .s3 .given .1, ← c .before .regsmp .ensures) (c .access3 .ensures)
 
 returns-4 : tie.Need-returns-4
-unfolding restSwesmbi accessSwesmbi restLock accessLock restUnlock accessUnlock lock second unlock validLock validSwesmbi swesmbiCheck
+unfolding accessLock
 returns-4 c = rw (c .before .before .before .s4 .given .1, ← c .before .back .ensures) (c .access4 .ensures)
 
 pub access-spec : {M : Type 1} → statement M

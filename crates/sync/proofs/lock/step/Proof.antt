@@ -1,7 +1,7 @@
 -- `step` meets its contract.
 use Rattle.hardware.specs.Prog.{over}
 use Rattle.hardware.specs.Runs.{given}
-use Rattle.sync.specs.Lock.{accessLock, accessSwesmbi, accessUnlock, lock, restLock, restSwesmbi, restUnlock, second, swesmbi, swesmbiCheck, unlock, validLock, validSwesmbi}
+use Rattle.sync.specs.Lock.{lock, restLock, second, swesmbi}
 use borrow.Author.Needs.{needs}
 use Rattle.sync.proofs.lock.step.Statement.{statement}
 use Rattle.sync.proofs.lock.step.Tie as tie
@@ -56,15 +56,15 @@ unfolding restLock
 returns c = rw (c .before .before .before .before .s .given .1) (over _ _ (c .smbi2 .ensures) (rw (c .before .before .smbi .ensures) at (c .before .step .ensures)))
 
 returns-2 : tie.Need-returns-2
-unfolding restSwesmbi accessSwesmbi restLock accessLock restUnlock accessUnlock lock second unlock validLock validSwesmbi swesmbiCheck
+unfolding restLock lock second
 returns-2 c = rw (c .before .before .before .s2 .given .1) (over _ _ (c .swesmbi .ensures) (c .before .step2 .ensures))
 
 returns-3 : tie.Need-returns-3
-unfolding restSwesmbi accessSwesmbi restLock accessLock restUnlock accessUnlock lock second unlock validLock validSwesmbi swesmbiCheck
+unfolding restLock lock second
 returns-3 c = rw (c .before .before .before .before .s3 .given .1) (over _ _ (c .regsmp2 .ensures) (rw (c .before .before .regsmp .ensures) at (c .before .step3 .ensures)))
 
 returns-4 : tie.Need-returns-4
-unfolding restSwesmbi accessSwesmbi restLock accessLock restUnlock accessUnlock lock second unlock validLock validSwesmbi swesmbiCheck
+unfolding restLock lock second
 returns-4 c = rw (c .before .before .before .before .s4 .given .1) (over _ _ (c .back2 .ensures) (rw (c .before .before .back .ensures) at (c .before .step4 .ensures)))
 
 pub step-spec : {M : Type 1} → statement M

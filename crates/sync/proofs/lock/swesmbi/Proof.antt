@@ -1,11 +1,10 @@
 -- `swesmbi` meets its contract.
-use Rattle.hardware.specs.Change.{change, stored, updateNext}
+use Rattle.hardware.specs.Change.{change, updateNext}
 use Rattle.hardware.specs.Poll.{pollNext}
 use Rattle.hardware.specs.Prog.{_>>=_, erase, followed, going, orErr, pick}
 use Rattle.hardware.specs.Registers.{flag, outcome, word}
 use Rattle.hardware.specs.Runs.{given}
-use Rattle.sync.specs.Lock.{accessLock, accessSwesmbi, accessUnlock, lapsed, lock, lockNext, regsmpDone, restLock, restSwesmbi, restUnlock, second, smbiDone, swesmbiCheck, swesmbiDone, swesmbiNext, swesmbiSeen, unlock, unlockNext, validLock, validSwesmbi}
-use Rattle.sync.specs.Regs.{backSwsm, bits, bits82599, bitsX540, clearSync, mux, phy, regsmpWatch, releaseUs, setMux, setSwesmbi, smbiWatch, swFwSync, swsm}
+use Rattle.sync.specs.Lock.{accessLock, lapsed, lock, lockNext, regsmpDone, restLock, second, smbiDone, swesmbiDone, swesmbiNext, validLock}
 use borrow.Author.Needs.{needs}
 use Rattle.sync.proofs.lock.swesmbi.Statement.{statement}
 use Rattle.sync.proofs.lock.swesmbi.Tie as tie
@@ -20,11 +19,11 @@ swesmbi-done-requires : tie.Need-swesmbi-done-requires
 swesmbi-done-requires c κs = search needs
 
 returns : tie.Need-returns
-unfolding restSwesmbi accessSwesmbi swesmbiNext restLock accessLock lockNext restUnlock accessUnlock unlockNext pollNext updateNext
+unfolding swesmbiNext restLock accessLock lockNext pollNext updateNext
 returns c = rw (c .before .n .given .1) (going _ _ _)
 
 returns-2 : tie.Need-returns-2
-unfolding restSwesmbi accessSwesmbi swesmbiNext restLock accessLock lockNext restUnlock accessUnlock unlockNext lock second unlock lapsed smbiDone swesmbiDone regsmpDone swesmbiSeen swesmbiCheck validLock validSwesmbi followed _>>=_ erase orErr pick word outcome flag pollNext updateNext phy swsm swFwSync bits82599 bitsX540 bits mux smbiWatch regsmpWatch backSwsm clearSync setMux releaseUs setSwesmbi change stored
+unfolding swesmbiNext restLock accessLock lockNext lock second lapsed smbiDone swesmbiDone regsmpDone validLock followed _>>=_ erase orErr pick word outcome flag pollNext updateNext change
 returns-2 c = rw (c .before .before .n2 .given .1) (c .swesmbi-done .ensures)
 
 pub swesmbi-spec : {M : Type 1} → statement M

@@ -1,11 +1,7 @@
 -- `valid` meets its contract.
-use Rattle.hardware.specs.Change.{change, stored, updateNext}
-use Rattle.hardware.specs.Poll.{pollNext}
-use Rattle.hardware.specs.Prog.{_>>=_, erase, followed, orErr, pick}
-use Rattle.hardware.specs.Registers.{flag, outcome, word}
+use Rattle.hardware.specs.Prog.{pick}
 use Rattle.hardware.specs.Runs.{given}
-use Rattle.sync.specs.Lock.{accessLock, accessSwesmbi, accessUnlock, lapsed, lock, lockNext, regsmpDone, restLock, restSwesmbi, restUnlock, second, smbiDone, swesmbiCheck, swesmbiDone, swesmbiNext, swesmbiSeen, unlock, unlockNext, validLock, validSwesmbi}
-use Rattle.sync.specs.Regs.{backSwsm, bits, bits82599, bitsX540, clearSync, mux, phy, regsmpWatch, releaseUs, setMux, setSwesmbi, smbiWatch, swFwSync, swsm}
+use Rattle.sync.specs.Lock.{validLock}
 use borrow.Author.Needs.{needs}
 use Rattle.sync.proofs.lock.valid.Statement.{statement}
 use Rattle.sync.proofs.lock.valid.Tie as tie
@@ -32,19 +28,19 @@ enum-told : tie.Need-enum-told
 enum-told c = search needs
 
 returns : tie.Need-returns
-unfolding restSwesmbi accessSwesmbi restLock accessLock restUnlock accessUnlock lock second unlock validLock validSwesmbi swesmbiCheck
+unfolding validLock
 returns c = rw (c .before .before .s .given .1) (c .valid .ensures)
 
 returns-2 : tie.Need-returns-2
-unfolding restSwesmbi accessSwesmbi restLock accessLock restUnlock accessUnlock lock second unlock validLock validSwesmbi swesmbiCheck
+unfolding validLock
 returns-2 c = rw (c .before .before .s2 .given .1) (c .valid2 .ensures)
 
 returns-3 : tie.Need-returns-3
-unfolding restSwesmbi accessSwesmbi restLock accessLock restUnlock accessUnlock lock second unlock validLock validSwesmbi swesmbiCheck
+unfolding validLock
 returns-3 c = rw (c .before .before .s3 .given .1) (c .valid3 .ensures)
 
 returns-4 : tie.Need-returns-4
-unfolding restSwesmbi accessSwesmbi swesmbiNext restLock accessLock lockNext restUnlock accessUnlock unlockNext lock second unlock lapsed smbiDone swesmbiDone regsmpDone swesmbiSeen swesmbiCheck validLock validSwesmbi followed _>>=_ erase orErr pick word outcome flag pollNext updateNext phy swsm swFwSync bits82599 bitsX540 bits mux smbiWatch regsmpWatch backSwsm clearSync setMux releaseUs setSwesmbi change stored
+unfolding validLock pick
 returns-4 c = rw (c .enum-told .given .1)
 
 pub valid-spec : {M : Type 1} → statement M

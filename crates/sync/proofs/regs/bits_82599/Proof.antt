@@ -1,12 +1,10 @@
 -- `bits_82599` meets its contract.
-use Rattle.hardware.specs.Change.{change, stored, updateNext}
-use Rattle.hardware.specs.Poll.{pollNext}
-use Rattle.hardware.specs.Prog.{_>>=_, erase, followed, orErr, pick}
-use Rattle.hardware.specs.Registers.{flag, outcome, word}
-use Rattle.sync.specs.Lock.{accessLock, accessSwesmbi, accessUnlock, lapsed, lock, lockNext, regsmpDone, restLock, restSwesmbi, restUnlock, second, smbiDone, swesmbiCheck, swesmbiDone, swesmbiNext, swesmbiSeen, unlock, unlockNext, validLock, validSwesmbi}
-use Rattle.sync.specs.Regs.{backSwsm, bits, bits82599, bitsX540, clearSync, mux, phy, regsmpWatch, releaseUs, setMux, setSwesmbi, smbiWatch, swFwSync, swsm}
+use Rattle.hardware.specs.Prog.{pick}
+use Rattle.sync.specs.Regs.{bits82599}
 use lib.Bits.{and-le-r}
 use native.Mathlib.Omega.{arith}
+use lib.Bits.{and-le-r}
+use lib.Bits.{and-le-r}
 use lib.Bits.{and-le-r}
 use lib.Bits.{and-le-r}
 use lib.Bits.{and-le-r}
@@ -19,7 +17,7 @@ mul-t3 : tie.Need-mul-t3
 mul-t3 c = omega (arith, and-le-r (c .args .mask) 31)
 
 returns : tie.Need-returns
-unfolding restSwesmbi accessSwesmbi swesmbiNext restLock accessLock lockNext restUnlock accessUnlock unlockNext lock second unlock lapsed smbiDone swesmbiDone regsmpDone swesmbiSeen swesmbiCheck validLock validSwesmbi followed _>>=_ erase orErr pick word outcome flag pollNext updateNext phy swsm swFwSync bits82599 bitsX540 bits mux smbiWatch regsmpWatch backSwsm clearSync setMux releaseUs setSwesmbi change stored
+unfolding pick bits82599
 returns c = cc
 
 pub bits-82599-spec : {M : Type 1} → statement M

@@ -1,10 +1,6 @@
 -- `clear_sync` meets its contract.
-use Rattle.hardware.specs.Change.{change, stored, updateNext}
-use Rattle.hardware.specs.Poll.{pollNext}
-use Rattle.hardware.specs.Prog.{_>>=_, erase, followed, orErr, pick}
-use Rattle.hardware.specs.Registers.{flag, outcome, word}
-use Rattle.sync.specs.Lock.{accessLock, accessSwesmbi, accessUnlock, lapsed, lock, lockNext, regsmpDone, restLock, restSwesmbi, restUnlock, second, smbiDone, swesmbiCheck, swesmbiDone, swesmbiNext, swesmbiSeen, unlock, unlockNext, validLock, validSwesmbi}
-use Rattle.sync.specs.Regs.{backSwsm, bits, bits82599, bitsX540, clearSync, mux, phy, regsmpWatch, releaseUs, setMux, setSwesmbi, smbiWatch, swFwSync, swsm}
+use Rattle.hardware.specs.Prog.{pick}
+use Rattle.sync.specs.Regs.{clearSync}
 use borrow.Author.Needs.{needs}
 use Rattle.sync.proofs.regs.clear_sync.Statement.{statement}
 use Rattle.sync.proofs.regs.clear_sync.Tie as tie
@@ -13,7 +9,7 @@ regs-requires : tie.Need-regs-requires
 regs-requires c κs = search needs
 
 returns : tie.Need-returns
-unfolding restSwesmbi accessSwesmbi swesmbiNext restLock accessLock lockNext restUnlock accessUnlock unlockNext lock second unlock lapsed smbiDone swesmbiDone regsmpDone swesmbiSeen swesmbiCheck validLock validSwesmbi followed _>>=_ erase orErr pick word outcome flag pollNext updateNext phy swsm swFwSync bits82599 bitsX540 bits mux smbiWatch regsmpWatch backSwsm clearSync setMux releaseUs setSwesmbi change stored
+unfolding pick clearSync
 returns c = cc
 
 pub clear-sync-spec : {M : Type 1} → statement M

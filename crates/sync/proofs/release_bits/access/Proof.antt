@@ -1,10 +1,7 @@
 -- `access` meets its contract.
-use Rattle.hardware.specs.Change.{accessUpdate, change, restUpdate, updateNext}
-use Rattle.hardware.specs.Prog.{_>>=_, erase, followed, orErr, pick}
-use Rattle.hardware.specs.Registers.{outcome, word}
+use Rattle.hardware.specs.Change.{change}
 use Rattle.hardware.specs.Runs.{given}
-use Rattle.sync.specs.Lock.{lockNext, unlockNext}
-use Rattle.sync.specs.Resource.{accessAcquireBits, accessAcquireStage, accessReleaseBits, acquireBitsNext, against, clearBits, cleared, clearing, free, muxed, releaseBits, releaseBitsNext, restAcquireBits, restAcquireStage, restReleaseBits, settle, syncSeen, taken, tryAgain, tryRead, unmuxed, validAcquireBits, validAcquireStage, validReleaseBits}
+use Rattle.sync.specs.Resource.{accessReleaseBits}
 use borrow.Author.Needs.{needs}
 use Rattle.sync.proofs.release_bits.access.Statement.{statement}
 use Rattle.sync.proofs.release_bits.access.Tie as tie
@@ -46,23 +43,23 @@ release-us-requires : tie.Need-release-us-requires
 release-us-requires c κs = search needs
 
 returns : tie.Need-returns
-unfolding restAcquireStage restAcquireBits accessAcquireStage accessAcquireBits restReleaseBits accessReleaseBits releaseBits unmuxed cleared validAcquireStage validReleaseBits clearBits against
+unfolding accessReleaseBits
 returns c = rw (c .before .before .before .s .given .1, ← c .before .set-mux .ensures) (c .access .ensures)
 
 returns-2 : tie.Need-returns-2
-unfolding restAcquireStage restAcquireBits accessAcquireStage accessAcquireBits restReleaseBits accessReleaseBits releaseBits unmuxed cleared validAcquireStage validReleaseBits clearBits against
+unfolding accessReleaseBits
 returns-2 c = rw (c .before .before .s2 .given .1) (c .access2 .ensures)
 
 returns-3 : tie.Need-returns-3
-unfolding restAcquireStage restAcquireBits accessAcquireStage accessAcquireBits restReleaseBits accessReleaseBits releaseBits unmuxed cleared validAcquireStage validReleaseBits clearBits against
+unfolding accessReleaseBits
 returns-3 c = rw (c .before .before .before .s3 .given .1, ← c .before .change .ensures) (c .access3 .ensures)
 
 returns-4 : tie.Need-returns-4
-unfolding restAcquireStage restAcquireBits accessAcquireStage accessAcquireBits restReleaseBits accessReleaseBits releaseBits unmuxed cleared validAcquireStage validReleaseBits clearBits against
+unfolding accessReleaseBits
 returns-4 c = rw (c .before .before .s4 .given .1) (c .access4 .ensures)
 
 returns-5 : tie.Need-returns-5
-unfolding acquireBitsNext accessAcquireBits accessAcquireStage restAcquireBits restAcquireStage releaseBitsNext accessReleaseBits restReleaseBits lockNext unlockNext updateNext followed _>>=_ erase orErr pick word outcome taken free muxed syncSeen tryRead tryAgain settle cleared clearing clearBits against unmuxed releaseBits change accessUpdate restUpdate validAcquireStage validAcquireBits validReleaseBits
+unfolding accessReleaseBits
 returns-5 c = rw (c .before .enum-told .given .1, ← c .release-us .ensures)
 
 pub access-spec : {M : Type 1} → statement M

@@ -1,6 +1,6 @@
 -- `clear_done` meets its contract.
 use Rattle.hardware.specs.Prog.{over}
-use Rattle.sync.specs.Resource.{accessAcquireBits, accessAcquireStage, accessReleaseBits, against, clearBits, cleared, releaseBits, restAcquireBits, restAcquireStage, restReleaseBits, unmuxed, validAcquireStage, validReleaseBits}
+use Rattle.sync.specs.Resource.{cleared, releaseBits, restReleaseBits, unmuxed}
 use borrow.Author.Needs.{needs}
 use Rattle.sync.proofs.release_bits.clear_done.Statement.{statement}
 use Rattle.sync.proofs.release_bits.clear_done.Tie as tie
@@ -12,7 +12,7 @@ unlocking-requires : tie.Need-unlocking-requires
 unlocking-requires c κs = search needs
 
 returns : tie.Need-returns
-unfolding restAcquireStage restAcquireBits accessAcquireStage accessAcquireBits restReleaseBits accessReleaseBits releaseBits unmuxed cleared validAcquireStage validReleaseBits clearBits against
+unfolding restReleaseBits releaseBits unmuxed cleared
 returns c = over _ _ (c .unlocking .ensures) (c .before .«open» .ensures)
 
 pub clear-done-spec : {M : Type 1} → statement M

@@ -4,7 +4,7 @@ use Rattle.hardware.specs.Prog.{_>>=_, erase, followed, orErr, pick}
 use Rattle.hardware.specs.Registers.{outcome, word}
 use Rattle.sync.specs.Lock.{lock, lockNext, unlockNext}
 use Rattle.sync.specs.Regs.{mux}
-use Rattle.sync.specs.Resource.{accessAcquireBits, accessAcquireStage, accessReleaseBits, acquireBitsNext, against, clearBits, cleared, clearing, free, muxed, releaseBits, releaseBitsNext, restAcquireBits, restAcquireStage, restReleaseBits, settle, syncSeen, taken, tryAgain, tryRead, unmuxed, validAcquireBits, validAcquireStage, validReleaseBits}
+use Rattle.sync.specs.Resource.{accessReleaseBits, clearBits, cleared, clearing, muxed, releaseBits, releaseBitsNext, restReleaseBits, settle, taken, unmuxed, validReleaseBits}
 use borrow.Author.Needs.{needs}
 use Rattle.sync.proofs.release_bits.open.Statement.{statement}
 use Rattle.sync.proofs.release_bits.open.Tie as tie
@@ -13,14 +13,14 @@ mux-requires : tie.Need-mux-requires
 mux-requires c κs = search needs
 
 returns : tie.Need-returns
-unfolding acquireBitsNext accessAcquireBits accessAcquireStage restAcquireBits restAcquireStage releaseBitsNext accessReleaseBits restReleaseBits lockNext unlockNext updateNext followed _>>=_ erase orErr pick word outcome taken free muxed syncSeen tryRead tryAgain settle cleared clearing clearBits against unmuxed releaseBits change accessUpdate restUpdate validAcquireStage validAcquireBits validReleaseBits
+unfolding releaseBitsNext accessReleaseBits restReleaseBits lockNext unlockNext updateNext followed _>>=_ erase orErr pick word outcome muxed settle cleared clearing clearBits unmuxed releaseBits change accessUpdate restUpdate validReleaseBits
 returns c = rw (← c .before .mux .ensures, c .if1 .taken)
 
 lock-requires : tie.Need-lock-requires
 lock-requires c κs = search needs
 
 returns-2 : tie.Need-returns-2
-unfolding acquireBitsNext accessAcquireBits accessAcquireStage restAcquireBits restAcquireStage releaseBitsNext accessReleaseBits restReleaseBits lockNext unlockNext updateNext followed _>>=_ erase orErr pick word outcome taken free muxed syncSeen tryRead tryAgain settle cleared clearing clearBits against unmuxed releaseBits change accessUpdate restUpdate validAcquireStage validAcquireBits validReleaseBits
+unfolding releaseBitsNext accessReleaseBits restReleaseBits lockNext unlockNext updateNext followed _>>=_ erase orErr pick word outcome muxed settle cleared clearing clearBits unmuxed releaseBits change accessUpdate restUpdate validReleaseBits
 returns-2 c = rw (← c .before .before .mux .ensures, c .before .if1 .left) (c .lock .ensures)
 
 pub open-spec : {M : Type 1} → statement M

@@ -55,19 +55,19 @@ enum-told : tie.Need-enum-told
 enum-told c = search needs
 
 returns : tie.Need-returns
-unfolding restAcquireStage restAcquireBits accessAcquireStage accessAcquireBits restReleaseBits accessReleaseBits releaseBits unmuxed cleared validAcquireStage validReleaseBits clearBits against
+unfolding restReleaseBits releaseBits unmuxed cleared
 returns c = rw (c .before .before .before .before .s .given .1) (over _ _ (c .muxing .ensures) (rw (c .before .before .set-mux .ensures) at (c .before .step .ensures)))
 
 returns-2 : tie.Need-returns-2
-unfolding restAcquireStage restAcquireBits accessAcquireStage accessAcquireBits restReleaseBits accessReleaseBits releaseBits unmuxed cleared validAcquireStage validReleaseBits clearBits against
+unfolding restReleaseBits releaseBits unmuxed cleared
 returns-2 c = rw (c .before .before .before .s2 .given .1) (over _ _ (c .locking .ensures) (c .before .step2 .ensures))
 
 returns-3 : tie.Need-returns-3
-unfolding restAcquireStage restAcquireBits accessAcquireStage accessAcquireBits restReleaseBits accessReleaseBits releaseBits unmuxed cleared validAcquireStage validReleaseBits clearBits against
+unfolding restReleaseBits releaseBits unmuxed cleared
 returns-3 c = rw (c .before .before .before .before .s3 .given .1) (over _ _ (c .clearing .ensures) (rw (c .before .before .change .ensures) at (c .before .step3 .ensures)))
 
 returns-4 : tie.Need-returns-4
-unfolding restAcquireStage restAcquireBits accessAcquireStage accessAcquireBits restReleaseBits accessReleaseBits releaseBits unmuxed cleared validAcquireStage validReleaseBits clearBits against
+unfolding restReleaseBits releaseBits unmuxed cleared
 returns-4 c = rw (c .before .before .before .s4 .given .1) (over _ _ (c .unlocking .ensures) (c .before .step4 .ensures))
 
 returns-5 : tie.Need-returns-5

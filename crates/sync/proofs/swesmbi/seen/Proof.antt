@@ -1,11 +1,9 @@
 -- `seen` meets its contract.
-use Rattle.hardware.specs.Change.{change, stored, updateNext}
-use Rattle.hardware.specs.Poll.{pollNext}
+use Rattle.hardware.specs.Change.{updateNext}
 use Rattle.hardware.specs.Prog.{_>>=_, erase, followed, orErr, pick}
 use Rattle.hardware.specs.Registers.{flag, outcome, word}
 use Rattle.hardware.specs.Runs.{given}
-use Rattle.sync.specs.Lock.{accessLock, accessSwesmbi, accessUnlock, lapsed, lock, lockNext, regsmpDone, restLock, restSwesmbi, restUnlock, second, smbiDone, swesmbiCheck, swesmbiDone, swesmbiNext, swesmbiSeen, unlock, unlockNext, validLock, validSwesmbi}
-use Rattle.sync.specs.Regs.{backSwsm, bits, bits82599, bitsX540, clearSync, mux, phy, regsmpWatch, releaseUs, setMux, setSwesmbi, smbiWatch, swFwSync, swsm}
+use Rattle.sync.specs.Lock.{accessSwesmbi, restSwesmbi, swesmbiCheck, swesmbiNext, swesmbiSeen, validSwesmbi}
 use Rattle.sync.specs.Resource.{taken}
 use borrow.Author.Needs.{needs}
 use Rattle.sync.proofs.swesmbi.seen.Statement.{statement}
@@ -18,18 +16,18 @@ none-of-requires : tie.Need-none-of-requires
 none-of-requires c κs = search needs
 
 returns : tie.Need-returns
-unfolding restSwesmbi accessSwesmbi swesmbiNext restLock accessLock lockNext restUnlock accessUnlock unlockNext lock second unlock lapsed smbiDone swesmbiDone regsmpDone swesmbiSeen swesmbiCheck validLock validSwesmbi followed _>>=_ erase orErr pick word outcome flag pollNext updateNext phy swsm swFwSync bits82599 bitsX540 bits mux smbiWatch regsmpWatch backSwsm clearSync setMux releaseUs setSwesmbi change stored
+unfolding restSwesmbi accessSwesmbi swesmbiNext swesmbiSeen swesmbiCheck validSwesmbi followed _>>=_ erase orErr pick word outcome flag updateNext
 returns c = rw (c .before .before .before .w .given .1, ← c .before .none-of .ensures, c .if1 .taken)
 
 enum-known-w-2 : tie.Need-enum-known-w-2
 enum-known-w-2 c = search needs
 
 returns-2 : tie.Need-returns-2
-unfolding restSwesmbi accessSwesmbi swesmbiNext restLock accessLock lockNext restUnlock accessUnlock unlockNext lock second unlock lapsed smbiDone swesmbiDone regsmpDone swesmbiSeen swesmbiCheck validLock validSwesmbi followed _>>=_ erase orErr pick word outcome flag pollNext updateNext phy swsm swFwSync bits82599 bitsX540 bits mux smbiWatch regsmpWatch backSwsm clearSync setMux releaseUs setSwesmbi change stored
+unfolding restSwesmbi accessSwesmbi swesmbiNext swesmbiSeen swesmbiCheck validSwesmbi followed _>>=_ erase orErr pick word outcome flag updateNext
 returns-2 c = rw (c .before .before .before .w .given .1, ← c .before .none-of .ensures, c .if1 .left)
 
 returns-3 : tie.Need-returns-3
-unfolding restSwesmbi accessSwesmbi swesmbiNext restLock accessLock lockNext restUnlock accessUnlock unlockNext lock second unlock lapsed smbiDone swesmbiDone regsmpDone swesmbiSeen swesmbiCheck validLock validSwesmbi followed _>>=_ erase orErr pick word outcome flag pollNext updateNext phy swsm swFwSync bits82599 bitsX540 bits mux smbiWatch regsmpWatch backSwsm clearSync setMux releaseUs setSwesmbi change stored
+unfolding restSwesmbi accessSwesmbi swesmbiNext swesmbiSeen swesmbiCheck validSwesmbi followed _>>=_ erase orErr pick word outcome flag updateNext
 returns-3 c = rw (c .before .w2 .given .1)
 
 pub seen-spec : {M : Type 1} → statement M

@@ -1,11 +1,9 @@
 -- `set` meets its contract.
-use Rattle.hardware.specs.Change.{change, stored, updateNext}
-use Rattle.hardware.specs.Poll.{pollNext}
+use Rattle.hardware.specs.Change.{updateNext}
 use Rattle.hardware.specs.Prog.{_>>=_, erase, followed, going, orErr, pick}
 use Rattle.hardware.specs.Registers.{flag, outcome, word}
 use Rattle.hardware.specs.Runs.{given}
-use Rattle.sync.specs.Lock.{accessLock, accessSwesmbi, accessUnlock, lapsed, lock, lockNext, regsmpDone, restLock, restSwesmbi, restUnlock, second, smbiDone, swesmbiCheck, swesmbiDone, swesmbiNext, swesmbiSeen, unlock, unlockNext, validLock, validSwesmbi}
-use Rattle.sync.specs.Regs.{backSwsm, bits, bits82599, bitsX540, clearSync, mux, phy, regsmpWatch, releaseUs, setMux, setSwesmbi, smbiWatch, swFwSync, swsm}
+use Rattle.sync.specs.Lock.{accessSwesmbi, restSwesmbi, swesmbiCheck, swesmbiNext, swesmbiSeen, validSwesmbi}
 use borrow.Author.Needs.{needs}
 use Rattle.sync.proofs.swesmbi.set.Statement.{statement}
 use Rattle.sync.proofs.swesmbi.set.Tie as tie
@@ -23,15 +21,15 @@ enum-known-o : tie.Need-enum-known-o
 enum-known-o c = search needs
 
 returns : tie.Need-returns
-unfolding restSwesmbi accessSwesmbi swesmbiNext restLock accessLock lockNext restUnlock accessUnlock unlockNext pollNext updateNext
+unfolding restSwesmbi accessSwesmbi swesmbiNext updateNext
 returns c = rw (c .before .n .given .1) (going _ _ _)
 
 returns-2 : tie.Need-returns-2
-unfolding restSwesmbi accessSwesmbi swesmbiNext restLock accessLock lockNext restUnlock accessUnlock unlockNext lock second unlock lapsed smbiDone swesmbiDone regsmpDone swesmbiSeen swesmbiCheck validLock validSwesmbi followed _>>=_ erase orErr pick word outcome flag pollNext updateNext phy swsm swFwSync bits82599 bitsX540 bits mux smbiWatch regsmpWatch backSwsm clearSync setMux releaseUs setSwesmbi change stored
+unfolding restSwesmbi accessSwesmbi swesmbiNext swesmbiSeen swesmbiCheck validSwesmbi followed _>>=_ erase orErr pick word outcome flag updateNext
 returns-2 c = rw (c .before .before .before .n2 .given .1, c .enum-told .given .1)
 
 returns-3 : tie.Need-returns-3
-unfolding restSwesmbi accessSwesmbi swesmbiNext restLock accessLock lockNext restUnlock accessUnlock unlockNext lock second unlock lapsed smbiDone swesmbiDone regsmpDone swesmbiSeen swesmbiCheck validLock validSwesmbi followed _>>=_ erase orErr pick word outcome flag pollNext updateNext phy swsm swFwSync bits82599 bitsX540 bits mux smbiWatch regsmpWatch backSwsm clearSync setMux releaseUs setSwesmbi change stored
+unfolding restSwesmbi accessSwesmbi swesmbiNext swesmbiSeen swesmbiCheck validSwesmbi followed _>>=_ erase orErr pick word outcome flag updateNext
 returns-3 c = rw (c .before .before .before .before .n2 .given .1, c .before .o .given .1)
 
 pub set-spec : {M : Type 1} → statement M

@@ -2,7 +2,7 @@
 use Rattle.hardware.specs.Prog.{fed, over}
 use Rattle.hardware.specs.Registers.{read}
 use Rattle.hardware.specs.Runs.{given}
-use Rattle.sync.specs.Lock.{accessLock, accessSwesmbi, accessUnlock, lock, restLock, restSwesmbi, restUnlock, second, swesmbiCheck, unlock, validLock, validSwesmbi}
+use Rattle.sync.specs.Lock.{restSwesmbi, swesmbiCheck}
 use borrow.Author.Needs.{needs}
 use Rattle.sync.proofs.swesmbi.step.Statement.{statement}
 use Rattle.sync.proofs.swesmbi.step.Tie as tie
@@ -35,15 +35,15 @@ open-requires : tie.Need-open-requires
 open-requires c κs = search needs
 
 returns : tie.Need-returns
-unfolding restSwesmbi accessSwesmbi restLock accessLock restUnlock accessUnlock lock second unlock validLock validSwesmbi swesmbiCheck
+unfolding restSwesmbi swesmbiCheck
 returns c = rw (c .before .before .before .before .s .given .1) (over _ _ (c .set .ensures) (rw (c .before .before .setting .ensures) at (c .before .step .ensures)))
 
 returns-2 : tie.Need-returns-2
-unfolding restSwesmbi accessSwesmbi restLock accessLock restUnlock accessUnlock lock second unlock validLock validSwesmbi swesmbiCheck
+unfolding restSwesmbi swesmbiCheck
 returns-2 c = rw (c .before .before .before .s2 .given .1) (fed _ (c .seen .ensures) (c .before .read .ensures))
 
 returns-3 : tie.Need-returns-3
-unfolding restSwesmbi accessSwesmbi restLock accessLock restUnlock accessUnlock lock second unlock validLock validSwesmbi swesmbiCheck
+unfolding restSwesmbi
 returns-3 c = rw (c .before .before .s3 .given .1) (c .«open» .ensures)
 
 pub step-spec : {M : Type 1} → statement M

@@ -1,6 +1,6 @@
 -- `access` meets its contract.
 use Rattle.hardware.specs.Runs.{given}
-use Rattle.sync.specs.Lock.{accessLock, accessSwesmbi, accessUnlock, lock, restLock, restSwesmbi, restUnlock, second, swesmbiCheck, unlock, validLock, validSwesmbi}
+use Rattle.sync.specs.Lock.{accessUnlock}
 use borrow.Author.Needs.{needs}
 use Rattle.sync.proofs.unlock.access.Statement.{statement}
 use Rattle.sync.proofs.unlock.access.Tie as tie
@@ -24,11 +24,11 @@ access-requires-2 : tie.Need-access-requires-2
 access-requires-2 c κs = search needs
 
 returns : tie.Need-returns
-unfolding restSwesmbi accessSwesmbi restLock accessLock restUnlock accessUnlock lock second unlock validLock validSwesmbi swesmbiCheck
+unfolding accessUnlock
 returns c = rw (c .before .before .before .s .given .1, ← c .before .clear-sync .ensures) (c .access .ensures)
 
 returns-2 : tie.Need-returns-2
-unfolding restSwesmbi accessSwesmbi restLock accessLock restUnlock accessUnlock lock second unlock validLock validSwesmbi swesmbiCheck
+unfolding accessUnlock
 returns-2 c = rw (c .before .before .before .s2 .given .1, ← c .before .back .ensures) (c .access2 .ensures)
 
 pub access-spec : {M : Type 1} → statement M

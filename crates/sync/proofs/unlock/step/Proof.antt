@@ -1,7 +1,7 @@
 -- `step` meets its contract.
 use Rattle.hardware.specs.Prog.{over}
 use Rattle.hardware.specs.Runs.{given}
-use Rattle.sync.specs.Lock.{accessLock, accessSwesmbi, accessUnlock, lock, restLock, restSwesmbi, restUnlock, second, swesmbiCheck, unlock, validLock, validSwesmbi}
+use Rattle.sync.specs.Lock.{restUnlock, unlock}
 use Rattle.sync.specs.Regs.{swsm}
 use borrow.Author.Needs.{needs}
 use mathlib.Core.Path.{_∙_}
@@ -33,11 +33,11 @@ swsm-requires : tie.Need-swsm-requires
 swsm-requires c κs = search needs
 
 returns : tie.Need-returns
-unfolding restSwesmbi accessSwesmbi restLock accessLock restUnlock accessUnlock lock second unlock validLock validSwesmbi swesmbiCheck
+unfolding restUnlock unlock
 returns c = rw (c .before .before .before .before .s .given .1) (over _ _ (c .sync .ensures) (rw (c .before .before .clear-sync .ensures) at (c .before .step .ensures)))
 
 returns-2 : tie.Need-returns-2
-unfolding restSwesmbi accessSwesmbi restLock accessLock restUnlock accessUnlock lock second unlock validLock validSwesmbi swesmbiCheck
+unfolding restUnlock
 returns-2 c = rw (c .before .before .before .before .s2 .given .1) (c .swsm .ensures ∙ (rw (c .before .before .back .ensures) at (c .before .step2 .ensures)))
 
 pub step-spec : {M : Type 1} → statement M

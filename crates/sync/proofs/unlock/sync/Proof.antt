@@ -1,11 +1,9 @@
 -- `sync` meets its contract.
-use Rattle.hardware.specs.Change.{accessUpdate, change, restUpdate, stored, updateNext}
-use Rattle.hardware.specs.Poll.{pollNext}
+use Rattle.hardware.specs.Change.{accessUpdate, change, restUpdate, updateNext}
 use Rattle.hardware.specs.Prog.{_>>=_, erase, followed, going, orErr, pick}
 use Rattle.hardware.specs.Registers.{flag, outcome, word}
 use Rattle.hardware.specs.Runs.{given}
-use Rattle.sync.specs.Lock.{accessLock, accessSwesmbi, accessUnlock, lapsed, lock, lockNext, regsmpDone, restLock, restSwesmbi, restUnlock, second, smbiDone, swesmbiCheck, swesmbiDone, swesmbiNext, swesmbiSeen, unlock, unlockNext, validLock, validSwesmbi}
-use Rattle.sync.specs.Regs.{backSwsm, bits, bits82599, bitsX540, clearSync, mux, phy, regsmpWatch, releaseUs, setMux, setSwesmbi, smbiWatch, swFwSync, swsm}
+use Rattle.sync.specs.Lock.{accessUnlock, restUnlock, unlock, unlockNext}
 use borrow.Author.Needs.{needs}
 use Rattle.sync.proofs.unlock.sync.Statement.{statement}
 use Rattle.sync.proofs.unlock.sync.Tie as tie
@@ -23,7 +21,7 @@ enum-known-o : tie.Need-enum-known-o
 enum-known-o c = search needs
 
 returns : tie.Need-returns
-unfolding restSwesmbi accessSwesmbi swesmbiNext restLock accessLock lockNext restUnlock accessUnlock unlockNext pollNext updateNext
+unfolding restUnlock accessUnlock unlockNext updateNext
 returns c = rw (c .before .n .given .1) (going _ _ _)
 
 returns-2 : tie.Need-returns-2
@@ -31,7 +29,7 @@ unfolding unlockNext accessUnlock restUnlock followed outcome orErr updateNext c
 returns-2 c = rw (c .before .before .before .n2 .given .1, c .enum-told .given .1)
 
 returns-3 : tie.Need-returns-3
-unfolding restSwesmbi accessSwesmbi swesmbiNext restLock accessLock lockNext restUnlock accessUnlock unlockNext lock second unlock lapsed smbiDone swesmbiDone regsmpDone swesmbiSeen swesmbiCheck validLock validSwesmbi followed _>>=_ erase orErr pick word outcome flag pollNext updateNext phy swsm swFwSync bits82599 bitsX540 bits mux smbiWatch regsmpWatch backSwsm clearSync setMux releaseUs setSwesmbi change stored
+unfolding restUnlock accessUnlock unlockNext unlock followed _>>=_ erase orErr pick word outcome flag updateNext change
 returns-3 c = rw (c .before .before .before .before .n2 .given .1, c .before .o .given .1)
 
 pub sync-spec : {M : Type 1} → statement M

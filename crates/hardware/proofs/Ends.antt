@@ -15,7 +15,7 @@ use Rattle.hardware.specs.declared.Answer.the-variants.{Value, Done}
 use Rattle.hardware.specs.declared.change.Change.{Change}
 use Rattle.hardware.specs.declared.poll.Watch.{Watch}
 use Rattle.hardware.specs.Asked.{fits}
-use Rattle.hardware.specs.Prog.{Note, Prog, ret, ask, note, give, erase, R, Ok, Err, orErr, _>>=_, _>>?_, pick}
+use Rattle.hardware.specs.Prog.{Note, Attempt, Acquired, Released, Lapsed, Prog, ret, ask, note, give, stays, erase, R, Ok, Err, orErr, _>>=_, _>>?_, pick}
 use Rattle.hardware.specs.Registers.{read, readRaw, write, flush, delay}
 use Rattle.hardware.specs.Change.{settled, stored, change}
 use Rattle.hardware.specs.Poll.{polled, poll}
@@ -55,12 +55,19 @@ ends-pick true p q n e d = e
 ends-pick false p q n e d = d
 
 -- the notes take no answers
+pub ends-stays : {A : Type 0} (k : Note) (p : Prog A) (n : ℕ) → Ends p n → Ends (stays k p) n
+unfolding Ends
+ends-stays Attempt p n e = e
+ends-stays Acquired p n e = e
+ends-stays Released p n e = e
+ends-stays Lapsed p n e = e
+
 pub ends-erase : {A : Type 0} (p : Prog A) (n : ℕ) → Ends p n → Ends (erase p) n
 unfolding Ends erase
 ends-erase (ret v) n e = tt
 ends-erase (ask x f) zero e = absurd e
 ends-erase (ask x f) (suc n) e = λ a t. ends-erase (f a) n (e a t)
-ends-erase (note k p) n e = ends-erase p n e
+ends-erase (note k p) n e = ends-stays k (erase p) n (ends-erase p n e)
 ends-erase (give b p) n e = ends-erase p n e
 
 -- what has ended needs none

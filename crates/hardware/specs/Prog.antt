@@ -1,6 +1,6 @@
 -- A call on the host's registers as a value: it has ended, it asks for one access and goes on with the answer, it
 -- notes something that no register sees, or it gives a byte out.
-use Prim.Native.Nat.{ℕ}
+use Prim.Native.Nat.{ℕ, suc}
 use mathlib.Core.Path.{_≡_, refl, ap, fun-ext, _∙_, sym}
 use mathlib.Core.Bool.{Bool, true, false}
 use Rattle.hardware.specs.declared.Access.{Access}
@@ -25,18 +25,32 @@ ask x f >>= k = ask x (λ r. f r >>= k)
 note n p >>= k = note n (p >>= k)
 give b p >>= k = give b (p >>= k)
 
--- what the registers see of it: the same accesses, bytes and end
+-- the beginning of an attempt stays, since a result tells how many there were
+abbrev pub stays : {A : Type 0} → Note → Prog A → Prog A
+stays Attempt p = note Attempt p
+stays Acquired p = p
+stays Released p = p
+stays Lapsed p = p
+
+-- what the host sees of it: the same accesses, bytes and end
 unfoldable pub erase : {A : Type 0} → Prog A → Prog A
 erase (ret a) = ret a
 erase (ask x f) = ask x (λ r. erase (f r))
-erase (note n p) = erase p
+erase (note n p) = stays n (erase p)
 erase (give b p) = give b (erase p)
+
+pub stays-bind : {A B : Type 0} (n : Note) (p : Prog A) (k : A → Prog B) → stays n (p >>= k) ≡ stays n p >>= k
+unfolding _>>=_
+stays-bind Attempt p k = refl
+stays-bind Acquired p k = refl
+stays-bind Released p k = refl
+stays-bind Lapsed p k = refl
 
 pub erase-bind : {A B : Type 0} (p : Prog A) (f : A → Prog B) → erase (p >>= f) ≡ erase p >>= (λ a. erase (f a))
 unfolding _>>=_ erase
 erase-bind (ret a) f = refl
 erase-bind (ask x k) f = ap (ask x) (fun-ext (λ r. erase-bind (k r) f))
-erase-bind (note n p) f = erase-bind p f
+erase-bind (note n p) f = ap (stays n) (erase-bind p f) ∙ stays-bind n (erase p) (λ a. erase (f a))
 erase-bind (give b p) f = ap (give b) (erase-bind p f)
 
 pub bind-assoc : {A B C : Type 0} (p : Prog A) (f : A → Prog B) (g : B → Prog C) → (p >>= f) >>= g ≡ p >>= (λ a. f a >>= g)
@@ -91,3 +105,36 @@ pub going : {A B : Type 0} (x : Access) (p : Answer → Prog A) (k : A → Prog 
     → ask x (λ a. erase (p a >>= k)) ≡ followed (ask x (λ a. erase (p a))) k
 unfolding _>>=_ followed
 going x p k = ap (ask x) (fun-ext (λ a. erase-bind (p a) k))
+
+-- how many transfers were made, beside what a call gave
+pub record Counted (A : Type 0) : Type 0 where
+  pub transfers : ℕ
+  pub result : A
+
+abbrev pub begun : Note → ℕ → ℕ
+begun Attempt n = suc n
+begun Acquired n = n
+begun Released n = n
+begun Lapsed n = n
+
+-- the end carries n and one more for each attempt that was begun on the way
+unfoldable pub tally : {A : Type 0} → ℕ → Prog A → Prog (Counted A)
+tally n (ret a) = ret (record { transfers = n; result = a })
+tally n (ask x f) = ask x (λ r. tally n (f r))
+tally n (note k p) = tally (begun k n) p
+tally n (give b p) = give b (tally n p)
+
+pub tally-stays : {A : Type 0} (n : ℕ) (k : Note) (p : Prog A) → tally n (stays k p) ≡ tally (begun k n) p
+unfolding tally
+tally-stays n Attempt p = refl
+tally-stays n Acquired p = refl
+tally-stays n Released p = refl
+tally-stays n Lapsed p = refl
+
+-- erasing changes nothing of the count
+pub tally-erase : {A : Type 0} (n : ℕ) (p : Prog A) → tally n (erase p) ≡ tally n p
+unfolding tally erase
+tally-erase n (ret a) = refl
+tally-erase n (ask x f) = ap (ask x) (fun-ext (λ r. tally-erase n (f r)))
+tally-erase n (note k p) = tally-stays n k (erase p) ∙ tally-erase (begun k n) p
+tally-erase n (give b p) = ap (give b) (tally-erase n p)

@@ -1,12 +1,12 @@
 -- A call run over a list of answers.
 use Prim.Native.Nat.{ℕ, _+_, _≤_, suc, zero}
-use mathlib.Core.Path.{_≡_, refl, ap, fun-ext}
+use mathlib.Core.Path.{_≡_, refl, ap, fun-ext, _∙_}
 use mathlib.Core.List.{List, [], _∷_}
 use lib.Dec.{T}
 use Rattle.hardware.specs.declared.Access.{Access}
 use Rattle.hardware.specs.declared.Answer.{Answer}
 use Rattle.hardware.specs.Asked.{Asked, no, yes, fits}
-use Rattle.hardware.specs.Prog.{Prog, ret, ask, note, give, erase, _>>=_}
+use Rattle.hardware.specs.Prog.{Prog, ret, ask, note, give, Note, Attempt, Acquired, Released, Lapsed, stays, erase, _>>=_}
 
 -- how a run stands: it has ended, or waits for the answer to one more access
 pub data Stand (A : Type 0) : Type 0 where
@@ -36,12 +36,19 @@ run (ask x f) = onward x (λ a. run (f a))
 run (note n p) = run p
 run (give b p) = λ l. given b (run p l)
 
+pub run-stays : {A : Type 0} (n : Note) (p : Prog A) → run (stays n p) ≡ run p
+unfolding run
+run-stays Attempt p = refl
+run-stays Acquired p = refl
+run-stays Released p = refl
+run-stays Lapsed p = refl
+
 -- a run sees nothing of the notes
 pub run-erase : {A : Type 0} (p : Prog A) → run (erase p) ≡ run p
 unfolding run erase
 run-erase (ret v) = refl
 run-erase (ask x f) = ap (onward x) (fun-ext (λ a. run-erase (f a)))
-run-erase (note n p) = run-erase p
+run-erase (note n p) = run-stays n (erase p) ∙ run-erase p
 run-erase (give b p) = fun-ext (λ l. ap (λ r. given b (r l)) (run-erase p))
 
 -- n answers of the awaited kinds bring the call to its end, whatever they are

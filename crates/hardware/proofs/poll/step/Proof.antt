@@ -29,8 +29,8 @@ unfolding restPoll
 returns c = rw (c .before .before .before .s .given .1) (fed _ (c .seen .ensures) (c .before .read .ensures))
 
 returns-2 : tie.Need-returns-2
-unfolding erase _>>=_ orErr pick checked raw written flushed word outcome changed settled stored polled question openLan openPort familyNumbered restPoll
-returns-2 c = cc
+unfolding restPoll
+returns-2 c = rw (c .before .before .s2 .given .1) (c .«open» .ensures)
 
 pub step-spec : {M : Type 1} → statement M
 step-spec =

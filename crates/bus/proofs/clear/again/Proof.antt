@@ -1,0 +1,24 @@
+-- `again` meets its contract.
+use Rattle.bus.proofs.Commands.{job-start}
+use Rattle.bus.specs.Bus.{clearAgain, done, none, quiet}
+use Rattle.bus.specs.Command.{validJobNext}
+use Rattle.hardware.specs.Prog.{erase, over}
+use borrow.Author.Needs.{needs}
+use mathlib.Core.Path.{_∙_, ap}
+use Rattle.bus.proofs.clear.again.Statement.{statement}
+use Rattle.bus.proofs.clear.again.Tie as tie
+
+open-requires : tie.Need-open-requires
+open-requires c κs = search needs
+
+-- src/clear.rt:77:5
+started-requires : tie.Need-started-requires
+started-requires c κs = search needs
+
+-- src/clear.rt:73:1
+returns : tie.Need-returns
+unfolding clearAgain quiet validJobNext
+returns c = (over _ _ (c .started .ensures .0) (c .before .«open» .ensures .0 0 (λ _. done none) ∙ ap (λ p. erase (p (c .before .before .args .ctl))) (job-start (c .before .before .args .l) 0 (λ _. done none))), c .started .ensures .1 (c .before .«open» .ensures .1))
+
+pub again-spec : {M : Type 1} → statement M
+again-spec = tie.close (tie.spec open-requires started-requires returns)

@@ -1,0 +1,17 @@
+-- `bit` meets its contract.
+use Rattle.bus.specs.Bus.{bitOf}
+use borrow.Author.Needs.{needs}
+use mathlib.Core.Path.{refl}
+use Rattle.bus.proofs.command.bit.Statement.{statement}
+use Rattle.bus.proofs.command.bit.Tie as tie
+
+shr-result : tie.Need-shr-result
+shr-result c = search needs
+
+-- src/command.rt:19:1
+returns : tie.Need-returns
+unfolding bitOf
+returns c = refl
+
+pub bit-spec : {M : Type 1} → statement M
+bit-spec = tie.close (tie.spec shr-result returns)

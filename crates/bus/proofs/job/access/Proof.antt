@@ -1,0 +1,16 @@
+-- `access` meets its contract.
+use Rattle.bus.specs.Command.{accessJob}
+use borrow.Author.Needs.{needs}
+use Rattle.bus.proofs.job.access.Statement.{statement}
+use Rattle.bus.proofs.job.access.Tie as tie
+
+access-requires : tie.Need-access-requires
+access-requires c κs = search needs
+
+-- src/job.rt:85:1
+returns : tie.Need-returns
+unfolding accessJob
+returns c = c .access .ensures
+
+pub access-spec : {M : Type 1} → statement M
+access-spec = tie.close (tie.spec access-requires returns)

@@ -1,0 +1,22 @@
+-- `begin` meets its contract.
+use Rattle.bus.proofs.Laws.{picked, valid-calls}
+use Rattle.bus.specs.Command.{accessJob, callsLeft, jobNext, restJob, validJob}
+use Rattle.bus.specs.Line.{lineNext}
+use borrow.Author.Needs.{needs}
+use Rattle.bus.proofs.job.begin.Statement.{statement}
+use Rattle.bus.proofs.job.begin.Tie as tie
+
+call-requires : tie.Need-call-requires
+call-requires c κs = search needs
+
+-- src/job.rt:57:15
+open-requires : tie.Need-open-requires
+open-requires c κs = search needs
+
+-- src/job.rt:51:1
+returns : tie.Need-returns
+unfolding jobNext accessJob restJob lineNext validJob
+returns c = (λ device k. rw (c .before .call .ensures) at (c .«open» .ensures .0 (callsLeft (c .before .before .args .l) device (c .before .before .args .c) (c .before .before .args .left) k)), λ h. picked _ _ h (c .«open» .ensures .1 (rw (c .before .call .ensures) (valid-calls (c .before .before .args .l) (c .before .before .args .c) (c .before .before .args .left)))))
+
+pub begin-spec : {M : Type 1} → statement M
+begin-spec = tie.close (tie.spec call-requires open-requires returns)

@@ -1,0 +1,4 @@
+pub mod Laws
+pub mod Grammar
+pub mod Checksum
+pub mod Scripts

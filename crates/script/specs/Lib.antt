@@ -1,0 +1,4 @@
+pub mod Script
+pub mod Grammar
+pub mod Sum
+pub mod Scripts

@@ -1,0 +1,74 @@
+-- Laws of transfers and attempts that the proofs cite.
+use Prim.Native.Nat.{ℕ, _<_, _≤_}
+use mathlib.Core.Path.{_≡_, refl, ap, _∙_, sym}
+use mathlib.Core.Bool.{Bool, true, false}
+use mathlib.Core.List.{List, []}
+use lib.ListN.{length, drop}
+use Rattle.hardware.specs.declared.Access.{Access}
+use Rattle.hardware.specs.declared.Answer.{Answer}
+use Rattle.hardware.specs.declared.Outcome.{Outcome}
+use Rattle.hardware.specs.declared.Outcome.the-variants.{Ok, Err}
+use Rattle.hardware.specs.Prog.{Prog, ask, give, erase, followed, going, pick, _>>=_}
+use Rattle.bus.specs.declared.Layout.{Layout}
+use Rattle.bus.specs.declared.Taken.{Taken}
+use Rattle.bus.specs.declared.command.Command.{Command}
+use Rattle.bus.specs.declared.command.Command.the-variants.{Start, Send, Read, Stop, Free}
+use Rattle.bus.specs.Bus.{Bus, clear}
+use Rattle.bus.specs.Command.{commanded}
+use Rattle.bus.proofs.Commands.{job-start, job-send, job-read, job-stop, job-free}
+use Rattle.script.specs.Script.{commands, commandAt, nextAt}
+use Rattle.script.proofs.Laws.{commands-at, commands-past}
+use Rattle.transfer.specs.declared.attempt.Sequence.{Sequence}
+use Rattle.transfer.specs.declared.attempt.Sequence.the-variants.{Pulses}
+use Rattle.transfer.specs.declared.transfer.TransferNext.the-variants.{End}
+use Rattle.transfer.specs.Transfer.{Mode, loud, silent, tells, tells-erase, did, isRead, tookBy, handed, transfer, ranOn, transferNext}
+use Rattle.transfer.specs.Attempt.{clearing}
+
+-- the machine's list of line calls is the command
+pub job-did : (l : Layout) (device : ℕ) (c : Command) (k : ℕ → Bus) → commanded l device c k ≡ did l device c k
+unfolding did
+job-did l device Start k = job-start l device k
+job-did l device (Send value) k = job-send l device value k
+job-did l device (Read high) k = job-read l device high k
+job-did l device Stop k = job-stop l device k
+job-did l device Free k = job-free l device k
+
+-- a position on the script: its command comes, and then the rest
+pub transfer-at : (m : Mode) (l : Layout) (device : ℕ) (s : List ℕ) (at : ℕ) (t : Taken) (ctl : ℕ) → at < length s
+    → erase (commanded l device (commandAt s at) (ranOn m l device s at t) ctl) ≡ erase (transfer m l device (commands (drop at s)) t ctl)
+unfolding transfer ranOn
+transfer-at m l device s at t ctl h =
+    ap (λ p. erase (p ctl)) (job-did l device (commandAt s at) (ranOn m l device s at t))
+    ∙ ap (λ cs. erase (transfer m l device cs t ctl)) (sym (commands-at s at h))
+
+pub after-read : (m : Mode) (l : Layout) (device : ℕ) (s : List ℕ) (at : ℕ) (t : Taken) (b ctl : ℕ) → isRead (commandAt s at) ≡ true
+    → tells m b (erase (transfer m l device (commands (drop (nextAt s at) s)) (tookBy (commandAt s at) t b) ctl)) ≡ erase (ranOn m l device s at t b ctl)
+unfolding ranOn handed pick
+after-read m l device s at t b ctl h = rw (h) (sym (tells-erase m b _))
+
+pub after-other : (m : Mode) (l : Layout) (device : ℕ) (s : List ℕ) (at : ℕ) (t : Taken) (b ctl : ℕ) → isRead (commandAt s at) ≡ false
+    → erase (transfer m l device (commands (drop (nextAt s at) s)) (tookBy (commandAt s at) t b) ctl) ≡ erase (ranOn m l device s at t b ctl)
+unfolding ranOn handed pick
+after-other m l device s at t b ctl h = rw (h)
+
+pub told-twice : {A : Type 0} (m : Mode) (b d : ℕ) (x : Access) (f : Answer → Prog A) → tells m b (ask x f) ≡ tells m b (tells m d (ask x f))
+unfolding tells
+told-twice silent b d x f = refl
+told-twice loud b d x f = refl
+
+pub told-end : (m : Mode) (b : ℕ) (l : Layout) (device : ℕ) (s : List ℕ) (ctl : ℕ) (t : Taken) (o : Outcome)
+    → transferNext m l device s (End ctl t o) ≡ tells m b (transferNext m l device s (End ctl t o))
+unfolding tells transferNext
+told-end silent b l device s ctl t o = refl
+told-end loud b l device s ctl t Ok = refl
+told-end loud b l device s ctl t (Err e) = refl
+
+pub told-on : {A B : Type 0} (m : Mode) (b : ℕ) (x : Access) (p : Answer → Prog A) (k : A → Prog B)
+    → tells m b (ask x (λ a. erase (p a >>= k))) ≡ followed (tells m b (ask x (λ a. erase (p a)))) k
+unfolding tells followed _>>=_
+told-on silent b x p k = going x p k
+told-on loud b x p k = ap (give b) (going x p k)
+
+pub only : (q : Sequence) (l : Layout) → clear l ≡ clearing q l
+unfolding clearing
+only Pulses l = refl

@@ -1,0 +1,29 @@
+-- `failed` meets its contract.
+use Rattle.bus.specs.Bus.{clear}
+use Rattle.hardware.specs.Prog.{erase, over, pick}
+use Rattle.transfer.specs.Attempt.{attemptNext, cleared, got, orTried, validAttemptNext}
+use borrow.Author.Needs.{needs}
+use mathlib.Core.Path.{refl}
+use Rattle.transfer.proofs.attempt.failed.Statement.{statement}
+use Rattle.transfer.proofs.attempt.failed.Tie as tie
+
+is-i2c-requires : tie.Need-is-i2c-requires
+is-i2c-requires c κs = search needs
+
+clear-requires : tie.Need-clear-requires
+clear-requires c κs = search needs
+
+cleared-requires : tie.Need-cleared-requires
+cleared-requires c κs = search needs
+
+returns : tie.Need-returns
+unfolding orTried pick
+returns c = (λ m s. rw (← c .before .before .before .is-i2c .ensures, c .before .before .if1 .taken) (over _ _ (c .cleared .ensures .0 m (c .before .before .before .before .args .q) s) (c .before .clear .ensures .0)), λ s. c .cleared .ensures .1 s (c .before .clear .ensures .1))
+
+returns-2 : tie.Need-returns-2
+unfolding orTried pick attemptNext got erase validAttemptNext
+returns-2 c = (λ m s. rw (← c .before .is-i2c .ensures, c .if1 .left), λ s. refl)
+
+pub failed-spec : {M : Type 1} → statement M
+failed-spec =
+    tie.close (tie.spec is-i2c-requires clear-requires cleared-requires returns returns-2)

@@ -1,0 +1,59 @@
+-- `moved` meets its contract.
+use Rattle.hardware.specs.Prog.{_>>=_, erase, followed, going}
+use Rattle.hardware.specs.Runs.{given}
+use Rattle.transfer.proofs.Laws.{told-on}
+use Rattle.transfer.specs.Attempt.{accessAttempt, attemptNext, awaiting, got, orTried, restAttempt, tried, validAttempt, validAttemptNext}
+use Rattle.transfer.specs.Transfer.{asking, transferNext, validTransferNext}
+use borrow.Author.Needs.{needs}
+use mathlib.Core.Path.{refl}
+use Rattle.transfer.proofs.attempt.moved.Statement.{statement}
+use Rattle.transfer.proofs.attempt.moved.Tie as tie
+
+enum-known-n : tie.Need-enum-known-n
+enum-known-n c = search needs
+
+enum-known-n-2 : tie.Need-enum-known-n-2
+enum-known-n-2 c = search needs
+
+enum-known-n-3 : tie.Need-enum-known-n-3
+enum-known-n-3 c = search needs
+
+enum-told : tie.Need-enum-told
+enum-told c = search needs
+
+enum-known-o : tie.Need-enum-known-o
+enum-known-o c = search needs
+
+failed-requires : tie.Need-failed-requires
+failed-requires c κs = search needs
+
+returns : tie.Need-returns
+unfolding attemptNext awaiting accessAttempt restAttempt validAttemptNext validAttempt transferNext asking validTransferNext
+returns c = (λ m s. rw (c .before .n .given .1) (going _ _ _), λ s h. rw (c .before .n .given .1) at h)
+
+returns-2 : tie.Need-returns-2
+unfolding attemptNext awaiting accessAttempt restAttempt validAttemptNext validAttempt transferNext asking validTransferNext
+returns-2 c = (λ m s. rw (c .before .n2 .given .1) (told-on m _ _ _ _), λ s h. rw (c .before .n2 .given .1) at h)
+
+returns-3 : tie.Need-returns-3
+unfolding attemptNext got followed _>>=_ erase validAttemptNext transferNext tried orTried
+returns-3 c = (λ m s. rw (c .before .before .before .n3 .given .1, c .enum-told .given .1), λ s h. refl)
+
+returns-4 : tie.Need-returns-4
+unfolding transferNext followed _>>=_ tried
+returns-4 c = (λ m s. rw (c .before .before .before .before .before .n3 .given .1, c .before .before .o .given .1) (c .failed .ensures .0 m s), λ s h. c .failed .ensures .1 s)
+
+pub moved-spec : {M : Type 1} → statement M
+moved-spec =
+    tie.close
+    (tie.spec
+    enum-known-n
+    enum-known-n-2
+    enum-known-n-3
+    enum-told
+    enum-known-o
+    failed-requires
+    returns
+    returns-2
+    returns-3
+    returns-4)

@@ -1,0 +1,63 @@
+-- `step` meets its contract.
+use Rattle.hardware.specs.Prog.{fed, over}
+use Rattle.hardware.specs.Runs.{given}
+use Rattle.transfer.specs.Attempt.{cleared, restAttempt, validAttempt}
+use borrow.Author.Needs.{needs}
+use Rattle.transfer.proofs.attempt.step.Statement.{statement}
+use Rattle.transfer.proofs.attempt.step.Tie as tie
+
+enum-told : tie.Need-enum-told
+enum-told c = search needs
+
+read-raw-requires : tie.Need-read-raw-requires
+read-raw-requires c κs = search needs
+
+begin-requires : tie.Need-begin-requires
+begin-requires c κs = search needs
+
+enum-known-s : tie.Need-enum-known-s
+enum-known-s c = search needs
+
+step-requires : tie.Need-step-requires
+step-requires c κs = search needs
+
+moved-requires : tie.Need-moved-requires
+moved-requires c κs = search needs
+
+enum-known-s-2 : tie.Need-enum-known-s-2
+enum-known-s-2 c = search needs
+
+step-requires-2 : tie.Need-step-requires-2
+step-requires-2 c κs = search needs
+
+cleared-requires : tie.Need-cleared-requires
+cleared-requires c κs = search needs
+
+returns : tie.Need-returns
+unfolding restAttempt
+returns c = (λ m. rw (c .before .before .enum-told .given .1) (fed _ (c .begin .ensures .0 m) (c .before .read-raw .ensures)), λ h g. c .begin .ensures .1 h)
+
+returns-2 : tie.Need-returns-2
+unfolding restAttempt validAttempt
+returns-2 c = (λ m. rw (c .before .before .before .s .given .1) (over _ _ (c .moved .ensures .0 m (c .before .before .before .before .before .before .args .script .now)) (c .before .step .ensures .0 m)), λ h g. c .moved .ensures .1 (c .before .before .before .before .before .before .args .script .now) (c .before .step .ensures .1 (rw (c .before .before .before .s .given .1) at g)))
+
+returns-3 : tie.Need-returns-3
+unfolding restAttempt validAttempt
+returns-3 c = (λ m. rw (c .before .before .before .s2 .given .1) (over _ _ (c .cleared .ensures .0 m (c .before .before .before .before .before .before .args .q) (c .before .before .before .before .before .before .args .script .now)) (c .before .step2 .ensures .0)), λ h g. c .cleared .ensures .1 (c .before .before .before .before .before .before .args .script .now) (c .before .step2 .ensures .1 (rw (c .before .before .before .s2 .given .1) at g)))
+
+pub step-spec : {M : Type 1} → statement M
+step-spec =
+    tie.close
+    (tie.spec
+    enum-told
+    read-raw-requires
+    begin-requires
+    enum-known-s
+    step-requires
+    moved-requires
+    enum-known-s-2
+    step-requires-2
+    cleared-requires
+    returns
+    returns-2
+    returns-3)

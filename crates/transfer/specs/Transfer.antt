@@ -1,0 +1,102 @@
+-- The commands of a script on the bus. A byte that was read is handed out with the access that follows it, where the
+-- caller takes such bytes.
+use Prim.Native.Nat.{ℕ}
+use mathlib.Core.Path.{_≡_, refl, ap, _∙_}
+use mathlib.Core.Bool.{Bool, true, false}
+use mathlib.Core.List.{List, [], _∷_}
+use lib.ListN.{drop}
+use Rattle.hardware.specs.declared.Access.{Access}
+use Rattle.hardware.specs.declared.Answer.{Answer}
+use Rattle.hardware.specs.declared.Outcome.{Outcome}
+use Rattle.hardware.specs.declared.Outcome.the-variants.{Ok as OutcomeOk, Err as OutcomeErr}
+use Rattle.hardware.specs.Prog.{Prog, ret, ask, note, give, Note, Attempt, Acquired, Released, Lapsed, stays, erase, _>>=_, pick}
+use Rattle.bus.specs.declared.Layout.{Layout}
+use Rattle.bus.specs.declared.Taken.{Taken}
+use Rattle.bus.specs.declared.command.Command.{Command}
+use Rattle.bus.specs.declared.command.Command.the-variants.{Start, Send, Read, Stop, Free}
+use Rattle.bus.specs.Bus.{Held, Bus, done, fail, took, start, stop, send, inByte, outBit, releaseSda, pulses}
+use Rattle.bus.specs.Command.{accessJob, restJob, validJob}
+use Rattle.script.specs.Script.{commands, commandAt, nextAt, onCommand}
+use Rattle.transfer.specs.declared.transfer.Transfer.{Transfer}
+use Rattle.transfer.specs.declared.transfer.TransferNext.{TransferNext}
+use Rattle.transfer.specs.declared.transfer.TransferNext.the-variants.{Going, Read as Handing, End}
+
+-- a script's caller takes the bytes; the Rust's four transfers keep them
+pub data Mode : Type 0 where
+  loud silent : Mode
+
+-- a byte goes out with the next access; where none follows it does not
+unfoldable pub tells : {A : Type 0} → Mode → ℕ → Prog A → Prog A
+tells silent b p = p
+tells loud b (ret v) = ret v
+tells loud b (ask x f) = give b (ask x f)
+tells loud b (note n p) = note n (tells loud b p)
+tells loud b (give d p) = give b p
+
+pub tells-stays : {A : Type 0} (b : ℕ) (n : Note) (p : Prog A) → stays n (tells loud b p) ≡ tells loud b (stays n p)
+unfolding tells
+tells-stays b Attempt p = refl
+tells-stays b Acquired p = refl
+tells-stays b Released p = refl
+tells-stays b Lapsed p = refl
+
+pub tells-erase : {A : Type 0} (m : Mode) (b : ℕ) (p : Prog A) → erase (tells m b p) ≡ tells m b (erase p)
+unfolding tells erase
+tells-erase silent b p = refl
+tells-erase loud b (ret v) = refl
+tells-erase loud b (ask x f) = refl
+tells-erase loud b (note n p) = ap (stays n) (tells-erase loud b p) ∙ tells-stays b n (erase p)
+tells-erase loud b (give d p) = refl
+
+-- a command as the Rust makes it; k is given the byte that was read
+unfoldable pub did : Layout → ℕ → Command → (ℕ → Bus) → Bus
+did l device Start k = start l (k 0)
+did l device (Send value) k = send l device value (k 0)
+did l device (Read high) k = inByte l (λ value. outBit l high (k value))
+did l device Stop k = stop l (k 0)
+did l device Free k = releaseSda l (pulses l 9 (k 0))
+
+unfoldable pub isRead : Command → Bool
+isRead Start = false
+isRead (Send value) = false
+isRead (Read high) = true
+isRead Stop = false
+isRead Free = false
+
+unfoldable pub tookBy : Command → Taken → ℕ → Taken
+tookBy c t b = pick (isRead c) (took t b) t
+
+unfoldable pub handed : Mode → Command → ℕ → Bus → Bus
+handed m c b k ctl = pick (isRead c) (tells m b (k ctl)) (k ctl)
+
+unfoldable pub transfer : Mode → Layout → ℕ → List Command → Taken → Bus
+transfer m l device [] t = done t
+transfer m l device (c ∷ cs) t = did l device c (λ b. handed m c b (transfer m l device cs (tookBy c t b)))
+
+-- what follows the command at a position of a script
+unfoldable pub ranOn : Mode → Layout → ℕ → List ℕ → ℕ → Taken → ℕ → Bus
+ranOn m l device s at t b = handed m (commandAt s at) b (transfer m l device (commands (drop (nextAt s at) s)) (tookBy (commandAt s at) t b))
+
+unfoldable pub accessTransfer : Layout → Transfer → Access
+accessTransfer l t = accessJob l (t .job)
+
+unfoldable pub restTransfer : Mode → Layout → ℕ → List ℕ → Transfer → Answer → Prog Held
+restTransfer m l device s t a = restJob l device (commandAt s (t .at)) (t .job) a (ranOn m l device s (t .at) (t .taken))
+
+unfoldable pub asking : Mode → Layout → ℕ → List ℕ → Transfer → Prog Held
+asking m l device s t = ask (accessTransfer l t) (λ a. erase (restTransfer m l device s t a))
+
+unfoldable pub transferNext : Mode → Layout → ℕ → List ℕ → TransferNext → Prog Held
+transferNext m l device s (Going t) = asking m l device s t
+transferNext m l device s (Handing b t) = tells m b (asking m l device s t)
+transferNext m l device s (End ctl t OutcomeOk) = done t ctl
+transferNext m l device s (End ctl t (OutcomeErr e)) = fail e ctl
+
+-- the position is that of a command of the script lent now, and the counters of the command are within their limits
+unfoldable pub validTransfer : Layout → List ℕ → Transfer → Bool
+validTransfer l s t = pick (onCommand s (t .at)) (validJob l (commandAt s (t .at)) (t .job)) false
+
+unfoldable pub validTransferNext : Layout → List ℕ → TransferNext → Bool
+validTransferNext l s (Going t) = validTransfer l s t
+validTransferNext l s (Handing b t) = validTransfer l s t
+validTransferNext l s (End ctl t o) = true

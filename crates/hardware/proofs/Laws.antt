@@ -1,5 +1,5 @@
 -- Laws of the register programs that the proofs cite.
-use Prim.Native.Nat.{ℕ, _-_, _≤_, suc, zero}
+use Prim.Native.Nat.{ℕ, _-_, _<_, _≤_, suc, zero}
 use mathlib.Core.Path.{_≡_, refl, ap}
 use mathlib.Core.Bool.{Bool, true, false}
 use mathlib.Core.List.{List, [], _∷_}
@@ -7,8 +7,8 @@ use lib.Dec.{ltb}
 use lib.ListN.{getD}
 use native.Mathlib.Numerals.{sub-one}
 use native.Mathlib.Omega.{arith}
-use borrow.Author.Tests.{lt-ltb, ltb-true}
-use Rattle.hardware.specs.Prog.{Prog, ask, erase, orErr, _>>=_}
+use borrow.Author.Tests.{ltb-true}
+use Rattle.hardware.specs.Prog.{Prog, ask, erase, orErr, _>>=_, pick}
 use Rattle.hardware.specs.Asked.{Asked, no, yes, andThen, question, openFamily, openLan, openPort, validPort}
 use Rattle.hardware.specs.Runs.{run, ran, run-erase}
 use Rattle.hardware.specs.declared.Answer.{Answer}
@@ -44,11 +44,17 @@ runs-open (no n) p l = refl
 runs-open (yes a) p l = ap (λ r. yes (r l)) (run-erase (p a))
 
 -- a counter within its limit is below it once it has gone down by one
-pub one-less : (n limit : ℕ) → (n ≡ 0 → ⊥) → n ≤ limit → ltb (n - 1) limit ≡ true
-one-less n limit h l = lt-ltb (n - 1) limit (omega arith)
+pub one-less : (n limit : ℕ) → (n ≡ 0 → ⊥) → n ≤ limit → n - 1 < limit
+one-less n limit h l = omega arith
 
 pub below : (n limit : ℕ) → ltb n limit ≡ true → n ≤ limit
 below n limit h = omega (arith, ltb-true n limit h)
+
+-- two questions in one are both a yes
+pub both-true : (a b : Bool) → pick a b false ≡ true → (a ≡ true) × (b ≡ true)
+unfolding pick
+both-true true b h = (refl, h)
+both-true false b h = (h, cc)
 
 -- a port that an opening gives passes question 10
 lan-valid : (device lan : ℕ) (f : Family) (p : Port) (b : Bool) → ltb lan 2 ≡ b

@@ -9,11 +9,13 @@ use native.Mathlib.Numerals.{sub-one}
 use native.Mathlib.Omega.{arith}
 use borrow.Author.Tests.{ltb-true}
 use Rattle.hardware.specs.Prog.{Prog, ask, erase, orErr, _>>=_, pick}
-use Rattle.hardware.specs.Asked.{Asked, no, yes, andThen, question, openFamily, openLan, openPort, validPort}
+use Rattle.hardware.specs.Asked.{Asked, no, yes, andThen, question, openFamily, openLan, openPort, portOpened, validPort}
 use Rattle.hardware.specs.Runs.{run, ran, run-erase}
 use Rattle.hardware.specs.declared.Answer.{Answer}
 use Rattle.hardware.specs.declared.Family.{Family}
 use Rattle.hardware.specs.declared.Port.{Port}
+use Rattle.hardware.specs.declared.Opening.{Opening}
+use Rattle.hardware.specs.declared.Opening.the-variants.{Port as Opened}
 use Rattle.hardware.specs.Poll.{poll, polled, pollNext, accessPoll, restPoll}
 use Rattle.hardware.specs.declared.poll.Watch.{Watch}
 use Rattle.hardware.specs.declared.poll.Poll.the-variants.{Reading}
@@ -68,6 +70,6 @@ unfolding andThen openLan
 family-valid device lan p (yes f) h = lan-valid device lan f p (ltb lan 2) refl h
 family-valid device lan p (no n) h = cc
 
-pub opened-valid : (family device lan : ℕ) (p : Port) → yes p ≡ openPort family device lan → validPort p ≡ true
-unfolding openPort
-opened-valid family device lan p h = family-valid device lan p (openFamily family) h
+pub opened-valid : (family device lan : ℕ) {o : Opening} {p : Port} → o ≡ Opened p → portOpened o ≡ openPort family device lan → validPort p ≡ true
+unfolding openPort portOpened
+opened-valid family device lan {p = p} e h = family-valid device lan p (openFamily family) (rw e at h)

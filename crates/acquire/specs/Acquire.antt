@@ -119,6 +119,11 @@ validAcquireAt port Waiting = true
 unfoldable pub validAcquire : Port → Acquire → Bool
 validAcquire port s = pick (ltb (s .left) TOKEN-TRIES) (validAcquireAt port (s .stage)) false
 
+-- what is left keeps within the limits
+unfoldable pub validAcquireNext : Port → AcquireNext → Bool
+validAcquireNext port (AcquireGoing s) = validAcquire port s
+validAcquireNext port (AcquireEnd o) = true
+
 unfoldable pub accessRelease : Port → ℕ → Release → Access
 accessRelease port hw (GivingToken t) = accessToken port t
 accessRelease port hw (GivingBits t w) = accessReleaseBits port hw t
@@ -134,3 +139,7 @@ releaseNext port hw (ReleaseEnd o) = ret (outcome o)
 unfoldable pub validRelease : Port → Release → Bool
 validRelease port (GivingToken t) = validToken port t
 validRelease port (GivingBits t w) = validReleaseBits t
+
+unfoldable pub validReleaseNext : Port → ReleaseNext → Bool
+validReleaseNext port (ReleaseGoing s) = validRelease port s
+validReleaseNext port (ReleaseEnd o) = true

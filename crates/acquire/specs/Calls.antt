@@ -1,5 +1,7 @@
 -- What the public calls of `acquire` and `release` yield: a refusal by its number, or what is left of the call.
 use Prim.Native.Nat.{ℕ}
+use mathlib.Core.Path.{_≡_}
+use mathlib.Core.Bool.{true}
 use Rattle.hardware.specs.declared.Answer.{Answer}
 use Rattle.hardware.specs.Asked.{Asked, yes, no, question, andThen, openPort, validPort, fits}
 use Rattle.hardware.specs.Numbers.{refusalNumber}
@@ -33,6 +35,13 @@ saidAcquire (AcquireEnd o AcquireOver) = yes (ret (outcome o))
 saidAcquire (AcquireEnd o (AcquireGoing port hw t)) = no 0
 saidAcquire (AcquireRefused q) = no (refusalNumber q)
 
+-- a state to go on from comes with the access it awaits, and passes question 10
+unfoldable pub standsAcquire : AcquireTold → Type 0
+standsAcquire (AcquireAsk x (AcquireGoing port hw t)) = (x ≡ accessAcquire port hw t) × (validPort port ≡ true) × (validAcquire port t ≡ true)
+standsAcquire (AcquireAsk x AcquireOver) = ⊥
+standsAcquire (AcquireEnd o s) = Unit {0}
+standsAcquire (AcquireRefused q) = Unit {0}
+
 -- `release`: 1 and 2
 unfoldable pub openRelease : ℕ → ℕ → ℕ → ℕ → Asked (Prog (R (Unit {0})))
 openRelease family device lan mask = andThen (openPort family device lan) (λ port. yes (erase (release port mask)))
@@ -49,3 +58,9 @@ saidRelease (ReleaseAsk x ReleaseOver) = no 0
 saidRelease (ReleaseEnd o ReleaseOver) = yes (ret (outcome o))
 saidRelease (ReleaseEnd o (ReleaseGoing port hw t)) = no 0
 saidRelease (ReleaseRefused q) = no (refusalNumber q)
+
+unfoldable pub standsRelease : ReleaseTold → Type 0
+standsRelease (ReleaseAsk x (ReleaseGoing port hw t)) = (x ≡ accessRelease port hw t) × (validPort port ≡ true) × (validRelease port t ≡ true)
+standsRelease (ReleaseAsk x ReleaseOver) = ⊥
+standsRelease (ReleaseEnd o s) = Unit {0}
+standsRelease (ReleaseRefused q) = Unit {0}

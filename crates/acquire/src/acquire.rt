@@ -14,13 +14,14 @@ use sync::acquire_bits::AcquireBitsNext;
 use sync::regs::TOKEN;
 use sync::release_bits::ReleaseBits;
 use sync::release_bits::ReleaseBitsNext;
+ghost use Prim.Native.Nat.{_<_, _≤_};
 ghost use mathlib.Core.Path.{_≡_};
 ghost use mathlib.Core.Bool.{true};
 ghost use Rattle.hardware.specs.Prog.{erase, followed, orErr};
 ghost use Rattle.hardware.specs.Registers.{flag};
-ghost use Rattle.sync.specs.Resource.{acquireBits, acquireBitsNext, releaseBitsNext};
-ghost use Rattle.hostif.specs.Hostif.{tokenNext};
-ghost use Rattle.acquire.specs.Acquire.{hwOf, notGranted, givenBack, acquiredAll, tokenSeen, acquireToken, tryToken, acquire, accessAcquireAt, accessAcquire, restAcquireAt, restAcquire, acquireNext, validAcquireAt, validAcquire};
+ghost use Rattle.sync.specs.Resource.{acquireBits, acquireBitsNext, validAcquireBitsNext, releaseBitsNext, validReleaseBitsNext};
+ghost use Rattle.hostif.specs.Hostif.{tokenNext, validTokenNext};
+ghost use Rattle.acquire.specs.Acquire.{TOKEN-TRIES, hwOf, notGranted, givenBack, acquiredAll, tokenSeen, acquireToken, tryToken, acquire, accessAcquireAt, accessAcquire, restAcquireAt, restAcquire, acquireNext, validAcquireAt, validAcquire, validAcquireNext};
 
 pub const TOKEN_TRIES: u32 = 1000;
 
@@ -55,6 +56,7 @@ pub fn hw(mask: u32) -> u32
 
 fn token_refused(port: Port, hw: u32, left: u32, g: Flag) -> AcquireNext
     ensures { λ r. ⌜ acquireNext port hw r ≡ erase (notGranted (λ _. acquireToken port hw left) (flag g)) ⌝ }
+    ensures { λ r. ⌜ (left < TOKEN-TRIES → validAcquireNext port r ≡ true) ⌝ }
 {
     match g {
         Flag::Ok(_) => AcquireNext::Going(Acquire {
@@ -67,6 +69,7 @@ fn token_refused(port: Port, hw: u32, left: u32, g: Flag) -> AcquireNext
 
 fn releasing(port: Port, hw: u32, left: u32, g: Flag, n: ReleaseBitsNext) -> AcquireNext
     ensures { λ r. ⌜ acquireNext port hw r ≡ followed (releaseBitsNext port hw n) (orErr (λ _. notGranted (λ _. acquireToken port hw left) (flag g))) ⌝ }
+    ensures { λ r. ⌜ (left < TOKEN-TRIES → validReleaseBitsNext n ≡ true → validAcquireNext port r ≡ true) ⌝ }
 {
     match n {
         ReleaseBitsNext::Going(t) => AcquireNext::Going(Acquire {
@@ -83,6 +86,7 @@ fn releasing(port: Port, hw: u32, left: u32, g: Flag, n: ReleaseBitsNext) -> Acq
 // The token did not come: the bits go back first.
 fn give_back(port: Port, hw: u32, left: u32, g: Flag) -> AcquireNext
     ensures { λ r. ⌜ acquireNext port hw r ≡ erase (givenBack port hw (λ _. acquireToken port hw left) (flag g)) ⌝ }
+    ensures { λ r. ⌜ (left < TOKEN-TRIES → validAcquireNext port r ≡ true) ⌝ }
 {
     if hw == 0 {
         return token_refused(port, hw, left, g);
@@ -92,6 +96,7 @@ fn give_back(port: Port, hw: u32, left: u32, g: Flag) -> AcquireNext
 
 fn token_done(port: Port, hw: u32, left: u32, g: Flag) -> AcquireNext
     ensures { λ r. ⌜ acquireNext port hw r ≡ erase (tokenSeen port hw (λ _. acquireToken port hw left) (flag g)) ⌝ }
+    ensures { λ r. ⌜ (left < TOKEN-TRIES → validAcquireNext port r ≡ true) ⌝ }
 {
     match g {
         Flag::Ok(b) => {
@@ -106,6 +111,7 @@ fn token_done(port: Port, hw: u32, left: u32, g: Flag) -> AcquireNext
 
 fn token(port: Port, hw: u32, left: u32, n: TokenNext) -> AcquireNext
     ensures { λ r. ⌜ acquireNext port hw r ≡ followed (tokenNext port true n) (tokenSeen port hw (λ _. acquireToken port hw left)) ⌝ }
+    ensures { λ r. ⌜ (left < TOKEN-TRIES → validTokenNext port n ≡ true → validAcquireNext port r ≡ true) ⌝ }
 {
     match n {
         TokenNext::Going(t) => AcquireNext::Going(Acquire {
@@ -118,12 +124,14 @@ fn token(port: Port, hw: u32, left: u32, n: TokenNext) -> AcquireNext
 
 fn try_token(port: Port, hw: u32, left: u32) -> AcquireNext
     ensures { λ r. ⌜ acquireNext port hw r ≡ erase (tryToken port hw left) ⌝ }
+    ensures { λ r. ⌜ (left < TOKEN-TRIES → validAcquireNext port r ≡ true) ⌝ }
 {
     token(port, hw, left, hostif::token::open(port, true))
 }
 
 fn bits(port: Port, hw: u32, left: u32, n: AcquireBitsNext) -> AcquireNext
     ensures { λ r. ⌜ acquireNext port hw r ≡ followed (acquireBitsNext port hw n) (orErr (λ _. tryToken port hw left)) ⌝ }
+    ensures { λ r. ⌜ (left < TOKEN-TRIES → validAcquireBitsNext (port .family) n ≡ true → validAcquireNext port r ≡ true) ⌝ }
 {
     match n {
         AcquireBitsNext::Going(t) => AcquireNext::Going(Acquire {
@@ -139,6 +147,7 @@ fn bits(port: Port, hw: u32, left: u32, n: AcquireBitsNext) -> AcquireNext
 
 fn plain(port: Port, hw: u32, left: u32, n: AcquireBitsNext) -> AcquireNext
     ensures { λ r. ⌜ acquireNext port hw r ≡ followed (acquireBitsNext port hw n) (orErr (λ _. acquiredAll)) ⌝ }
+    ensures { λ r. ⌜ (left < TOKEN-TRIES → validAcquireBitsNext (port .family) n ≡ true → validAcquireNext port r ≡ true) ⌝ }
 {
     match n {
         AcquireBitsNext::Going(t) => AcquireNext::Going(Acquire {
@@ -151,6 +160,7 @@ fn plain(port: Port, hw: u32, left: u32, n: AcquireBitsNext) -> AcquireNext
 
 fn first(port: Port, hw: u32) -> AcquireBitsNext
     ensures { λ r. ⌜ acquireBitsNext port hw r ≡ erase (acquireBits port hw) ⌝ }
+    ensures { λ r. ⌜ validAcquireBitsNext (port .family) r ≡ true ⌝ }
 {
     let family = port.family;
     sync::acquire_bits::open(port, hw, sync::regs::tries(family), 0)
@@ -159,6 +169,7 @@ fn first(port: Port, hw: u32) -> AcquireBitsNext
 // A try for the bits and the token.
 fn open_token(port: Port, hw: u32, tries: u32) -> AcquireNext
     ensures { λ r. ⌜ acquireNext port hw r ≡ erase (acquireToken port hw tries) ⌝ }
+    ensures { λ r. ⌜ (tries ≤ TOKEN-TRIES → validAcquireNext port r ≡ true) ⌝ }
 {
     if tries == 0 {
         return AcquireNext::End(Outcome::Err(Error::Firmware(
@@ -174,6 +185,7 @@ fn open_token(port: Port, hw: u32, tries: u32) -> AcquireNext
 
 pub fn open(port: Port, mask: u32) -> AcquireNext
     ensures { λ r. ⌜ acquireNext port (hwOf mask) r ≡ erase (acquire port mask) ⌝ }
+    ensures { λ r. ⌜ validAcquireNext port r ≡ true ⌝ }
 {
     let bits = hw(mask);
     if hardware::none_of(mask, TOKEN) {
@@ -203,6 +215,7 @@ pub fn access(port: Port, hw: u32, s: Acquire) -> Access
 
 fn stage_step(port: Port, hw: u32, left: u32, s: Stage, a: Answer) -> AcquireNext
     ensures { λ r. ⌜ acquireNext port hw r ≡ erase (restAcquireAt port hw left s a) ⌝ }
+    ensures { λ r. ⌜ (left < TOKEN-TRIES → validAcquireAt port s ≡ true → validAcquireNext port r ≡ true) ⌝ }
 {
     match s {
         Stage::Plain(t) => plain(port, hw, left, sync::acquire_bits::step(port, hw, t, a)),
@@ -221,6 +234,7 @@ fn stage_step(port: Port, hw: u32, left: u32, s: Stage, a: Answer) -> AcquireNex
 
 pub fn step(port: Port, hw: u32, s: Acquire, a: Answer) -> AcquireNext
     ensures { λ r. ⌜ acquireNext port hw r ≡ erase (restAcquire port hw s a) ⌝ }
+    ensures { λ r. ⌜ (validAcquire port s ≡ true → validAcquireNext port r ≡ true) ⌝ }
 {
     let stage = s.stage;
     stage_step(port, hw, s.left, stage, a)

@@ -10,9 +10,10 @@ use hardware::Outcome;
 use hardware::Port;
 use hardware::Refusal;
 ghost use mathlib.Core.Path.{_≡_};
-ghost use Rattle.hardware.specs.Asked.{yes};
-ghost use Rattle.acquire.specs.Acquire.{acquireNext, releaseNext};
-ghost use Rattle.acquire.specs.Calls.{openAcquire, stepAcquire, saidAcquire, openRelease, stepRelease, saidRelease};
+ghost use mathlib.Core.Bool.{true};
+ghost use Rattle.hardware.specs.Asked.{yes, validPort};
+ghost use Rattle.acquire.specs.Acquire.{acquireNext, validAcquireNext, releaseNext, validReleaseNext};
+ghost use Rattle.acquire.specs.Calls.{openAcquire, stepAcquire, saidAcquire, standsAcquire, openRelease, stepRelease, saidRelease, standsRelease};
 
 // With the port and the mask's bits of SW_FW_SYNC.
 pub enum AcquireCall {
@@ -39,6 +40,7 @@ pub enum ReleaseTold {
 
 fn acquire_told(port: Port, hw: u32, n: AcquireNext) -> AcquireTold
     ensures { λ r. ⌜ saidAcquire r ≡ yes (acquireNext port hw n) ⌝ }
+    ensures { λ r. ⌜ (validPort port ≡ true → validAcquireNext port n ≡ true → standsAcquire r) ⌝ }
 {
     match n {
         AcquireNext::Going(t) => AcquireTold::Ask(
@@ -51,6 +53,7 @@ fn acquire_told(port: Port, hw: u32, n: AcquireNext) -> AcquireTold
 
 pub fn acquire_open(family: u32, device: u16, lan: u32, mask: u32) -> AcquireTold
     ensures { λ r. ⌜ saidAcquire r ≡ openAcquire family device lan mask ⌝ }
+    ensures { λ r. ⌜ standsAcquire r ⌝ }
 {
     match hardware::open_port(family, device, lan) {
         Opening::Port(p) => acquire_told(
@@ -64,6 +67,7 @@ pub fn acquire_open(family: u32, device: u16, lan: u32, mask: u32) -> AcquireTol
 
 pub fn acquire_step(s: AcquireCall, a: Answer) -> AcquireTold
     ensures { λ r. ⌜ saidAcquire r ≡ stepAcquire s a ⌝ }
+    ensures { λ r. ⌜ standsAcquire r ⌝ }
 {
     match s {
         AcquireCall::Going(port, hw, t) => {
@@ -83,6 +87,7 @@ pub fn acquire_step(s: AcquireCall, a: Answer) -> AcquireTold
 
 fn release_told(port: Port, hw: u32, n: ReleaseNext) -> ReleaseTold
     ensures { λ r. ⌜ saidRelease r ≡ yes (releaseNext port hw n) ⌝ }
+    ensures { λ r. ⌜ (validPort port ≡ true → validReleaseNext port n ≡ true → standsRelease r) ⌝ }
 {
     match n {
         ReleaseNext::Going(t) => ReleaseTold::Ask(
@@ -95,6 +100,7 @@ fn release_told(port: Port, hw: u32, n: ReleaseNext) -> ReleaseTold
 
 pub fn release_open(family: u32, device: u16, lan: u32, mask: u32) -> ReleaseTold
     ensures { λ r. ⌜ saidRelease r ≡ openRelease family device lan mask ⌝ }
+    ensures { λ r. ⌜ standsRelease r ⌝ }
 {
     match hardware::open_port(family, device, lan) {
         Opening::Port(p) => release_told(
@@ -108,6 +114,7 @@ pub fn release_open(family: u32, device: u16, lan: u32, mask: u32) -> ReleaseTol
 
 pub fn release_step(s: ReleaseCall, a: Answer) -> ReleaseTold
     ensures { λ r. ⌜ saidRelease r ≡ stepRelease s a ⌝ }
+    ensures { λ r. ⌜ standsRelease r ⌝ }
 {
     match s {
         ReleaseCall::Going(port, hw, t) => {

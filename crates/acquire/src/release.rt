@@ -12,12 +12,12 @@ use sync::regs::TOKEN;
 use sync::release_bits::ReleaseBits;
 use sync::release_bits::ReleaseBitsNext;
 ghost use mathlib.Core.Path.{_≡_};
-ghost use mathlib.Core.Bool.{false};
+ghost use mathlib.Core.Bool.{true, false};
 ghost use Rattle.hardware.specs.Prog.{erase, followed, orErr, ret};
 ghost use Rattle.hardware.specs.Registers.{flag, outcome};
-ghost use Rattle.sync.specs.Resource.{releaseBitsNext};
-ghost use Rattle.hostif.specs.Hostif.{tokenNext};
-ghost use Rattle.acquire.specs.Acquire.{hwOf, giveBits, tokenGiven, release, accessRelease, restRelease, releaseNext, validRelease};
+ghost use Rattle.sync.specs.Resource.{releaseBitsNext, validReleaseBitsNext};
+ghost use Rattle.hostif.specs.Hostif.{tokenNext, validTokenNext};
+ghost use Rattle.acquire.specs.Acquire.{hwOf, giveBits, tokenGiven, release, accessRelease, restRelease, releaseNext, validRelease, validReleaseNext};
 
 // Bits: with how the token's release ended.
 pub enum Release {
@@ -32,6 +32,7 @@ pub enum ReleaseNext {
 
 fn bits(port: Port, hw: u32, w: Outcome, n: ReleaseBitsNext) -> ReleaseNext
     ensures { λ r. ⌜ releaseNext port hw r ≡ followed (releaseBitsNext port hw n) (orErr (λ _. ret (outcome w))) ⌝ }
+    ensures { λ r. ⌜ (validReleaseBitsNext n ≡ true → validReleaseNext port r ≡ true) ⌝ }
 {
     match n {
         ReleaseBitsNext::Going(t) => ReleaseNext::Going(Release::Bits(t, w)),
@@ -44,6 +45,7 @@ fn bits(port: Port, hw: u32, w: Outcome, n: ReleaseBitsNext) -> ReleaseNext
 
 fn open_bits(port: Port, hw: u32, w: Outcome) -> ReleaseNext
     ensures { λ r. ⌜ releaseNext port hw r ≡ erase (giveBits port hw (outcome w)) ⌝ }
+    ensures { λ r. ⌜ validReleaseNext port r ≡ true ⌝ }
 {
     if hw == 0 {
         return ReleaseNext::End(w);
@@ -53,6 +55,7 @@ fn open_bits(port: Port, hw: u32, w: Outcome) -> ReleaseNext
 
 fn token_done(port: Port, hw: u32, g: Flag) -> ReleaseNext
     ensures { λ r. ⌜ releaseNext port hw r ≡ erase (tokenGiven port hw (flag g)) ⌝ }
+    ensures { λ r. ⌜ validReleaseNext port r ≡ true ⌝ }
 {
     match g {
         Flag::Ok(_) => open_bits(port, hw, Outcome::Ok),
@@ -62,6 +65,7 @@ fn token_done(port: Port, hw: u32, g: Flag) -> ReleaseNext
 
 fn token(port: Port, hw: u32, n: TokenNext) -> ReleaseNext
     ensures { λ r. ⌜ releaseNext port hw r ≡ followed (tokenNext port false n) (tokenGiven port hw) ⌝ }
+    ensures { λ r. ⌜ (validTokenNext port n ≡ true → validReleaseNext port r ≡ true) ⌝ }
 {
     match n {
         TokenNext::Going(t) => ReleaseNext::Going(Release::Token(t)),
@@ -71,6 +75,7 @@ fn token(port: Port, hw: u32, n: TokenNext) -> ReleaseNext
 
 pub fn open(port: Port, mask: u32) -> ReleaseNext
     ensures { λ r. ⌜ releaseNext port (hwOf mask) r ≡ erase (release port mask) ⌝ }
+    ensures { λ r. ⌜ validReleaseNext port r ≡ true ⌝ }
 {
     let bits = hw(mask);
     if hardware::none_of(mask, TOKEN) {
@@ -90,6 +95,7 @@ pub fn access(port: Port, hw: u32, s: Release) -> Access
 
 pub fn step(port: Port, hw: u32, s: Release, a: Answer) -> ReleaseNext
     ensures { λ r. ⌜ releaseNext port hw r ≡ erase (restRelease port hw s a) ⌝ }
+    ensures { λ r. ⌜ (validRelease port s ≡ true → validReleaseNext port r ≡ true) ⌝ }
 {
     match s {
         Release::Token(t) => token(port, hw, hostif::token::step(port, false, t, a)),

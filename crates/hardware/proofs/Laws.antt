@@ -1,13 +1,21 @@
 -- Laws of the register programs that the proofs cite.
-use Prim.Native.Nat.{ℕ, _-_, suc, zero}
+use Prim.Native.Nat.{ℕ, _-_, _<_, _≤_, suc, zero}
 use mathlib.Core.Path.{_≡_, refl, ap}
+use mathlib.Core.Bool.{Bool, true, false}
 use mathlib.Core.List.{List, [], _∷_}
+use lib.Dec.{ltb}
 use lib.ListN.{getD}
 use native.Mathlib.Numerals.{sub-one}
-use Rattle.hardware.specs.Prog.{Prog, ask, erase, orErr, _>>=_}
-use Rattle.hardware.specs.Asked.{Asked, no, yes, andThen}
+use native.Mathlib.Omega.{arith}
+use borrow.Author.Tests.{ltb-true}
+use Rattle.hardware.specs.Prog.{Prog, ask, erase, orErr, _>>=_, pick}
+use Rattle.hardware.specs.Asked.{Asked, no, yes, andThen, question, openFamily, openLan, openPort, portOpened, validPort}
 use Rattle.hardware.specs.Runs.{run, ran, run-erase}
 use Rattle.hardware.specs.declared.Answer.{Answer}
+use Rattle.hardware.specs.declared.Family.{Family}
+use Rattle.hardware.specs.declared.Port.{Port}
+use Rattle.hardware.specs.declared.Opening.{Opening}
+use Rattle.hardware.specs.declared.Opening.the-variants.{Port as Opened}
 use Rattle.hardware.specs.Poll.{poll, polled, pollNext, accessPoll, restPoll}
 use Rattle.hardware.specs.declared.poll.Watch.{Watch}
 use Rattle.hardware.specs.declared.poll.Poll.the-variants.{Reading}
@@ -36,3 +44,32 @@ pub runs-open : {A B : Type 0} (o : Asked A) (p : A → Prog B) (l : List Answer
 unfolding ran andThen
 runs-open (no n) p l = refl
 runs-open (yes a) p l = ap (λ r. yes (r l)) (run-erase (p a))
+
+-- a counter within its limit is below it once it has gone down by one
+pub one-less : (n limit : ℕ) → (n ≡ 0 → ⊥) → n ≤ limit → n - 1 < limit
+one-less n limit h l = omega arith
+
+pub below : (n limit : ℕ) → ltb n limit ≡ true → n ≤ limit
+below n limit h = omega (arith, ltb-true n limit h)
+
+-- two questions in one are both a yes
+pub both-true : (a b : Bool) → pick a b false ≡ true → (a ≡ true) × (b ≡ true)
+unfolding pick
+both-true true b h = (refl, h)
+both-true false b h = (h, cc)
+
+-- a port that an opening gives passes question 10
+lan-valid : (device lan : ℕ) (f : Family) (p : Port) (b : Bool) → ltb lan 2 ≡ b
+    → yes p ≡ question b 2 (yes (record { family = f; device = device; lan = lan })) → validPort p ≡ true
+unfolding question validPort
+lan-valid device lan f p true e h = cc
+lan-valid device lan f p false e h = cc
+
+family-valid : (device lan : ℕ) (p : Port) (o : Asked Family) → yes p ≡ andThen o (openLan device lan) → validPort p ≡ true
+unfolding andThen openLan
+family-valid device lan p (yes f) h = lan-valid device lan f p (ltb lan 2) refl h
+family-valid device lan p (no n) h = cc
+
+pub opened-valid : (family device lan : ℕ) {o : Opening} {p : Port} → o ≡ Opened p → portOpened o ≡ openPort family device lan → validPort p ≡ true
+unfolding openPort portOpened
+opened-valid family device lan {p = p} e h = family-valid device lan p (openFamily family) (rw e at h)

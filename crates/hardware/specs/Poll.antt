@@ -1,6 +1,6 @@
 -- A register is read until a bit of it is clear.
 use Prim.Native.Nat.{ℕ, suc, zero}
-use mathlib.Core.Bool.{Bool}
+use mathlib.Core.Bool.{Bool, true}
 use lib.Dec.{ltb}
 use Rattle.hardware.specs.declared.Access.{Access}
 use Rattle.hardware.specs.declared.Access.the-variants.{Read, Wait}
@@ -39,3 +39,8 @@ pollNext w (End v) = ret (word v)
 unfoldable pub validPoll : ℕ → Poll → Bool
 validPoll tries (Reading left) = ltb left tries
 validPoll tries (Waiting left last) = ltb left tries
+
+-- what is left keeps within the limit
+unfoldable pub validPollNext : ℕ → PollNext → Bool
+validPollNext tries (Going s) = validPoll tries s
+validPollNext tries (End v) = true

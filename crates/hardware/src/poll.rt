@@ -3,10 +3,12 @@ use crate::Access;
 use crate::Answer;
 use crate::Micros;
 use crate::Word;
+ghost use Prim.Native.Nat.{ℕ, _<_, _≤_};
 ghost use mathlib.Core.Path.{_≡_};
+ghost use mathlib.Core.Bool.{true};
 ghost use Rattle.hardware.specs.Prog.{erase, orErr};
 ghost use Rattle.hardware.specs.Registers.{word};
-ghost use Rattle.hardware.specs.Poll.{poll, polled, accessPoll, restPoll, pollNext, validPoll};
+ghost use Rattle.hardware.specs.Poll.{poll, polled, accessPoll, restPoll, pollNext, validPoll, validPollNext};
 
 pub struct Watch {
     pub register: u32,
@@ -27,6 +29,7 @@ pub enum PollNext {
 
 pub fn open(w: Watch, tries: u32, last: u32) -> PollNext
     ensures { λ r. ⌜ pollNext w r ≡ erase (poll w tries last) ⌝ }
+    ensures { λ r. ⌜ ((n : ℕ) → tries ≤ n → validPollNext n r ≡ true) ⌝ }
 {
     if tries == 0 {
         return PollNext::End(Word::Ok(last));
@@ -48,6 +51,7 @@ pub fn access(w: Watch, s: Poll) -> Access
 
 fn seen(w: Watch, left: u32, v: Word) -> PollNext
     ensures { λ r. ⌜ pollNext w r ≡ erase (orErr (polled w (poll w left)) (word v)) ⌝ }
+    ensures { λ r. ⌜ ((n : ℕ) → left < n → validPollNext n r ≡ true) ⌝ }
 {
     match v {
         Word::Ok(v) => {
@@ -62,6 +66,7 @@ fn seen(w: Watch, left: u32, v: Word) -> PollNext
 
 pub fn step(w: Watch, s: Poll, a: Answer) -> PollNext
     ensures { λ r. ⌜ pollNext w r ≡ erase (restPoll w s a) ⌝ }
+    ensures { λ r. ⌜ ((n : ℕ) → validPoll n s ≡ true → validPollNext n r ≡ true) ⌝ }
 {
     match s {
         Poll::Reading(left) => seen(w, left, crate::read(a)),

@@ -1,5 +1,5 @@
 -- Laws of the reference programs that the proofs cite.
-use Prim.Native.Nat.{ℕ, _+_, _-_, _/_, _%_, _<_, _≤_, suc, zero}
+use Prim.Native.Nat.{ℕ, _+_, _*_, _-_, _/_, _%_, _<_, _≤_, suc, zero}
 use mathlib.Core.Path.{_≡_, refl, ap, _∙_, sym}
 use mathlib.Core.List.{List, [], _∷_}
 use native.Mathlib.Numerals.{sub-one, add-one}
@@ -7,11 +7,14 @@ use native.Mathlib.Omega.{arith}
 use lib.ListN.{length, getD, set, drop, drop-of-length-le}
 use lib.Seq.{drop-cons}
 use mathlib.Core.Bool.{Bool, true, false}
-use borrow.Author.Tests.{leb-true}
-use Rattle.hardware.specs.Prog.{ask, erase, orErr, _>>=_, pick}
+use lib.Dec.{ltb}
+use borrow.Author.Tests.{leb-true, lt-ltb, ltb-true}
+use native.Mathlib.Nat.{div-lt-iff-lt-mul}
+use Rattle.hardware.specs.Prog.{ask, erase, orErr, _>>=_}
+use Rattle.hardware.proofs.Laws.{below, both-true}
 use Rattle.hostif.specs.Calls.{blockFits}
 use Rattle.hardware.specs.declared.Answer.{Answer}
-use Rattle.hostif.specs.Hostif.{Left, words, start, wordSeen, fill, accessRequest, restRequest, requestNext, accessResponse, restResponse, responseNext}
+use Rattle.hostif.specs.Hostif.{Left, lenOf, wordsOf, words, start, wordSeen, fill, accessRequest, restRequest, requestNext, accessResponse, restResponse, responseNext, validResponse}
 use Rattle.hostif.specs.declared.request.Request.the-variants.{Word, Start}
 use Rattle.hostif.specs.declared.request.RequestNext.the-variants.{Going as RequestGoing}
 use Rattle.hostif.specs.declared.response.Response.the-variants.{Rest}
@@ -40,12 +43,21 @@ two-words (a ∷ []) e = absurd (omega arith)
 two-words (a ∷ b ∷ []) e = refl
 two-words (a ∷ b ∷ c ∷ l) e = absurd (omega arith)
 
-pick-and : (b c : Bool) → pick b c false ≡ true → c ≡ true
-unfolding pick
-pick-and true c e = e
-pick-and false c e = cc
-
 -- a block that is accepted has at most 64 words
 pub block-fits : (l : List ℕ) → blockFits l ≡ true → length l ≤ 64
 unfolding blockFits
-block-fits l e = leb-true _ _ (pick-and _ _ e)
+block-fits l e = leb-true _ _ (both-true _ _ e .1)
+
+-- a block that has words has a first one
+pub first-word : (n : ℕ) → (n ≡ 0 → ⊥) → ltb 0 n ≡ true
+first-word n h = lt-ltb 0 n (omega arith)
+
+-- a response that fits the block leaves room for its head
+pub words-fit : (head n : ℕ) → lenOf head + 4 ≤ 4 * n → wordsOf head < n
+unfolding wordsOf
+words-fit head n h = div-lt-iff-lt-mul {k = 4} {x = lenOf head + 3} {y = n} (omega arith) .1 (omega arith)
+
+-- what is left of a response is no more than all of it, and that fits the block
+pub rest-fits : (n head left : ℕ) → validResponse n (Rest head left) ≡ true → (left ≤ wordsOf head) × (wordsOf head < n)
+unfolding validResponse
+rest-fits n head left v = (below _ _ (both-true _ _ v .0), ltb-true _ _ (both-true _ _ v .1))

@@ -1,21 +1,29 @@
 -- Whole calls of `command` and `token`: for every port and block that is accepted and every list of answers the
 -- library's run is the Rust's, and every list of answers of the awaited kinds that is long enough brings it to its end.
+-- A state that was handed out is not refused at its next step.
 use Prim.Native.Nat.{ℕ, _≤_}
 use mathlib.Core.Path.{_≡_, refl, ap, _∙_}
 use mathlib.Core.Bool.{Bool, true, false}
 use mathlib.Core.List.{List}
 use lib.ListN.{length}
+use Rattle.hardware.specs.declared.Access.{Access}
 use Rattle.hardware.specs.declared.Answer.{Answer}
 use Rattle.hardware.specs.declared.Port.{Port}
-use Rattle.hardware.specs.Asked.{Asked, no, yes, andThen, openPort}
+use Rattle.hardware.specs.Asked.{Asked, no, yes, andThen, question, openPort, fits}
 use Rattle.hardware.specs.Prog.{R, erase}
 use Rattle.hardware.specs.Runs.{Run, run, ran, run-erase, Awaited, ended}
 use Rattle.hardware.proofs.Laws.{runs-open}
 use Rattle.hardware.proofs.Ends.{run-ends}
+use Rattle.hostif.specs.declared.command.Command.{Command}
+use Rattle.hostif.specs.declared.token.Token.{Token}
+use Rattle.hostif.specs.declared.calls.CommandCall.the-variants.{Going as CommandGoing}
 use Rattle.hostif.specs.declared.calls.CommandTold.{CommandTold}
+use Rattle.hostif.specs.declared.calls.CommandTold.the-variants.{Ask as CommandAsk}
+use Rattle.hostif.specs.declared.calls.TokenCall.the-variants.{Going as TokenGoing}
 use Rattle.hostif.specs.declared.calls.TokenTold.{TokenTold}
-use Rattle.hostif.specs.Hostif.{Left, command, token}
-use Rattle.hostif.specs.Calls.{goes, asked, blockFits, openedBlock, openCommand, saidCommand, openToken, saidToken}
+use Rattle.hostif.specs.declared.calls.TokenTold.the-variants.{Ask as TokenAsk}
+use Rattle.hostif.specs.Hostif.{Left, command, restCommand, token, restToken}
+use Rattle.hostif.specs.Calls.{goes, asked, blockFits, openedBlock, openCommand, stepped, stepCommand, saidCommand, standsCommand, openToken, stepToken, saidToken, standsToken}
 use Rattle.hostif.proofs.Ends.{COMMAND-STEPS, command-ends, TOKEN-STEPS, token-ends}
 
 accepted : (b : Bool) (block : List ℕ) (port : Port) → b ≡ true → asked b 8 block (goes (erase (command port block))) ≡ goes (erase (command port block))
@@ -37,6 +45,13 @@ pub command-finishes : (port : Port) (block : List ℕ) (l : List Answer) → CO
     → Awaited (command port block) l → (v : Left) × ((run (command port block) l) .stand ≡ ended v)
 command-finishes port block l h w = run-ends (command port block) (COMMAND-STEPS (port .family) (length block)) l (command-ends port block) h w
 
+-- a state that was handed out, with its block and any answer of the kind that its access awaits, is not refused
+pub command-accepts : (x : Access) (port : Port) (t : Command) (block : List ℕ) (a : Answer)
+    → standsCommand (CommandAsk x (CommandGoing port t)) block → blockFits block ≡ true → fits x a ≡ true
+    → stepCommand (CommandGoing port t) block a ≡ goes (erase (restCommand port t block a))
+unfolding standsCommand stepCommand stepped asked
+command-accepts x port t block a h b e = rw (b, h .1, h .2, ← h .0, e)
+
 pub token-runs : (family device lan : ℕ) (take : Bool) (r : TokenTold) → saidToken r ≡ openToken family device lan take → (l : List Answer)
     → ran (saidToken r) l ≡ andThen (openPort family device lan) (λ port. yes (run (token port take) l))
 unfolding openToken
@@ -45,3 +60,8 @@ token-runs family device lan take r e l = ap (λ x. ran x l) e ∙ runs-open (op
 pub token-finishes : (port : Port) (take : Bool) (l : List Answer) → TOKEN-STEPS (port .family) ≤ length l → Awaited (token port take) l
     → (v : R Bool) × ((run (token port take) l) .stand ≡ ended v)
 token-finishes port take l h w = run-ends (token port take) (TOKEN-STEPS (port .family)) l (token-ends port take) h w
+
+pub token-accepts : (x : Access) (port : Port) (take : Bool) (t : Token) (a : Answer) → standsToken (TokenAsk x (TokenGoing port take t))
+    → fits x a ≡ true → stepToken (TokenGoing port take t) a ≡ yes (erase (restToken port take t a))
+unfolding standsToken stepToken question
+token-accepts x port take t a h e = rw (h .1, h .2, ← h .0, e)

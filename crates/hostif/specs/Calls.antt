@@ -1,5 +1,6 @@
 -- What the public calls of `command` and `token` yield: a refusal by its number, or what is left of the call.
 use Prim.Native.Nat.{ℕ}
+use mathlib.Core.Path.{_≡_}
 use mathlib.Core.Bool.{Bool, true, false}
 use mathlib.Core.List.{List}
 use lib.Dec.{leb}
@@ -60,6 +61,14 @@ saidCommand (CommandEnd b CommandOver) block = goes (ret (record { status = byte
 saidCommand (CommandEnd b (CommandGoing port t)) block = refused 0 block
 saidCommand (CommandRefused q) block = refused (refusalNumber q) block
 
+-- a state to go on from comes with the access it awaits, and passes question 10 with the block as it is then
+unfoldable pub standsCommand : CommandTold → List ℕ → Type 0
+standsCommand (CommandAsk x (CommandGoing port t)) block =
+    (x ≡ accessCommand port t block) × (validPort port ≡ true) × (validCommand port (length block) t ≡ true)
+standsCommand (CommandAsk x CommandOver) block = ⊥
+standsCommand (CommandEnd b s) block = Unit {0}
+standsCommand (CommandRefused q) block = Unit {0}
+
 -- `token`: 1 and 2
 unfoldable pub openToken : ℕ → ℕ → ℕ → Bool → Asked (Prog (R Bool))
 openToken family device lan take = andThen (openPort family device lan) (λ port. yes (erase (token port take)))
@@ -76,3 +85,9 @@ saidToken (TokenAsk x TokenOver) = no 0
 saidToken (TokenEnd b TokenOver) = yes (ret (flag b))
 saidToken (TokenEnd b (TokenGoing port take t)) = no 0
 saidToken (TokenRefused q) = no (refusalNumber q)
+
+unfoldable pub standsToken : TokenTold → Type 0
+standsToken (TokenAsk x (TokenGoing port take t)) = (x ≡ accessToken port t) × (validPort port ≡ true) × (validToken port t ≡ true)
+standsToken (TokenAsk x TokenOver) = ⊥
+standsToken (TokenEnd b s) = Unit {0}
+standsToken (TokenRefused q) = Unit {0}

@@ -196,6 +196,11 @@ validRequest n (Word hicr at) = ltb at n
 validRequest n (Start hicr) = true
 validRequest n (Polling t) = validPoll POLLS t
 
+-- what is left keeps within the limits
+unfoldable pub validRequestNext : ℕ → RequestNext → Bool
+validRequestNext n (RequestGoing s) = validRequest n s
+validRequestNext n (RequestEnd w) = true
+
 unfoldable pub accessResponse : Response → Access
 accessResponse (Head last) = Read FLEX-MNG
 accessResponse (Rest head left) = Read (FLEX-MNG + 4 * (wordsOf head - left))
@@ -212,6 +217,10 @@ responseNext (ResponseEnd b) block = ret (record { status = byte b; block = bloc
 unfoldable pub validResponse : ℕ → Response → Bool
 validResponse n (Head last) = true
 validResponse n (Rest head left) = pick (ltb left (wordsOf head)) (ltb (wordsOf head) n) false
+
+unfoldable pub validResponseNext : ℕ → ResponseNext → Bool
+validResponseNext n (ResponseGoing s) = validResponse n s
+validResponseNext n (ResponseEnd b) = true
 
 unfoldable pub accessCommand : Port → Command → List ℕ → Access
 accessCommand port (Acquiring t) block = accessAcquireBits port SW-MNG t
@@ -235,6 +244,10 @@ validCommand port n (Requesting t) = validRequest n t
 validCommand port n (Responding t) = validResponse n t
 validCommand port n (Releasing t s) = validReleaseBits t
 
+unfoldable pub validCommandNext : Port → ℕ → CommandNext → Bool
+validCommandNext port n (CommandGoing s) = validCommand port n s
+validCommandNext port n (CommandEnd b) = true
+
 -- the token's two words stand in its state
 abbrev pub tokenWords : Token → List ℕ
 tokenWords s = s .first ∷ s .second ∷ []
@@ -251,3 +264,7 @@ tokenNext port take (TokenEnd b) = ret (flag b)
 
 unfoldable pub validToken : Port → Token → Bool
 validToken port s = validCommand port 2 (s .command)
+
+unfoldable pub validTokenNext : Port → TokenNext → Bool
+validTokenNext port (TokenGoing s) = validToken port s
+validTokenNext port (TokenEnd b) = true

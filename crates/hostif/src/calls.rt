@@ -12,12 +12,13 @@ use hardware::Port;
 use hardware::Refusal;
 ghost use Prim.Native.Nat.{ℕ, _≤_};
 ghost use mathlib.Core.Path.{_≡_};
+ghost use mathlib.Core.Bool.{true};
 ghost use mathlib.Core.List.{List};
 ghost use lib.ListN.{length};
-ghost use Rattle.hardware.specs.Asked.{yes};
+ghost use Rattle.hardware.specs.Asked.{yes, validPort};
 ghost use Rattle.hardware.specs.Prog.{erase};
-ghost use Rattle.hostif.specs.Hostif.{commandNext, restCommand, tokenNext};
-ghost use Rattle.hostif.specs.Calls.{goes, blockFits, openCommand, stepped, stepCommand, saidCommand, openToken, stepToken, saidToken};
+ghost use Rattle.hostif.specs.Hostif.{commandNext, restCommand, validCommand, validCommandNext, tokenNext, validTokenNext};
+ghost use Rattle.hostif.specs.Calls.{goes, blockFits, openCommand, stepped, stepCommand, saidCommand, standsCommand, openToken, stepToken, saidToken, standsToken};
 
 pub enum CommandCall {
     Going(Port, Command),
@@ -53,6 +54,7 @@ fn fits(n: usize) -> bool
 
 fn command_told(port: Port, block: &[u32], n: CommandNext) -> CommandTold
     ensures { λ r. ⌜ saidCommand r (now (block .entry)) ≡ goes (commandNext port n (now (block .entry))) ⌝ }
+    ensures { λ r. ⌜ (validPort port ≡ true → validCommandNext port (length (now (block .entry))) n ≡ true → standsCommand r (now (block .entry))) ⌝ }
 {
     match n {
         CommandNext::Going(t) => CommandTold::Ask(
@@ -65,6 +67,7 @@ fn command_told(port: Port, block: &[u32], n: CommandNext) -> CommandTold
 
 pub fn command_open(family: u32, device: u16, lan: u32, block: &[u32]) -> CommandTold
     ensures { λ r. ⌜ saidCommand r (now (block .entry)) ≡ openCommand family device lan (now (block .entry)) ⌝ }
+    ensures { λ r. ⌜ standsCommand r (now (block .entry)) ⌝ }
 {
     match hardware::open_port(family, device, lan) {
         Opening::Port(p) => {
@@ -80,6 +83,7 @@ pub fn command_open(family: u32, device: u16, lan: u32, block: &[u32]) -> Comman
 fn go(port: Port, t: Command, block: &mut [u32], a: Answer) -> CommandTold
     requires { ⌜ length (now block) ≤ 64 ⌝ }
     ensures { λ r. ⌜ saidCommand r (now (block .exit)) ≡ goes (erase (restCommand port t (now (block .entry)) a)) ⌝ }
+    ensures { λ r. ⌜ (validPort port ≡ true → validCommand port (length (now (block .entry))) t ≡ true → standsCommand r (now (block .exit))) ⌝ }
 {
     let n = crate::command::step(port, t, block, a);
     command_told(port, block, n)
@@ -88,6 +92,7 @@ fn go(port: Port, t: Command, block: &mut [u32], a: Answer) -> CommandTold
 fn command_on(port: Port, t: Command, block: &mut [u32], a: Answer) -> CommandTold
     requires { ⌜ length (now block) ≤ 64 ⌝ }
     ensures { λ r. ⌜ saidCommand r (now (block .exit)) ≡ stepped (CommandCall.Going port t) (now (block .entry)) a ⌝ }
+    ensures { λ r. ⌜ standsCommand r (now (block .exit)) ⌝ }
 {
     if hardware::valid_port(port) {
         if crate::command::valid(port, block.len(), t) {
@@ -102,6 +107,7 @@ fn command_on(port: Port, t: Command, block: &mut [u32], a: Answer) -> CommandTo
 
 pub fn command_step(s: CommandCall, block: &mut [u32], a: Answer) -> CommandTold
     ensures { λ r. ⌜ saidCommand r (now (block .exit)) ≡ stepCommand s (now (block .entry)) a ⌝ }
+    ensures { λ r. ⌜ standsCommand r (now (block .exit)) ⌝ }
 {
     if fits(block.len()) {
         return match s {
@@ -114,6 +120,7 @@ pub fn command_step(s: CommandCall, block: &mut [u32], a: Answer) -> CommandTold
 
 fn token_told(port: Port, take: bool, n: TokenNext) -> TokenTold
     ensures { λ r. ⌜ saidToken r ≡ yes (tokenNext port take n) ⌝ }
+    ensures { λ r. ⌜ (validPort port ≡ true → validTokenNext port n ≡ true → standsToken r) ⌝ }
 {
     match n {
         TokenNext::Going(t) => TokenTold::Ask(
@@ -126,6 +133,7 @@ fn token_told(port: Port, take: bool, n: TokenNext) -> TokenTold
 
 pub fn token_open(family: u32, device: u16, lan: u32, take: bool) -> TokenTold
     ensures { λ r. ⌜ saidToken r ≡ openToken family device lan take ⌝ }
+    ensures { λ r. ⌜ standsToken r ⌝ }
 {
     match hardware::open_port(family, device, lan) {
         Opening::Port(p) => token_told(p, take, crate::token::open(p, take)),
@@ -135,6 +143,7 @@ pub fn token_open(family: u32, device: u16, lan: u32, take: bool) -> TokenTold
 
 pub fn token_step(s: TokenCall, a: Answer) -> TokenTold
     ensures { λ r. ⌜ saidToken r ≡ stepToken s a ⌝ }
+    ensures { λ r. ⌜ standsToken r ⌝ }
 {
     match s {
         TokenCall::Going(port, take, t) => {

@@ -17,13 +17,14 @@ use sync::release_bits::ReleaseBits;
 use sync::release_bits::ReleaseBitsNext;
 ghost use Prim.Native.Nat.{ℕ, _≤_};
 ghost use mathlib.Core.Path.{_≡_};
+ghost use mathlib.Core.Bool.{true};
 ghost use mathlib.Core.List.{List};
 ghost use lib.ListN.{length};
 ghost use Rattle.hardware.specs.Prog.{erase, followed};
 ghost use Rattle.hardware.specs.Registers.{word, outcome, byte};
 ghost use Rattle.sync.specs.Regs.{SW-MNG};
-ghost use Rattle.sync.specs.Resource.{acquireBitsNext, releaseBitsNext};
-ghost use Rattle.hostif.specs.Hostif.{both, closed, requestNext, responseNext, released, requested, acquired, command, accessCommand, restCommand, commandNext, validCommand};
+ghost use Rattle.sync.specs.Resource.{acquireBitsNext, validAcquireBitsNext, releaseBitsNext, validReleaseBitsNext};
+ghost use Rattle.hostif.specs.Hostif.{both, closed, requestNext, validRequestNext, responseNext, validResponseNext, released, requested, acquired, command, accessCommand, restCommand, commandNext, validCommand, validCommandNext};
 
 // Releasing: with how the command closed.
 pub enum Command {
@@ -53,6 +54,7 @@ fn outcome_of(s: Byte, o: Outcome) -> Byte
 
 fn releasing(port: Port, s: Byte, n: ReleaseBitsNext) -> CommandNext
     ensures { λ r. ⌜ ((l : List ℕ) → commandNext port r l ≡ followed (releaseBitsNext port SW-MNG n) (closed (byte s) l)) ⌝ }
+    ensures { λ r. ⌜ ((m : ℕ) → validReleaseBitsNext n ≡ true → validCommandNext port m r ≡ true) ⌝ }
 {
     match n {
         ReleaseBitsNext::Going(t) => CommandNext::Going(Command::Releasing(t, s)),
@@ -62,12 +64,14 @@ fn releasing(port: Port, s: Byte, n: ReleaseBitsNext) -> CommandNext
 
 fn release(port: Port, s: Byte) -> CommandNext
     ensures { λ r. ⌜ ((l : List ℕ) → commandNext port r l ≡ erase (released port (record { status = byte s; block = l }))) ⌝ }
+    ensures { λ r. ⌜ ((m : ℕ) → validCommandNext port m r ≡ true) ⌝ }
 {
     releasing(port, s, sync::release_bits::open(port, SW_MNG))
 }
 
 fn responding(port: Port, n: ResponseNext) -> CommandNext
     ensures { λ r. ⌜ ((l : List ℕ) → commandNext port r l ≡ followed (responseNext n l) (released port)) ⌝ }
+    ensures { λ r. ⌜ ((m : ℕ) → validResponseNext m n ≡ true → validCommandNext port m r ≡ true) ⌝ }
 {
     match n {
         ResponseNext::Going(t) => CommandNext::Going(Command::Responding(t)),
@@ -77,6 +81,7 @@ fn responding(port: Port, n: ResponseNext) -> CommandNext
 
 fn request_done(port: Port, w: Word) -> CommandNext
     ensures { λ r. ⌜ ((l : List ℕ) → commandNext port r l ≡ erase (requested port l (word w))) ⌝ }
+    ensures { λ r. ⌜ ((m : ℕ) → validCommandNext port m r ≡ true) ⌝ }
 {
     match w {
         Word::Ok(last) => CommandNext::Going(Command::Responding(Response::Head(last))),
@@ -86,6 +91,7 @@ fn request_done(port: Port, w: Word) -> CommandNext
 
 fn requesting(port: Port, n: RequestNext) -> CommandNext
     ensures { λ r. ⌜ ((l : List ℕ) → commandNext port r l ≡ followed (requestNext n l) (requested port l)) ⌝ }
+    ensures { λ r. ⌜ ((m : ℕ) → validRequestNext m n ≡ true → validCommandNext port m r ≡ true) ⌝ }
 {
     match n {
         RequestNext::Going(t) => CommandNext::Going(Command::Requesting(t)),
@@ -95,6 +101,7 @@ fn requesting(port: Port, n: RequestNext) -> CommandNext
 
 fn acquiring(port: Port, n: AcquireBitsNext) -> CommandNext
     ensures { λ r. ⌜ ((l : List ℕ) → commandNext port r l ≡ followed (acquireBitsNext port SW-MNG n) (acquired port l)) ⌝ }
+    ensures { λ r. ⌜ ((m : ℕ) → validAcquireBitsNext (port .family) n ≡ true → validCommandNext port m r ≡ true) ⌝ }
 {
     match n {
         AcquireBitsNext::Going(t) => CommandNext::Going(Command::Acquiring(t)),
@@ -107,6 +114,7 @@ fn acquiring(port: Port, n: AcquireBitsNext) -> CommandNext
 
 pub(crate) fn open(port: Port) -> CommandNext
     ensures { λ r. ⌜ ((l : List ℕ) → commandNext port r l ≡ erase (command port l)) ⌝ }
+    ensures { λ r. ⌜ ((m : ℕ) → validCommandNext port m r ≡ true) ⌝ }
 {
     let family = port.family;
     acquiring(
@@ -129,6 +137,7 @@ pub(crate) fn access(port: Port, s: Command, block: &[u32]) -> Access
 pub(crate) fn step(port: Port, s: Command, block: &mut [u32], a: Answer) -> CommandNext
     requires { ⌜ length (now block) ≤ 64 ⌝ }
     ensures { λ r. ⌜ commandNext port r (now (block .exit)) ≡ erase (restCommand port s (now (block .entry)) a) ⌝ }
+    ensures { λ r. ⌜ (validCommand port (length (now (block .entry))) s ≡ true → validCommandNext port (length (now (block .entry))) r ≡ true) ⌝ }
 {
     match s {
         Command::Acquiring(t) => acquiring(port, sync::acquire_bits::step(port, SW_MNG, t, a)),

@@ -15,13 +15,14 @@ use hardware::poll::PollNext;
 use hardware::poll::Watch;
 ghost use Prim.Native.Nat.{ℕ, _+_, _≤_};
 ghost use mathlib.Core.Path.{_≡_};
+ghost use mathlib.Core.Bool.{true};
 ghost use mathlib.Core.List.{List};
 ghost use lib.ListN.{length, drop, getD};
 ghost use Rattle.hardware.specs.Prog.{erase, followed, orErr};
 ghost use Rattle.hardware.specs.Registers.{word, outcome};
-ghost use Rattle.hardware.specs.Poll.{pollNext};
+ghost use Rattle.hardware.specs.Poll.{pollNext, validPollNext};
 ghost use Rattle.hardware.specs.Change.{updateNext};
-ghost use Rattle.hostif.specs.Hostif.{hicrWatch, setFwri, words, completed, polling, start, enabled, hicrRead, accessRequest, restRequest, requestNext, validRequest};
+ghost use Rattle.hostif.specs.Hostif.{POLLS, hicrWatch, setFwri, words, completed, polling, start, enabled, hicrRead, accessRequest, restRequest, requestNext, validRequest, validRequestNext};
 
 pub const HICR: u32 = 0x1_5f00;
 
@@ -99,6 +100,7 @@ pub(crate) fn access(s: Request, block: &[u32]) -> Access
 
 fn fwsts(n: UpdateNext) -> RequestNext
     ensures { λ r. ⌜ ((l : List ℕ) → requestNext r l ≡ followed (updateNext setFwri n) (orErr (λ _. hicrRead l))) ⌝ }
+    ensures { λ r. ⌜ ((m : ℕ) → validRequestNext m r ≡ true) ⌝ }
 {
     match n {
         UpdateNext::Going(t) => RequestNext::Going(Request::Fwsts(t)),
@@ -111,6 +113,7 @@ fn fwsts(n: UpdateNext) -> RequestNext
 
 fn hicr(n: usize, w: Word) -> RequestNext
     ensures { λ r. ⌜ ((l : List ℕ) → length l ≡ n → requestNext r l ≡ erase (orErr (enabled l) (word w))) ⌝ }
+    ensures { λ r. ⌜ validRequestNext n r ≡ true ⌝ }
 {
     match w {
         Word::Ok(v) => {
@@ -129,6 +132,7 @@ fn hicr(n: usize, w: Word) -> RequestNext
 fn written(n: usize, hicr: u32, at: u8, o: Outcome) -> RequestNext
     requires { ⌜ n ≤ 64 ⌝ }
     ensures { λ r. ⌜ ((l : List ℕ) → length l ≡ n → requestNext r l ≡ erase (orErr (λ _. words (at + 1) (drop (at + 1) l) (start hicr)) (outcome o))) ⌝ }
+    ensures { λ r. ⌜ validRequestNext n r ≡ true ⌝ }
 {
     match o {
         Outcome::Ok => {
@@ -143,6 +147,7 @@ fn written(n: usize, hicr: u32, at: u8, o: Outcome) -> RequestNext
 
 fn complete(w: Word) -> RequestNext
     ensures { λ r. ⌜ ((l : List ℕ) → requestNext r l ≡ erase (orErr completed (word w))) ⌝ }
+    ensures { λ r. ⌜ ((m : ℕ) → validRequestNext m r ≡ true) ⌝ }
 {
     match w {
         Word::Ok(last) => {
@@ -160,6 +165,7 @@ fn complete(w: Word) -> RequestNext
 
 fn poll(n: PollNext) -> RequestNext
     ensures { λ r. ⌜ ((l : List ℕ) → requestNext r l ≡ followed (pollNext hicrWatch n) (orErr completed)) ⌝ }
+    ensures { λ r. ⌜ ((m : ℕ) → validPollNext POLLS n ≡ true → validRequestNext m r ≡ true) ⌝ }
 {
     match n {
         PollNext::Going(t) => RequestNext::Going(Request::Polling(t)),
@@ -169,6 +175,7 @@ fn poll(n: PollNext) -> RequestNext
 
 fn started(hicr: u32, o: Outcome) -> RequestNext
     ensures { λ r. ⌜ ((l : List ℕ) → requestNext r l ≡ erase (orErr (λ _. polling hicr) (outcome o))) ⌝ }
+    ensures { λ r. ⌜ ((m : ℕ) → validRequestNext m r ≡ true) ⌝ }
 {
     match o {
         Outcome::Ok => poll(hardware::poll::open(watch(), POLLS, hicr | HICR_C)),
@@ -180,6 +187,7 @@ fn started(hicr: u32, o: Outcome) -> RequestNext
 pub(crate) fn step(n: usize, s: Request, a: Answer) -> RequestNext
     requires { ⌜ n ≤ 64 ⌝ }
     ensures { λ r. ⌜ ((l : List ℕ) → length l ≡ n → requestNext r l ≡ erase (restRequest s l a)) ⌝ }
+    ensures { λ r. ⌜ (validRequest n s ≡ true → validRequestNext n r ≡ true) ⌝ }
 {
     match s {
         Request::Fwsts(t) => fwsts(hardware::change::step(fwri(), t, a)),

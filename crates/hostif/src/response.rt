@@ -5,13 +5,14 @@ use hardware::Answer;
 use hardware::Byte;
 use hardware::Error;
 use hardware::Word;
-ghost use Prim.Native.Nat.{ℕ, _-_};
+ghost use Prim.Native.Nat.{ℕ, _-_, _<_, _≤_};
 ghost use mathlib.Core.Path.{_≡_};
+ghost use mathlib.Core.Bool.{true};
 ghost use mathlib.Core.List.{List};
-ghost use lib.ListN.{set};
+ghost use lib.ListN.{length, set};
 ghost use Rattle.hardware.specs.Prog.{erase};
 ghost use Rattle.hardware.specs.Registers.{word};
-ghost use Rattle.hostif.specs.Hostif.{lenOf, statusOf, wordsOf, wordSeen, fill, headSeen, accessResponse, restResponse, responseNext, validResponse};
+ghost use Rattle.hostif.specs.Hostif.{lenOf, statusOf, wordsOf, wordSeen, fill, headSeen, accessResponse, restResponse, responseNext, validResponse, validResponseNext};
 
 // Head: with HICR as last read. Rest: with the head, and the words left after this one.
 pub enum Response {
@@ -69,6 +70,7 @@ pub(crate) fn access(s: Response) -> Access
 
 fn more(head: u32, left: u8) -> ResponseNext
     ensures { λ r. ⌜ ((l : List ℕ) → responseNext r l ≡ erase (fill head left l)) ⌝ }
+    ensures { λ r. ⌜ ((n : ℕ) → left ≤ wordsOf head → wordsOf head < n → validResponseNext n r ≡ true) ⌝ }
 {
     if left == 0 {
         return ResponseNext::End(Byte::Ok(status(head)));
@@ -86,6 +88,7 @@ fn store(block: &mut [u32], at: usize, v: u32)
 
 fn head(last: u32, block: &mut [u32], w: Word) -> ResponseNext
     ensures { λ r. ⌜ responseNext r (now (block .exit)) ≡ erase (headSeen last (now (block .entry)) (word w)) ⌝ }
+    ensures { λ r. ⌜ validResponseNext (length (now (block .entry))) r ≡ true ⌝ }
 {
     match w {
         Word::Ok(head) => {
@@ -101,6 +104,7 @@ fn head(last: u32, block: &mut [u32], w: Word) -> ResponseNext
 
 fn rest(head: u32, left: u8, block: &mut [u32], w: Word) -> ResponseNext
     ensures { λ r. ⌜ responseNext r (now (block .exit)) ≡ erase (wordSeen (fill head left) (wordsOf head - left) (now (block .entry)) (word w)) ⌝ }
+    ensures { λ r. ⌜ (left ≤ wordsOf head → wordsOf head < length (now (block .entry)) → validResponseNext (length (now (block .entry))) r ≡ true) ⌝ }
 {
     match w {
         Word::Ok(v) => {
@@ -113,6 +117,7 @@ fn rest(head: u32, left: u8, block: &mut [u32], w: Word) -> ResponseNext
 
 pub(crate) fn step(s: Response, block: &mut [u32], a: Answer) -> ResponseNext
     ensures { λ r. ⌜ responseNext r (now (block .exit)) ≡ erase (restResponse s (now (block .entry)) a) ⌝ }
+    ensures { λ r. ⌜ (validResponse (length (now (block .entry))) s ≡ true → validResponseNext (length (now (block .entry))) r ≡ true) ⌝ }
 {
     match s {
         Response::Head(last) => head(last, block, hardware::read_raw(a)),

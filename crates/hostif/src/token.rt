@@ -8,10 +8,11 @@ use hardware::Error;
 use hardware::Flag;
 use hardware::Port;
 ghost use mathlib.Core.Path.{_≡_};
+ghost use mathlib.Core.Bool.{true};
 ghost use mathlib.Core.List.{[], _∷_};
 ghost use Rattle.hardware.specs.Prog.{erase, followed};
 ghost use Rattle.hardware.specs.Registers.{byte, flag};
-ghost use Rattle.hostif.specs.Hostif.{header, commandNext, tokenSecond, tokenStatus, tokened, token, accessToken, restToken, tokenNext, validToken};
+ghost use Rattle.hostif.specs.Hostif.{header, commandNext, validCommandNext, tokenSecond, tokenStatus, tokened, token, accessToken, restToken, tokenNext, validToken, validTokenNext};
 
 pub const TOKEN_COMMAND: u8 = 0x0a;
 
@@ -68,6 +69,7 @@ fn status(take: bool, s: Byte) -> Flag
 
 fn commanded(port: Port, take: bool, first: u32, second: u32, n: CommandNext) -> TokenNext
     ensures { λ r. ⌜ tokenNext port take r ≡ followed (commandNext port n (first ∷ second ∷ [])) (tokened take) ⌝ }
+    ensures { λ r. ⌜ (validCommandNext port 2 n ≡ true → validTokenNext port r ≡ true) ⌝ }
 {
     match n {
         CommandNext::Going(command) => TokenNext::Going(Token {
@@ -81,6 +83,7 @@ fn commanded(port: Port, take: bool, first: u32, second: u32, n: CommandNext) ->
 
 pub fn open(port: Port, take: bool) -> TokenNext
     ensures { λ r. ⌜ tokenNext port take r ≡ erase (token port take) ⌝ }
+    ensures { λ r. ⌜ validTokenNext port r ≡ true ⌝ }
 {
     commanded(
         port,
@@ -101,6 +104,7 @@ pub fn access(port: Port, s: Token) -> Access
 
 pub fn step(port: Port, take: bool, s: Token, a: Answer) -> TokenNext
     ensures { λ r. ⌜ tokenNext port take r ≡ erase (restToken port take s a) ⌝ }
+    ensures { λ r. ⌜ (validToken port s ≡ true → validTokenNext port r ≡ true) ⌝ }
 {
     let mut block = [s.first, s.second];
     let command = s.command;

@@ -1,5 +1,7 @@
 -- What the public calls of `lock` and `unlock` yield: a refusal by its number, or what is left of the call.
 use Prim.Native.Nat.{ℕ}
+use mathlib.Core.Path.{_≡_}
+use mathlib.Core.Bool.{true}
 use Rattle.hardware.specs.declared.Answer.{Answer}
 use Rattle.hardware.specs.Asked.{Asked, yes, no, question, andThen, openFamily, fits}
 use Rattle.hardware.specs.Numbers.{refusalNumber}
@@ -32,6 +34,13 @@ saidLock (LockEnd o LockOver) = yes (ret (outcome o))
 saidLock (LockEnd o (LockGoing f t)) = no 0
 saidLock (LockRefused q) = no (refusalNumber q)
 
+-- a state to go on from comes with the access it awaits, and passes question 10
+unfoldable pub standsLock : LockTold → Type 0
+standsLock (LockAsk x (LockGoing f t)) = (x ≡ accessLock f t) × (validLock t ≡ true)
+standsLock (LockAsk x LockOver) = ⊥
+standsLock (LockEnd o s) = Unit {0}
+standsLock (LockRefused q) = Unit {0}
+
 -- `unlock`: question 1
 unfoldable pub openUnlock : ℕ → Asked (Prog (R (Unit {0})))
 openUnlock family = andThen (openFamily family) (λ f. yes (erase (unlock f)))
@@ -47,3 +56,9 @@ saidUnlock (UnlockAsk x UnlockOver) = no 0
 saidUnlock (UnlockEnd o UnlockOver) = yes (ret (outcome o))
 saidUnlock (UnlockEnd o (UnlockGoing f t)) = no 0
 saidUnlock (UnlockRefused q) = no (refusalNumber q)
+
+unfoldable pub standsUnlock : UnlockTold → Type 0
+standsUnlock (UnlockAsk x (UnlockGoing f t)) = x ≡ accessUnlock f t
+standsUnlock (UnlockAsk x UnlockOver) = ⊥
+standsUnlock (UnlockEnd o s) = Unit {0}
+standsUnlock (UnlockRefused q) = Unit {0}

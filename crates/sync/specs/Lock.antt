@@ -85,6 +85,11 @@ validSwesmbi (Setting left t) = ltb left TRIES
 validSwesmbi (Checking left) = ltb left TRIES
 validSwesmbi (Waiting left) = ltb left TRIES
 
+-- what is left keeps within the limits
+unfoldable pub validSwesmbiNext : SwesmbiNext → Bool
+validSwesmbiNext (SwesmbiGoing s) = validSwesmbi s
+validSwesmbiNext (SwesmbiEnd v) = true
+
 unfoldable pub accessLock : Family → Lock → Access
 accessLock family (Smbi t) = accessPoll (smbiWatch family) t
 accessLock family (Second t) = accessSwesmbi t
@@ -106,6 +111,10 @@ validLock (Smbi t) = validPoll TRIES t
 validLock (Second t) = validSwesmbi t
 validLock (Regsmp t) = validPoll TRIES t
 validLock (Back held t) = true
+
+unfoldable pub validLockNext : LockNext → Bool
+validLockNext (LockGoing s) = validLock s
+validLockNext (LockEnd o) = true
 
 unfoldable pub accessUnlock : Family → Unlock → Access
 accessUnlock family (Sync t) = accessUpdate (clearSync family REGSMP) t

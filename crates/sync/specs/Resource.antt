@@ -137,6 +137,11 @@ validAcquireStage (Waiting held) = true
 unfoldable pub validAcquireBits : Family → AcquireBits → Bool
 validAcquireBits family s = pick (ltb (s .left) (tries family)) (validAcquireStage (s .stage)) false
 
+-- what is left keeps within the limits
+unfoldable pub validAcquireBitsNext : Family → AcquireBitsNext → Bool
+validAcquireBitsNext family (AcquireGoing s) = validAcquireBits family s
+validAcquireBitsNext family (AcquireEnd o) = true
+
 unfoldable pub accessReleaseBits : Port → ℕ → ReleaseBits → Access
 accessReleaseBits port mask (Unmuxing t) = accessUpdate (setMux false) t
 accessReleaseBits port mask (Relocking t) = accessLock (port .family) t
@@ -162,3 +167,7 @@ validReleaseBits (Relocking t) = validLock t
 validReleaseBits (Clearing t) = true
 validReleaseBits (Releasing t w) = true
 validReleaseBits Settling = true
+
+unfoldable pub validReleaseBitsNext : ReleaseBitsNext → Bool
+validReleaseBitsNext (ReleaseGoing s) = validReleaseBits s
+validReleaseBitsNext (ReleaseEnd o) = true

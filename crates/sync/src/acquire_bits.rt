@@ -14,14 +14,15 @@ use hardware::Port;
 use hardware::Word;
 use hardware::change::Update;
 use hardware::change::UpdateNext;
+ghost use Prim.Native.Nat.{_<_, _≤_};
 ghost use mathlib.Core.Path.{_≡_};
 ghost use mathlib.Core.Bool.{true};
 ghost use Rattle.hardware.specs.Prog.{erase, followed, orErr, ret, Err};
 ghost use Rattle.hardware.specs.Registers.{word, outcome};
 ghost use Rattle.hardware.specs.Change.{updateNext};
-ghost use Rattle.sync.specs.Regs.{setMux};
-ghost use Rattle.sync.specs.Lock.{lockNext, unlockNext};
-ghost use Rattle.sync.specs.Resource.{accessAcquireStage, restAcquireStage, against, muxed, taken, tryRead, tryAgain, syncSeen, acquireTries, acquireBits, accessAcquireBits, restAcquireBits, acquireBitsNext, validAcquireStage, validAcquireBits};
+ghost use Rattle.sync.specs.Regs.{setMux, tries as triesOf};
+ghost use Rattle.sync.specs.Lock.{lockNext, validLockNext, unlockNext};
+ghost use Rattle.sync.specs.Resource.{accessAcquireStage, restAcquireStage, against, muxed, taken, tryRead, tryAgain, syncSeen, acquireTries, acquireBits, accessAcquireBits, restAcquireBits, acquireBitsNext, validAcquireStage, validAcquireBits, validAcquireBitsNext};
 
 // Failing: the read failed, and the semaphore goes back before the failure is reported. Taken: with how the write of
 // the bits ended. Unlocking and Waiting: with the bits that were found held.
@@ -57,6 +58,7 @@ fn all(family: Family, mask: u32) -> u32
 
 fn locking(port: Port, mask: u32, left: u32, n: LockNext) -> AcquireBitsNext
     ensures { λ r. ⌜ acquireBitsNext port mask r ≡ followed (lockNext (port .family) n) (orErr (λ _. tryRead port mask left)) ⌝ }
+    ensures { λ r. ⌜ (left < triesOf (port .family) → validLockNext n ≡ true → validAcquireBitsNext (port .family) r ≡ true) ⌝ }
 {
     match n {
         LockNext::Going(t) => AcquireBitsNext::Going(AcquireBits {
@@ -75,6 +77,7 @@ fn locking(port: Port, mask: u32, left: u32, n: LockNext) -> AcquireBitsNext
 
 pub fn open(port: Port, mask: u32, tries: u32, held: u32) -> AcquireBitsNext
     ensures { λ r. ⌜ acquireBitsNext port mask r ≡ erase (acquireTries port mask tries held) ⌝ }
+    ensures { λ r. ⌜ (tries ≤ triesOf (port .family) → validAcquireBitsNext (port .family) r ≡ true) ⌝ }
 {
     if tries == 0 {
         return AcquireBitsNext::End(Outcome::Err(Error::Semaphore(held)));
@@ -85,6 +88,7 @@ pub fn open(port: Port, mask: u32, tries: u32, held: u32) -> AcquireBitsNext
 
 fn failing(port: Port, mask: u32, left: u32, e: Error, n: UnlockNext) -> AcquireBitsNext
     ensures { λ r. ⌜ acquireBitsNext port mask r ≡ followed (unlockNext (port .family) n) (orErr (λ _. ret (Err e))) ⌝ }
+    ensures { λ r. ⌜ (left < triesOf (port .family) → validAcquireBitsNext (port .family) r ≡ true) ⌝ }
 {
     match n {
         UnlockNext::Going(t) => AcquireBitsNext::Going(AcquireBits {
@@ -100,6 +104,7 @@ fn failing(port: Port, mask: u32, left: u32, e: Error, n: UnlockNext) -> Acquire
 
 fn mux(port: Port, mask: u32, left: u32) -> AcquireBitsNext
     ensures { λ r. ⌜ acquireBitsNext port mask r ≡ erase (muxed port mask true) ⌝ }
+    ensures { λ r. ⌜ (left < triesOf (port .family) → validAcquireBitsNext (port .family) r ≡ true) ⌝ }
 {
     if crate::regs::mux(port, mask) {
         return AcquireBitsNext::Going(AcquireBits {
@@ -112,6 +117,7 @@ fn mux(port: Port, mask: u32, left: u32) -> AcquireBitsNext
 
 fn muxing(port: Port, mask: u32, left: u32, n: UpdateNext) -> AcquireBitsNext
     ensures { λ r. ⌜ acquireBitsNext port mask r ≡ updateNext (setMux true) n ⌝ }
+    ensures { λ r. ⌜ (left < triesOf (port .family) → validAcquireBitsNext (port .family) r ≡ true) ⌝ }
 {
     match n {
         UpdateNext::Going(t) => AcquireBitsNext::Going(AcquireBits {
@@ -124,6 +130,7 @@ fn muxing(port: Port, mask: u32, left: u32, n: UpdateNext) -> AcquireBitsNext
 
 fn wrote(port: Port, mask: u32, left: u32, w: Outcome) -> AcquireBitsNext
     ensures { λ r. ⌜ acquireBitsNext port mask r ≡ erase (taken port mask (outcome w)) ⌝ }
+    ensures { λ r. ⌜ (left < triesOf (port .family) → validAcquireBitsNext (port .family) r ≡ true) ⌝ }
 {
     match w {
         Outcome::Ok => mux(port, mask, left),
@@ -133,6 +140,7 @@ fn wrote(port: Port, mask: u32, left: u32, w: Outcome) -> AcquireBitsNext
 
 fn taking(port: Port, mask: u32, left: u32, w: Outcome, n: UnlockNext) -> AcquireBitsNext
     ensures { λ r. ⌜ acquireBitsNext port mask r ≡ followed (unlockNext (port .family) n) (orErr (λ _. taken port mask (outcome w))) ⌝ }
+    ensures { λ r. ⌜ (left < triesOf (port .family) → validAcquireBitsNext (port .family) r ≡ true) ⌝ }
 {
     match n {
         UnlockNext::Going(t) => AcquireBitsNext::Going(AcquireBits {
@@ -148,6 +156,7 @@ fn taking(port: Port, mask: u32, left: u32, w: Outcome, n: UnlockNext) -> Acquir
 
 fn unlocking(port: Port, mask: u32, left: u32, held: u32, n: UnlockNext) -> AcquireBitsNext
     ensures { λ r. ⌜ acquireBitsNext port mask r ≡ followed (unlockNext (port .family) n) (orErr (λ _. tryAgain port mask left held)) ⌝ }
+    ensures { λ r. ⌜ (left < triesOf (port .family) → validAcquireBitsNext (port .family) r ≡ true) ⌝ }
 {
     match n {
         UnlockNext::Going(t) => AcquireBitsNext::Going(AcquireBits {
@@ -166,6 +175,7 @@ fn unlocking(port: Port, mask: u32, left: u32, held: u32, n: UnlockNext) -> Acqu
 
 fn seen(port: Port, mask: u32, left: u32, w: Word) -> AcquireBitsNext
     ensures { λ r. ⌜ acquireBitsNext port mask r ≡ erase (syncSeen port mask (acquireTries port mask left) (word w)) ⌝ }
+    ensures { λ r. ⌜ (left < triesOf (port .family) → validAcquireBitsNext (port .family) r ≡ true) ⌝ }
 {
     let family = port.family;
     match w {
@@ -215,6 +225,7 @@ pub fn access(port: Port, mask: u32, s: AcquireBits) -> Access
 
 fn stage_step(port: Port, mask: u32, left: u32, s: Stage, a: Answer) -> AcquireBitsNext
     ensures { λ r. ⌜ acquireBitsNext port mask r ≡ erase (restAcquireStage port mask left s a) ⌝ }
+    ensures { λ r. ⌜ (left < triesOf (port .family) → validAcquireStage s ≡ true → validAcquireBitsNext (port .family) r ≡ true) ⌝ }
 {
     let family = port.family;
     match s {
@@ -248,6 +259,7 @@ fn stage_step(port: Port, mask: u32, left: u32, s: Stage, a: Answer) -> AcquireB
 
 pub fn step(port: Port, mask: u32, s: AcquireBits, a: Answer) -> AcquireBitsNext
     ensures { λ r. ⌜ acquireBitsNext port mask r ≡ erase (restAcquireBits port mask s a) ⌝ }
+    ensures { λ r. ⌜ (validAcquireBits (port .family) s ≡ true → validAcquireBitsNext (port .family) r ≡ true) ⌝ }
 {
     let stage = s.stage;
     stage_step(port, mask, s.left, stage, a)

@@ -10,9 +10,10 @@ use hardware::FamilyOpening;
 use hardware::Outcome;
 use hardware::Refusal;
 ghost use mathlib.Core.Path.{_≡_};
+ghost use mathlib.Core.Bool.{true};
 ghost use Rattle.hardware.specs.Asked.{yes};
-ghost use Rattle.sync.specs.Lock.{lockNext, unlockNext};
-ghost use Rattle.sync.specs.Calls.{openLock, stepLock, saidLock, openUnlock, stepUnlock, saidUnlock};
+ghost use Rattle.sync.specs.Lock.{lockNext, validLockNext, unlockNext};
+ghost use Rattle.sync.specs.Calls.{openLock, stepLock, saidLock, standsLock, openUnlock, stepUnlock, saidUnlock, standsUnlock};
 
 pub enum LockCall {
     Going(Family, Lock),
@@ -38,6 +39,7 @@ pub enum UnlockTold {
 
 fn lock_told(family: Family, n: LockNext) -> LockTold
     ensures { λ r. ⌜ saidLock r ≡ yes (lockNext family n) ⌝ }
+    ensures { λ r. ⌜ (validLockNext n ≡ true → standsLock r) ⌝ }
 {
     match n {
         LockNext::Going(t) => LockTold::Ask(
@@ -50,6 +52,7 @@ fn lock_told(family: Family, n: LockNext) -> LockTold
 
 pub fn lock_open(family: u32) -> LockTold
     ensures { λ r. ⌜ saidLock r ≡ openLock family ⌝ }
+    ensures { λ r. ⌜ standsLock r ⌝ }
 {
     match hardware::open_family(family) {
         FamilyOpening::Family(f) => lock_told(f, crate::lock::open(f)),
@@ -59,6 +62,7 @@ pub fn lock_open(family: u32) -> LockTold
 
 pub fn lock_step(s: LockCall, a: Answer) -> LockTold
     ensures { λ r. ⌜ saidLock r ≡ stepLock s a ⌝ }
+    ensures { λ r. ⌜ standsLock r ⌝ }
 {
     match s {
         LockCall::Going(f, t) => {
@@ -76,6 +80,7 @@ pub fn lock_step(s: LockCall, a: Answer) -> LockTold
 
 fn unlock_told(family: Family, n: UnlockNext) -> UnlockTold
     ensures { λ r. ⌜ saidUnlock r ≡ yes (unlockNext family n) ⌝ }
+    ensures { λ r. ⌜ standsUnlock r ⌝ }
 {
     match n {
         UnlockNext::Going(t) => UnlockTold::Ask(
@@ -88,6 +93,7 @@ fn unlock_told(family: Family, n: UnlockNext) -> UnlockTold
 
 pub fn unlock_open(family: u32) -> UnlockTold
     ensures { λ r. ⌜ saidUnlock r ≡ openUnlock family ⌝ }
+    ensures { λ r. ⌜ standsUnlock r ⌝ }
 {
     match hardware::open_family(family) {
         FamilyOpening::Family(f) => unlock_told(f, crate::unlock::open(f)),
@@ -97,6 +103,7 @@ pub fn unlock_open(family: u32) -> UnlockTold
 
 pub fn unlock_step(s: UnlockCall, a: Answer) -> UnlockTold
     ensures { λ r. ⌜ saidUnlock r ≡ stepUnlock s a ⌝ }
+    ensures { λ r. ⌜ standsUnlock r ⌝ }
 {
     match s {
         UnlockCall::Going(f, t) => {

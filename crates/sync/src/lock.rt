@@ -17,13 +17,14 @@ use hardware::change::UpdateNext;
 use hardware::poll::Poll;
 use hardware::poll::PollNext;
 ghost use mathlib.Core.Path.{_≡_};
+ghost use mathlib.Core.Bool.{true};
 ghost use Rattle.hardware.specs.Prog.{erase, followed, orErr, ret, Err};
 ghost use Rattle.hardware.specs.Registers.{word, flag};
-ghost use Rattle.hardware.specs.Poll.{pollNext};
+ghost use Rattle.hardware.specs.Poll.{pollNext, validPollNext};
 ghost use Rattle.hardware.specs.Change.{updateNext};
 ghost use Rattle.hardware.specs.declared.Error.the-variants.{Semaphore};
-ghost use Rattle.sync.specs.Regs.{smbiWatch, regsmpWatch, backSwsm};
-ghost use Rattle.sync.specs.Lock.{lock, second, lapsed, smbiDone, swesmbiDone, regsmpDone, swesmbiNext, accessLock, restLock, lockNext, validLock};
+ghost use Rattle.sync.specs.Regs.{TRIES, smbiWatch, regsmpWatch, backSwsm};
+ghost use Rattle.sync.specs.Lock.{lock, second, lapsed, smbiDone, swesmbiDone, regsmpDone, swesmbiNext, validSwesmbiNext, accessLock, restLock, lockNext, validLock, validLockNext};
 
 // Back: SWSM's bits go back, and the held bits are then reported.
 pub enum Lock {
@@ -41,12 +42,14 @@ pub enum LockNext {
 // SWESMBI or REGSMP did not come.
 fn lapse(family: Family, held: u32) -> LockNext
     ensures { λ r. ⌜ lockNext family r ≡ erase (lapsed family held) ⌝ }
+    ensures { λ r. ⌜ validLockNext r ≡ true ⌝ }
 {
     LockNext::Going(Lock::Back(held, Update::Reading))
 }
 
 fn back(family: Family, held: u32, n: UpdateNext) -> LockNext
     ensures { λ r. ⌜ lockNext family r ≡ followed (updateNext (backSwsm family) n) (orErr (λ _. ret (Err (Semaphore held)))) ⌝ }
+    ensures { λ r. ⌜ validLockNext r ≡ true ⌝ }
 {
     match n {
         UpdateNext::Going(t) => LockNext::Going(Lock::Back(held, t)),
@@ -59,6 +62,7 @@ fn back(family: Family, held: u32, n: UpdateNext) -> LockNext
 
 fn swesmbi_done(family: Family, v: Flag) -> LockNext
     ensures { λ r. ⌜ lockNext family r ≡ erase (orErr (swesmbiDone family) (flag v)) ⌝ }
+    ensures { λ r. ⌜ validLockNext r ≡ true ⌝ }
 {
     match v {
         Flag::Ok(got) => {
@@ -73,6 +77,7 @@ fn swesmbi_done(family: Family, v: Flag) -> LockNext
 
 fn swesmbi(family: Family, n: SwesmbiNext) -> LockNext
     ensures { λ r. ⌜ lockNext family r ≡ followed (swesmbiNext n) (orErr (swesmbiDone family)) ⌝ }
+    ensures { λ r. ⌜ (validSwesmbiNext n ≡ true → validLockNext r ≡ true) ⌝ }
 {
     match n {
         SwesmbiNext::Going(t) => LockNext::Going(Lock::Second(t)),
@@ -82,6 +87,7 @@ fn swesmbi(family: Family, n: SwesmbiNext) -> LockNext
 
 fn regsmp_done(family: Family, w: Word) -> LockNext
     ensures { λ r. ⌜ lockNext family r ≡ erase (orErr (regsmpDone family) (word w)) ⌝ }
+    ensures { λ r. ⌜ validLockNext r ≡ true ⌝ }
 {
     match w {
         Word::Ok(v) => {
@@ -96,6 +102,7 @@ fn regsmp_done(family: Family, w: Word) -> LockNext
 
 fn regsmp(family: Family, n: PollNext) -> LockNext
     ensures { λ r. ⌜ lockNext family r ≡ followed (pollNext (regsmpWatch family) n) (orErr (regsmpDone family)) ⌝ }
+    ensures { λ r. ⌜ (validPollNext TRIES n ≡ true → validLockNext r ≡ true) ⌝ }
 {
     match n {
         PollNext::Going(t) => LockNext::Going(Lock::Regsmp(t)),
@@ -105,6 +112,7 @@ fn regsmp(family: Family, n: PollNext) -> LockNext
 
 fn second(family: Family) -> LockNext
     ensures { λ r. ⌜ lockNext family r ≡ erase (second family) ⌝ }
+    ensures { λ r. ⌜ validLockNext r ≡ true ⌝ }
 {
     if hardware::same(family, Family::F82599) {
         return swesmbi(family, crate::swesmbi::open(TRIES));
@@ -117,6 +125,7 @@ fn second(family: Family) -> LockNext
 
 fn smbi_done(family: Family, w: Word) -> LockNext
     ensures { λ r. ⌜ lockNext family r ≡ erase (orErr (smbiDone family) (word w)) ⌝ }
+    ensures { λ r. ⌜ validLockNext r ≡ true ⌝ }
 {
     match w {
         Word::Ok(v) => {
@@ -131,6 +140,7 @@ fn smbi_done(family: Family, w: Word) -> LockNext
 
 fn smbi(family: Family, n: PollNext) -> LockNext
     ensures { λ r. ⌜ lockNext family r ≡ followed (pollNext (smbiWatch family) n) (orErr (smbiDone family)) ⌝ }
+    ensures { λ r. ⌜ (validPollNext TRIES n ≡ true → validLockNext r ≡ true) ⌝ }
 {
     match n {
         PollNext::Going(t) => LockNext::Going(Lock::Smbi(t)),
@@ -140,6 +150,7 @@ fn smbi(family: Family, n: PollNext) -> LockNext
 
 pub fn open(family: Family) -> LockNext
     ensures { λ r. ⌜ lockNext family r ≡ erase (lock family) ⌝ }
+    ensures { λ r. ⌜ validLockNext r ≡ true ⌝ }
 {
     smbi(
         family,
@@ -160,6 +171,7 @@ pub fn access(family: Family, s: Lock) -> Access
 
 pub fn step(family: Family, s: Lock, a: Answer) -> LockNext
     ensures { λ r. ⌜ lockNext family r ≡ erase (restLock family s a) ⌝ }
+    ensures { λ r. ⌜ (validLock s ≡ true → validLockNext r ≡ true) ⌝ }
 {
     match s {
         Lock::Smbi(t) => smbi(

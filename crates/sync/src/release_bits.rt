@@ -13,13 +13,13 @@ use hardware::change::Change;
 use hardware::change::Update;
 use hardware::change::UpdateNext;
 ghost use mathlib.Core.Path.{_≡_};
-ghost use mathlib.Core.Bool.{false};
+ghost use mathlib.Core.Bool.{true, false};
 ghost use Rattle.hardware.specs.Prog.{erase, followed, orErr};
 ghost use Rattle.hardware.specs.Registers.{outcome};
 ghost use Rattle.hardware.specs.Change.{updateNext};
 ghost use Rattle.sync.specs.Regs.{setMux};
-ghost use Rattle.sync.specs.Lock.{lockNext, unlockNext};
-ghost use Rattle.sync.specs.Resource.{clearBits, clearing, settle, cleared, unmuxed, releaseBits, accessReleaseBits, restReleaseBits, releaseBitsNext, validReleaseBits};
+ghost use Rattle.sync.specs.Lock.{lockNext, validLockNext, unlockNext};
+ghost use Rattle.sync.specs.Resource.{clearBits, clearing, settle, cleared, unmuxed, releaseBits, accessReleaseBits, restReleaseBits, releaseBitsNext, validReleaseBits, validReleaseBitsNext};
 
 // Unlocking: with how the write that cleared the bits ended.
 pub enum ReleaseBits {
@@ -43,6 +43,7 @@ fn change(family: Family, mask: u32) -> Change
 
 fn finish(port: Port, mask: u32, w: Outcome) -> ReleaseBitsNext
     ensures { λ r. ⌜ releaseBitsNext port mask r ≡ erase (orErr (λ _. settle port mask) (outcome w)) ⌝ }
+    ensures { λ r. ⌜ validReleaseBitsNext r ≡ true ⌝ }
 {
     match w {
         Outcome::Ok => {
@@ -58,6 +59,7 @@ fn finish(port: Port, mask: u32, w: Outcome) -> ReleaseBitsNext
 
 fn unlocking(port: Port, mask: u32, w: Outcome, n: UnlockNext) -> ReleaseBitsNext
     ensures { λ r. ⌜ releaseBitsNext port mask r ≡ followed (unlockNext (port .family) n) (orErr (λ _. orErr (λ _. settle port mask) (outcome w))) ⌝ }
+    ensures { λ r. ⌜ validReleaseBitsNext r ≡ true ⌝ }
 {
     match n {
         UnlockNext::Going(t) => ReleaseBitsNext::Going(ReleaseBits::Unlocking(t, w)),
@@ -70,6 +72,7 @@ fn unlocking(port: Port, mask: u32, w: Outcome, n: UnlockNext) -> ReleaseBitsNex
 
 fn clear_done(port: Port, mask: u32, w: Outcome) -> ReleaseBitsNext
     ensures { λ r. ⌜ releaseBitsNext port mask r ≡ erase (cleared port mask (outcome w)) ⌝ }
+    ensures { λ r. ⌜ validReleaseBitsNext r ≡ true ⌝ }
 {
     let family = port.family;
     unlocking(port, mask, w, crate::unlock::open(family))
@@ -77,6 +80,7 @@ fn clear_done(port: Port, mask: u32, w: Outcome) -> ReleaseBitsNext
 
 fn clearing(port: Port, mask: u32, n: UpdateNext) -> ReleaseBitsNext
     ensures { λ r. ⌜ releaseBitsNext port mask r ≡ followed (updateNext (clearBits (port .family) mask) n) (cleared port mask) ⌝ }
+    ensures { λ r. ⌜ validReleaseBitsNext r ≡ true ⌝ }
 {
     match n {
         UpdateNext::Going(t) => ReleaseBitsNext::Going(ReleaseBits::Clearing(t)),
@@ -86,6 +90,7 @@ fn clearing(port: Port, mask: u32, n: UpdateNext) -> ReleaseBitsNext
 
 fn locking(port: Port, mask: u32, n: LockNext) -> ReleaseBitsNext
     ensures { λ r. ⌜ releaseBitsNext port mask r ≡ followed (lockNext (port .family) n) (orErr (λ _. clearing port mask)) ⌝ }
+    ensures { λ r. ⌜ (validLockNext n ≡ true → validReleaseBitsNext r ≡ true) ⌝ }
 {
     match n {
         LockNext::Going(t) => ReleaseBitsNext::Going(ReleaseBits::Locking(t)),
@@ -98,6 +103,7 @@ fn locking(port: Port, mask: u32, n: LockNext) -> ReleaseBitsNext
 
 fn lock(port: Port, mask: u32) -> ReleaseBitsNext
     ensures { λ r. ⌜ releaseBitsNext port mask r ≡ erase (unmuxed port mask) ⌝ }
+    ensures { λ r. ⌜ validReleaseBitsNext r ≡ true ⌝ }
 {
     let family = port.family;
     locking(port, mask, crate::lock::open(family))
@@ -105,6 +111,7 @@ fn lock(port: Port, mask: u32) -> ReleaseBitsNext
 
 fn muxing(port: Port, mask: u32, n: UpdateNext) -> ReleaseBitsNext
     ensures { λ r. ⌜ releaseBitsNext port mask r ≡ followed (updateNext (setMux false) n) (orErr (λ _. unmuxed port mask)) ⌝ }
+    ensures { λ r. ⌜ validReleaseBitsNext r ≡ true ⌝ }
 {
     match n {
         UpdateNext::Going(t) => ReleaseBitsNext::Going(ReleaseBits::Muxing(t)),
@@ -117,6 +124,7 @@ fn muxing(port: Port, mask: u32, n: UpdateNext) -> ReleaseBitsNext
 
 pub fn open(port: Port, mask: u32) -> ReleaseBitsNext
     ensures { λ r. ⌜ releaseBitsNext port mask r ≡ erase (releaseBits port mask) ⌝ }
+    ensures { λ r. ⌜ validReleaseBitsNext r ≡ true ⌝ }
 {
     if crate::regs::mux(port, mask) {
         return ReleaseBitsNext::Going(ReleaseBits::Muxing(Update::Reading));
@@ -139,6 +147,7 @@ pub fn access(port: Port, mask: u32, s: ReleaseBits) -> Access
 
 pub fn step(port: Port, mask: u32, s: ReleaseBits, a: Answer) -> ReleaseBitsNext
     ensures { λ r. ⌜ releaseBitsNext port mask r ≡ erase (restReleaseBits port mask s a) ⌝ }
+    ensures { λ r. ⌜ (validReleaseBits s ≡ true → validReleaseBitsNext r ≡ true) ⌝ }
 {
     let family = port.family;
     match s {

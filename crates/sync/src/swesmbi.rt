@@ -11,12 +11,14 @@ use hardware::change::Bits;
 use hardware::change::Change;
 use hardware::change::Update;
 use hardware::change::UpdateNext;
+ghost use Prim.Native.Nat.{_<_, _≤_};
 ghost use mathlib.Core.Path.{_≡_};
+ghost use mathlib.Core.Bool.{true};
 ghost use Rattle.hardware.specs.Prog.{erase, followed, orErr};
 ghost use Rattle.hardware.specs.Registers.{word};
 ghost use Rattle.hardware.specs.Change.{updateNext};
-ghost use Rattle.sync.specs.Regs.{setSwesmbi};
-ghost use Rattle.sync.specs.Lock.{swesmbi, swesmbiSeen, swesmbiCheck, accessSwesmbi, restSwesmbi, swesmbiNext, validSwesmbi};
+ghost use Rattle.sync.specs.Regs.{TRIES, setSwesmbi};
+ghost use Rattle.sync.specs.Lock.{swesmbi, swesmbiSeen, swesmbiCheck, accessSwesmbi, restSwesmbi, swesmbiNext, validSwesmbi, validSwesmbiNext};
 
 // The tries left after this one, first in each.
 pub enum Swesmbi {
@@ -42,6 +44,7 @@ fn setting() -> Change
 
 pub fn open(tries: u32) -> SwesmbiNext
     ensures { λ r. ⌜ swesmbiNext r ≡ erase (swesmbi tries) ⌝ }
+    ensures { λ r. ⌜ (tries ≤ TRIES → validSwesmbiNext r ≡ true) ⌝ }
 {
     if tries == 0 {
         return SwesmbiNext::End(Flag::Ok(false));
@@ -61,6 +64,7 @@ pub fn access(s: Swesmbi) -> Access
 
 fn set(left: u32, n: UpdateNext) -> SwesmbiNext
     ensures { λ r. ⌜ swesmbiNext r ≡ followed (updateNext setSwesmbi n) (orErr (λ _. swesmbiCheck left)) ⌝ }
+    ensures { λ r. ⌜ (left < TRIES → validSwesmbiNext r ≡ true) ⌝ }
 {
     match n {
         UpdateNext::Going(t) => SwesmbiNext::Going(Swesmbi::Setting(left, t)),
@@ -73,6 +77,7 @@ fn set(left: u32, n: UpdateNext) -> SwesmbiNext
 
 fn seen(left: u32, w: Word) -> SwesmbiNext
     ensures { λ r. ⌜ swesmbiNext r ≡ erase (orErr (swesmbiSeen (λ _. swesmbi left)) (word w)) ⌝ }
+    ensures { λ r. ⌜ (left < TRIES → validSwesmbiNext r ≡ true) ⌝ }
 {
     match w {
         Word::Ok(v) => {
@@ -87,6 +92,7 @@ fn seen(left: u32, w: Word) -> SwesmbiNext
 
 pub fn step(s: Swesmbi, a: Answer) -> SwesmbiNext
     ensures { λ r. ⌜ swesmbiNext r ≡ erase (restSwesmbi s a) ⌝ }
+    ensures { λ r. ⌜ (validSwesmbi s ≡ true → validSwesmbiNext r ≡ true) ⌝ }
 {
     match s {
         Swesmbi::Setting(left, t) => set(left, hardware::change::step(setting(), t, a)),

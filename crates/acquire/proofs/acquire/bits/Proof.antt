@@ -1,11 +1,13 @@
 -- `bits` meets its contract.
-use Rattle.acquire.specs.Acquire.{accessAcquire, accessAcquireAt, accessRelease, acquireNext, releaseNext, restAcquire, restAcquireAt, restRelease}
-use Rattle.hardware.specs.Prog.{_>>=_, erase, followed, going, orErr}
+use Rattle.acquire.specs.Acquire.{accessAcquire, accessAcquireAt, accessRelease, acquireNext, releaseNext, restAcquire, restAcquireAt, restRelease, validAcquire, validAcquireAt, validAcquireNext}
+use Rattle.hardware.specs.Prog.{_>>=_, erase, followed, going, orErr, pick}
 use Rattle.hardware.specs.Registers.{outcome}
 use Rattle.hardware.specs.Runs.{given}
 use Rattle.hostif.specs.Hostif.{tokenNext}
-use Rattle.sync.specs.Resource.{acquireBitsNext, releaseBitsNext}
+use Rattle.sync.specs.Resource.{acquireBitsNext, releaseBitsNext, validAcquireBitsNext}
 use borrow.Author.Needs.{needs}
+use borrow.Author.Tests.{lt-ltb}
+use mathlib.Core.Path.{refl}
 use Rattle.acquire.proofs.acquire.bits.Statement.{statement}
 use Rattle.acquire.proofs.acquire.bits.Tie as tie
 
@@ -25,16 +27,16 @@ enum-known-o : tie.Need-enum-known-o
 enum-known-o c = search needs
 
 returns : tie.Need-returns
-unfolding acquireNext accessAcquire accessAcquireAt restAcquire restAcquireAt releaseNext accessRelease restRelease acquireBitsNext releaseBitsNext tokenNext
-returns c = rw (c .before .n .given .1) (going _ _ _)
+unfolding acquireNext accessAcquire accessAcquireAt restAcquire restAcquireAt releaseNext accessRelease restRelease acquireBitsNext releaseBitsNext tokenNext validAcquireNext validAcquire validAcquireAt pick validAcquireBitsNext
+returns c = (rw (c .before .n .given .1) (going _ _ _), λ h v. rw (lt-ltb _ _ h) (rw (c .before .n .given .1) at v))
 
 returns-2 : tie.Need-returns-2
 unfolding followed _>>=_ orErr outcome acquireBitsNext
-returns-2 c = rw (c .before .before .before .before .n2 .given .1, c .before .enum-told .given .1) (c .try-token .ensures)
+returns-2 c = (rw (c .before .before .before .before .n2 .given .1, c .before .enum-told .given .1) (c .try-token .ensures .0), λ h v. c .try-token .ensures .1 h)
 
 returns-3 : tie.Need-returns-3
-unfolding followed _>>=_ orErr outcome acquireBitsNext erase acquireNext
-returns-3 c = rw (c .before .before .before .before .n2 .given .1, c .before .o .given .1)
+unfolding followed _>>=_ orErr outcome acquireBitsNext erase acquireNext validAcquireNext
+returns-3 c = (rw (c .before .before .before .before .n2 .given .1, c .before .o .given .1), λ h v. refl)
 
 pub bits-spec : {M : Type 1} → statement M
 bits-spec =

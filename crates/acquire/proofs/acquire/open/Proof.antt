@@ -3,6 +3,7 @@ use Rattle.acquire.specs.Acquire.{acquire}
 use Rattle.hardware.specs.Prog.{over, pick}
 use Rattle.sync.specs.Resource.{taken}
 use borrow.Author.Needs.{needs}
+use native.Mathlib.Omega.{arith}
 use Rattle.acquire.proofs.acquire.open.Statement.{statement}
 use Rattle.acquire.proofs.acquire.open.Tie as tie
 
@@ -20,14 +21,14 @@ plain-requires c κs = search needs
 
 returns : tie.Need-returns
 unfolding acquire pick
-returns c = rw (← c .before .before .before .none-of .ensures, c .before .before .if1 .taken) (over _ _ (rw (c .before .before .before .before .hw .ensures) at (c .plain .ensures)) (rw (c .before .before .before .before .hw .ensures) at (c .before .first .ensures)))
+returns c = (rw (← c .before .before .before .none-of .ensures, c .before .before .if1 .taken) (over _ _ (rw (c .before .before .before .before .hw .ensures) at (c .plain .ensures .0)) (rw (c .before .before .before .before .hw .ensures) at (c .before .first .ensures .0))), c .plain .ensures .1 (omega arith) (c .before .first .ensures .1))
 
 open-token-requires : tie.Need-open-token-requires
 open-token-requires c κs = search needs
 
 returns-2 : tie.Need-returns-2
 unfolding acquire pick
-returns-2 c = rw (← c .before .before .none-of .ensures, c .before .if1 .left) (rw (c .before .before .before .hw .ensures) at (c .open-token .ensures))
+returns-2 c = (rw (← c .before .before .none-of .ensures, c .before .if1 .left) (rw (c .before .before .before .hw .ensures) at (c .open-token .ensures .0)), c .open-token .ensures .1 (omega arith))
 
 pub open-spec : {M : Type 1} → statement M
 open-spec =

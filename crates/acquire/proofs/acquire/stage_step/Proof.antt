@@ -8,6 +8,7 @@ use Rattle.hostif.specs.Hostif.{token}
 use Rattle.sync.specs.Regs.{bits}
 use Rattle.sync.specs.Resource.{acquireBits}
 use borrow.Author.Needs.{needs}
+use native.Mathlib.Omega.{arith}
 use Rattle.acquire.proofs.acquire.stage_step.Statement.{statement}
 use Rattle.acquire.proofs.acquire.stage_step.Tie as tie
 
@@ -55,23 +56,23 @@ open-token-requires c κs = search needs
 
 returns : tie.Need-returns
 unfolding restAcquire restAcquireAt accessAcquire accessAcquireAt restRelease accessRelease tryToken validAcquireAt validRelease stepAcquire stepRelease openAcquire openRelease question andThen portOpened acquireBits tokenGiven gave
-returns c = rw (c .before .before .before .s .given .1) (over _ _ (c .plain .ensures) (c .before .step .ensures))
+returns c = (rw (c .before .before .before .s .given .1) (over _ _ (c .plain .ensures .0) (c .before .step .ensures .0)), λ h v. c .plain .ensures .1 h (c .before .step .ensures .1 (rw (c .before .before .before .s .given .1) at v)))
 
 returns-2 : tie.Need-returns-2
 unfolding restAcquire restAcquireAt accessAcquire accessAcquireAt restRelease accessRelease tryToken validAcquireAt validRelease stepAcquire stepRelease openAcquire openRelease question andThen portOpened acquireBits tokenGiven gave
-returns-2 c = rw (c .before .before .before .s2 .given .1) (over _ _ (c .bits .ensures) (c .before .step2 .ensures))
+returns-2 c = (rw (c .before .before .before .s2 .given .1) (over _ _ (c .bits .ensures .0) (c .before .step2 .ensures .0)), λ h v. c .bits .ensures .1 h (c .before .step2 .ensures .1 (rw (c .before .before .before .s2 .given .1) at v)))
 
 returns-3 : tie.Need-returns-3
 unfolding restAcquire restAcquireAt accessAcquire accessAcquireAt restRelease accessRelease tryToken validAcquireAt validRelease stepAcquire stepRelease openAcquire openRelease question andThen portOpened acquireBits tokenGiven gave
-returns-3 c = rw (c .before .before .before .s3 .given .1) (over _ _ (c .token .ensures) (c .before .step3 .ensures))
+returns-3 c = (rw (c .before .before .before .s3 .given .1) (over _ _ (c .token .ensures .0) (c .before .step3 .ensures .0)), λ h v. c .token .ensures .1 h (c .before .step3 .ensures .1 (rw (c .before .before .before .s3 .given .1) at v)))
 
 returns-4 : tie.Need-returns-4
 unfolding restAcquire restAcquireAt accessAcquire accessAcquireAt restRelease accessRelease tryToken validAcquireAt validRelease stepAcquire stepRelease openAcquire openRelease question andThen portOpened acquireBits tokenGiven gave
-returns-4 c = rw (c .before .before .before .s4 .given .1) (over _ _ (c .releasing .ensures) (c .before .step4 .ensures))
+returns-4 c = (rw (c .before .before .before .s4 .given .1) (over _ _ (c .releasing .ensures .0) (c .before .step4 .ensures .0)), λ h v. c .releasing .ensures .1 h (c .before .step4 .ensures .1 (rw (c .before .before .before .s4 .given .1) at v)))
 
 returns-5 : tie.Need-returns-5
 unfolding restAcquire restAcquireAt accessAcquire accessAcquireAt restRelease accessRelease tryToken validAcquireAt validRelease stepAcquire stepRelease openAcquire openRelease question andThen portOpened acquireBits tokenGiven gave
-returns-5 c = rw (c .before .enum-told .given .1) (c .open-token .ensures)
+returns-5 c = (rw (c .before .enum-told .given .1) (c .open-token .ensures .0), λ h v. c .open-token .ensures .1 (omega arith))
 
 pub stage-step-spec : {M : Type 1} → statement M
 stage-step-spec =

@@ -1,10 +1,11 @@
 -- `token` meets its contract.
-use Rattle.acquire.specs.Acquire.{accessAcquire, accessAcquireAt, accessRelease, acquireNext, releaseNext, restAcquire, restAcquireAt, restRelease}
-use Rattle.hardware.specs.Prog.{_>>=_, followed, going}
+use Rattle.acquire.specs.Acquire.{accessAcquire, accessAcquireAt, accessRelease, acquireNext, releaseNext, restAcquire, restAcquireAt, restRelease, validAcquire, validAcquireAt, validAcquireNext}
+use Rattle.hardware.specs.Prog.{_>>=_, followed, going, pick}
 use Rattle.hardware.specs.Runs.{given}
-use Rattle.hostif.specs.Hostif.{tokenNext}
+use Rattle.hostif.specs.Hostif.{tokenNext, validTokenNext}
 use Rattle.sync.specs.Resource.{acquireBitsNext, releaseBitsNext}
 use borrow.Author.Needs.{needs}
+use borrow.Author.Tests.{lt-ltb}
 use Rattle.acquire.proofs.acquire.token.Statement.{statement}
 use Rattle.acquire.proofs.acquire.token.Tie as tie
 
@@ -18,12 +19,12 @@ token-done-requires : tie.Need-token-done-requires
 token-done-requires c κs = search needs
 
 returns : tie.Need-returns
-unfolding acquireNext accessAcquire accessAcquireAt restAcquire restAcquireAt releaseNext accessRelease restRelease acquireBitsNext releaseBitsNext tokenNext
-returns c = rw (c .before .n .given .1) (going _ _ _)
+unfolding acquireNext accessAcquire accessAcquireAt restAcquire restAcquireAt releaseNext accessRelease restRelease acquireBitsNext releaseBitsNext tokenNext validAcquireNext validAcquire validAcquireAt pick validTokenNext
+returns c = (rw (c .before .n .given .1) (going _ _ _), λ h v. rw (lt-ltb _ _ h) (rw (c .before .n .given .1) at v))
 
 returns-2 : tie.Need-returns-2
 unfolding followed _>>=_ tokenNext
-returns-2 c = rw (c .before .before .n2 .given .1) (c .token-done .ensures)
+returns-2 c = (rw (c .before .before .n2 .given .1) (c .token-done .ensures .0), λ h v. c .token-done .ensures .1 h)
 
 pub token-spec : {M : Type 1} → statement M
 token-spec = tie.close (tie.spec enum-known-n enum-known-n-2 token-done-requires returns returns-2)

@@ -1,10 +1,11 @@
 -- `token_done` meets its contract.
-use Rattle.acquire.specs.Acquire.{acquireNext, acquiredAll, tokenSeen}
+use Rattle.acquire.specs.Acquire.{acquireNext, acquiredAll, tokenSeen, validAcquireNext}
 use Rattle.hardware.specs.Prog.{erase}
 use Rattle.hardware.specs.Registers.{flag, outcome}
 use Rattle.hardware.specs.Runs.{given}
 use Rattle.sync.specs.Resource.{taken}
 use borrow.Author.Needs.{needs}
+use mathlib.Core.Path.{refl}
 use Rattle.acquire.proofs.acquire.token_done.Statement.{statement}
 use Rattle.acquire.proofs.acquire.token_done.Tie as tie
 
@@ -12,8 +13,8 @@ enum-known-g : tie.Need-enum-known-g
 enum-known-g c = search needs
 
 returns : tie.Need-returns
-unfolding flag tokenSeen acquiredAll erase acquireNext outcome
-returns c = rw (c .before .before .g .given .1, c .if1 .taken)
+unfolding flag tokenSeen acquiredAll erase acquireNext outcome validAcquireNext
+returns c = (rw (c .before .before .g .given .1, c .if1 .taken), λ h. refl)
 
 give-back-requires : tie.Need-give-back-requires
 give-back-requires c κs = search needs
@@ -26,11 +27,11 @@ give-back-requires-2 c κs = search needs
 
 returns-2 : tie.Need-returns-2
 unfolding flag tokenSeen
-returns-2 c = rw (c .before .before .before .g .given .1, c .before .if1 .left) (c .give-back .ensures)
+returns-2 c = (rw (c .before .before .before .g .given .1, c .before .if1 .left) (c .give-back .ensures .0), c .give-back .ensures .1)
 
 returns-3 : tie.Need-returns-3
 unfolding flag tokenSeen
-returns-3 c = rw (c .before .before .g2 .given .1) (c .give-back2 .ensures)
+returns-3 c = (rw (c .before .before .g2 .given .1) (c .give-back2 .ensures .0), c .give-back2 .ensures .1)
 
 pub token-done-spec : {M : Type 1} → statement M
 token-done-spec =

@@ -17,7 +17,7 @@ token-requires c κs = search needs
 
 returns : tie.Need-returns
 unfolding restAcquire restAcquireAt accessAcquire accessAcquireAt restRelease accessRelease tryToken validAcquireAt validRelease stepAcquire stepRelease openAcquire openRelease question andThen portOpened acquireBits tokenGiven gave
-returns c = over _ _ (c .token .ensures) (c .before .«open» .ensures)
+returns c = (over _ _ (c .token .ensures .0) (c .before .«open» .ensures .0), λ h. c .token .ensures .1 h (c .before .«open» .ensures .1))
 
 pub try-token-spec : {M : Type 1} → statement M
 try-token-spec = tie.close (tie.spec open-requires token-requires returns)

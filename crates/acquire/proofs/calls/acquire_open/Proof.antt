@@ -1,5 +1,6 @@
 -- `acquire_open` meets its contract.
-use Rattle.acquire.specs.Calls.{openAcquire, saidAcquire}
+use Rattle.acquire.specs.Calls.{openAcquire, saidAcquire, standsAcquire}
+use Rattle.hardware.proofs.Laws.{opened-valid}
 use Rattle.hardware.specs.Asked.{andThen, portOpened, yes}
 use Rattle.hardware.specs.Runs.{given}
 use borrow.Author.Needs.{needs}
@@ -27,11 +28,11 @@ enum-known-q c = search needs
 
 returns : tie.Need-returns
 unfolding openAcquire andThen portOpened
-returns c = rw (← c .before .before .before .before .before .before .open-port .ensures, c .before .before .before .before .p .given .1) (rw (c .before .before .hw .ensures) at (c .acquire-told .ensures) ∙ ap yes (c .before .«open» .ensures))
+returns c = (rw (← c .before .before .before .before .before .before .open-port .ensures, c .before .before .before .before .p .given .1) (rw (c .before .before .hw .ensures) at (c .acquire-told .ensures .0) ∙ ap yes (c .before .«open» .ensures .0)), c .acquire-told .ensures .1 (opened-valid _ _ _ (c .before .before .before .before .p .given .1) (c .before .before .before .before .before .before .open-port .ensures)) (c .before .«open» .ensures .1))
 
 returns-2 : tie.Need-returns-2
-unfolding openAcquire andThen portOpened saidAcquire
-returns-2 c = rw (← c .before .before .before .open-port .ensures, c .before .q .given .1)
+unfolding openAcquire andThen portOpened saidAcquire standsAcquire
+returns-2 c = (rw (← c .before .before .before .open-port .ensures, c .before .q .given .1), tt)
 
 pub acquire-open-spec : {M : Type 1} → statement M
 acquire-open-spec =

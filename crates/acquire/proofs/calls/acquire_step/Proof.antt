@@ -1,10 +1,10 @@
 -- `acquire_step` meets its contract.
-use Rattle.acquire.specs.Calls.{saidAcquire, stepAcquire}
+use Rattle.acquire.specs.Calls.{saidAcquire, standsAcquire, stepAcquire}
 use Rattle.hardware.specs.Asked.{question, yes}
 use Rattle.hardware.specs.Runs.{given}
 use Rattle.sync.specs.Resource.{taken}
 use borrow.Author.Needs.{needs}
-use mathlib.Core.Path.{_∙_, ap}
+use mathlib.Core.Path.{_∙_, ap, sym}
 use Rattle.acquire.proofs.calls.acquire_step.Statement.{statement}
 use Rattle.acquire.proofs.calls.acquire_step.Tie as tie
 
@@ -31,26 +31,26 @@ acquire-told-requires c κs = search needs
 
 returns : tie.Need-returns
 unfolding stepAcquire question
-returns c = rw (c .before .before .before .before .before .before .before .before .before .before .s .given .1, ← c .before .before .before .before .before .before .before .before .valid-port .ensures, c .before .before .before .before .before .before .before .if1 .taken, ← c .before .before .before .before .before .before .valid .ensures, c .before .before .before .before .before .if2 .taken, ← c .before .before .before .before .access .ensures, ← c .before .before .before .awaited .ensures, c .before .before .if3 .taken) (c .acquire-told .ensures ∙ ap yes (c .before .step .ensures))
+returns c = (rw (c .before .before .before .before .before .before .before .before .before .before .s .given .1, ← c .before .before .before .before .before .before .before .before .valid-port .ensures, c .before .before .before .before .before .before .before .if1 .taken, ← c .before .before .before .before .before .before .valid .ensures, c .before .before .before .before .before .if2 .taken, ← c .before .before .before .before .access .ensures, ← c .before .before .before .awaited .ensures, c .before .before .if3 .taken) (c .acquire-told .ensures .0 ∙ ap yes (c .before .step .ensures .0)), c .acquire-told .ensures .1 (sym (c .before .before .before .before .before .before .before .before .valid-port .ensures) ∙ c .before .before .before .before .before .before .before .if1 .taken) (c .before .step .ensures .1 (sym (c .before .before .before .before .before .before .valid .ensures) ∙ c .before .before .before .before .before .if2 .taken)))
 
 returns-2 : tie.Need-returns-2
-unfolding stepAcquire question saidAcquire
-returns-2 c = rw (c .before .before .before .before .before .before .before .before .s .given .1, ← c .before .before .before .before .before .before .valid-port .ensures, c .before .before .before .before .before .if1 .taken, ← c .before .before .before .before .valid .ensures, c .before .before .before .if2 .taken, ← c .before .before .access .ensures, ← c .before .awaited .ensures, c .if3 .left)
+unfolding stepAcquire question saidAcquire standsAcquire
+returns-2 c = (rw (c .before .before .before .before .before .before .before .before .s .given .1, ← c .before .before .before .before .before .before .valid-port .ensures, c .before .before .before .before .before .if1 .taken, ← c .before .before .before .before .valid .ensures, c .before .before .before .if2 .taken, ← c .before .before .access .ensures, ← c .before .awaited .ensures, c .if3 .left), tt)
 
 enum-told : tie.Need-enum-told
 enum-told c = search needs
 
 returns-3 : tie.Need-returns-3
-unfolding stepAcquire question saidAcquire
-returns-3 c = rw (c .before .before .before .before .before .s .given .1, ← c .before .before .before .valid-port .ensures, c .before .before .if1 .taken, ← c .before .valid .ensures, c .if2 .left)
+unfolding stepAcquire question saidAcquire standsAcquire
+returns-3 c = (rw (c .before .before .before .before .before .s .given .1, ← c .before .before .before .valid-port .ensures, c .before .before .if1 .taken, ← c .before .valid .ensures, c .if2 .left), tt)
 
 returns-4 : tie.Need-returns-4
-unfolding stepAcquire question saidAcquire
-returns-4 c = rw (c .before .before .before .s .given .1, ← c .before .valid-port .ensures, c .if1 .left)
+unfolding stepAcquire question saidAcquire standsAcquire
+returns-4 c = (rw (c .before .before .before .s .given .1, ← c .before .valid-port .ensures, c .if1 .left), tt)
 
 returns-5 : tie.Need-returns-5
-unfolding stepAcquire question saidAcquire
-returns-5 c = rw (c .enum-told .given .1)
+unfolding stepAcquire question saidAcquire standsAcquire
+returns-5 c = (rw (c .enum-told .given .1), tt)
 
 pub acquire-step-spec : {M : Type 1} → statement M
 acquire-step-spec =

@@ -1,6 +1,6 @@
 -- `acquire_told` meets its contract.
-use Rattle.acquire.specs.Acquire.{acquireNext}
-use Rattle.acquire.specs.Calls.{saidAcquire}
+use Rattle.acquire.specs.Acquire.{acquireNext, validAcquireNext}
+use Rattle.acquire.specs.Calls.{saidAcquire, standsAcquire}
 use Rattle.hardware.specs.Runs.{given}
 use borrow.Author.Needs.{needs}
 use Rattle.acquire.proofs.calls.acquire_told.Statement.{statement}
@@ -16,12 +16,12 @@ enum-known-n-2 : tie.Need-enum-known-n-2
 enum-known-n-2 c = search needs
 
 returns : tie.Need-returns
-unfolding saidAcquire acquireNext
-returns c = rw (c .before .before .n .given .1, ← c .access .ensures)
+unfolding saidAcquire acquireNext standsAcquire validAcquireNext
+returns c = (rw (c .before .before .n .given .1, ← c .access .ensures), λ p h. (c .access .ensures, p, rw (c .before .before .n .given .1) at h))
 
 returns-2 : tie.Need-returns-2
-unfolding saidAcquire acquireNext
-returns-2 c = rw (c .before .n2 .given .1)
+unfolding saidAcquire acquireNext standsAcquire
+returns-2 c = (rw (c .before .n2 .given .1), λ p h. tt)
 
 pub acquire-told-spec : {M : Type 1} → statement M
 acquire-told-spec =

@@ -1,5 +1,6 @@
 -- `release_open` meets its contract.
-use Rattle.acquire.specs.Calls.{openRelease, saidRelease}
+use Rattle.acquire.specs.Calls.{openRelease, saidRelease, standsRelease}
+use Rattle.hardware.proofs.Laws.{opened-valid}
 use Rattle.hardware.specs.Asked.{andThen, portOpened, yes}
 use Rattle.hardware.specs.Runs.{given}
 use borrow.Author.Needs.{needs}
@@ -27,11 +28,11 @@ enum-known-q c = search needs
 
 returns : tie.Need-returns
 unfolding openRelease andThen portOpened
-returns c = rw (← c .before .before .before .before .before .before .open-port .ensures, c .before .before .before .before .p .given .1) (rw (c .before .before .hw .ensures) at (c .release-told .ensures) ∙ ap yes (c .before .«open» .ensures))
+returns c = (rw (← c .before .before .before .before .before .before .open-port .ensures, c .before .before .before .before .p .given .1) (rw (c .before .before .hw .ensures) at (c .release-told .ensures .0) ∙ ap yes (c .before .«open» .ensures .0)), c .release-told .ensures .1 (opened-valid _ _ _ (c .before .before .before .before .p .given .1) (c .before .before .before .before .before .before .open-port .ensures)) (c .before .«open» .ensures .1))
 
 returns-2 : tie.Need-returns-2
-unfolding openRelease andThen portOpened saidRelease
-returns-2 c = rw (← c .before .before .before .open-port .ensures, c .before .q .given .1)
+unfolding openRelease andThen portOpened saidRelease standsRelease
+returns-2 c = (rw (← c .before .before .before .open-port .ensures, c .before .q .given .1), tt)
 
 pub release-open-spec : {M : Type 1} → statement M
 release-open-spec =

@@ -1,10 +1,10 @@
 -- `release_step` meets its contract.
-use Rattle.acquire.specs.Calls.{saidRelease, stepRelease}
+use Rattle.acquire.specs.Calls.{saidRelease, standsRelease, stepRelease}
 use Rattle.hardware.specs.Asked.{question, yes}
 use Rattle.hardware.specs.Runs.{given}
 use Rattle.sync.specs.Resource.{taken}
 use borrow.Author.Needs.{needs}
-use mathlib.Core.Path.{_∙_, ap}
+use mathlib.Core.Path.{_∙_, ap, sym}
 use Rattle.acquire.proofs.calls.release_step.Statement.{statement}
 use Rattle.acquire.proofs.calls.release_step.Tie as tie
 
@@ -31,26 +31,26 @@ release-told-requires c κs = search needs
 
 returns : tie.Need-returns
 unfolding stepRelease question
-returns c = rw (c .before .before .before .before .before .before .before .before .before .before .s .given .1, ← c .before .before .before .before .before .before .before .before .valid-port .ensures, c .before .before .before .before .before .before .before .if1 .taken, ← c .before .before .before .before .before .before .valid .ensures, c .before .before .before .before .before .if2 .taken, ← c .before .before .before .before .access .ensures, ← c .before .before .before .awaited .ensures, c .before .before .if3 .taken) (c .release-told .ensures ∙ ap yes (c .before .step .ensures))
+returns c = (rw (c .before .before .before .before .before .before .before .before .before .before .s .given .1, ← c .before .before .before .before .before .before .before .before .valid-port .ensures, c .before .before .before .before .before .before .before .if1 .taken, ← c .before .before .before .before .before .before .valid .ensures, c .before .before .before .before .before .if2 .taken, ← c .before .before .before .before .access .ensures, ← c .before .before .before .awaited .ensures, c .before .before .if3 .taken) (c .release-told .ensures .0 ∙ ap yes (c .before .step .ensures .0)), c .release-told .ensures .1 (sym (c .before .before .before .before .before .before .before .before .valid-port .ensures) ∙ c .before .before .before .before .before .before .before .if1 .taken) (c .before .step .ensures .1 (sym (c .before .before .before .before .before .before .valid .ensures) ∙ c .before .before .before .before .before .if2 .taken)))
 
 returns-2 : tie.Need-returns-2
-unfolding stepRelease question saidRelease
-returns-2 c = rw (c .before .before .before .before .before .before .before .before .s .given .1, ← c .before .before .before .before .before .before .valid-port .ensures, c .before .before .before .before .before .if1 .taken, ← c .before .before .before .before .valid .ensures, c .before .before .before .if2 .taken, ← c .before .before .access .ensures, ← c .before .awaited .ensures, c .if3 .left)
+unfolding stepRelease question saidRelease standsRelease
+returns-2 c = (rw (c .before .before .before .before .before .before .before .before .s .given .1, ← c .before .before .before .before .before .before .valid-port .ensures, c .before .before .before .before .before .if1 .taken, ← c .before .before .before .before .valid .ensures, c .before .before .before .if2 .taken, ← c .before .before .access .ensures, ← c .before .awaited .ensures, c .if3 .left), tt)
 
 enum-told : tie.Need-enum-told
 enum-told c = search needs
 
 returns-3 : tie.Need-returns-3
-unfolding stepRelease question saidRelease
-returns-3 c = rw (c .before .before .before .before .before .s .given .1, ← c .before .before .before .valid-port .ensures, c .before .before .if1 .taken, ← c .before .valid .ensures, c .if2 .left)
+unfolding stepRelease question saidRelease standsRelease
+returns-3 c = (rw (c .before .before .before .before .before .s .given .1, ← c .before .before .before .valid-port .ensures, c .before .before .if1 .taken, ← c .before .valid .ensures, c .if2 .left), tt)
 
 returns-4 : tie.Need-returns-4
-unfolding stepRelease question saidRelease
-returns-4 c = rw (c .before .before .before .s .given .1, ← c .before .valid-port .ensures, c .if1 .left)
+unfolding stepRelease question saidRelease standsRelease
+returns-4 c = (rw (c .before .before .before .s .given .1, ← c .before .valid-port .ensures, c .if1 .left), tt)
 
 returns-5 : tie.Need-returns-5
-unfolding stepRelease question saidRelease
-returns-5 c = rw (c .enum-told .given .1)
+unfolding stepRelease question saidRelease standsRelease
+returns-5 c = (rw (c .enum-told .given .1), tt)
 
 pub release-step-spec : {M : Type 1} → statement M
 release-step-spec =

@@ -1,6 +1,6 @@
 -- `release_told` meets its contract.
-use Rattle.acquire.specs.Acquire.{releaseNext}
-use Rattle.acquire.specs.Calls.{saidRelease}
+use Rattle.acquire.specs.Acquire.{releaseNext, validReleaseNext}
+use Rattle.acquire.specs.Calls.{saidRelease, standsRelease}
 use Rattle.hardware.specs.Runs.{given}
 use borrow.Author.Needs.{needs}
 use Rattle.acquire.proofs.calls.release_told.Statement.{statement}
@@ -16,12 +16,12 @@ enum-known-n-2 : tie.Need-enum-known-n-2
 enum-known-n-2 c = search needs
 
 returns : tie.Need-returns
-unfolding saidRelease releaseNext
-returns c = rw (c .before .before .n .given .1, ← c .access .ensures)
+unfolding saidRelease releaseNext standsRelease validReleaseNext
+returns c = (rw (c .before .before .n .given .1, ← c .access .ensures), λ p h. (c .access .ensures, p, rw (c .before .before .n .given .1) at h))
 
 returns-2 : tie.Need-returns-2
-unfolding saidRelease releaseNext
-returns-2 c = rw (c .before .n2 .given .1)
+unfolding saidRelease releaseNext standsRelease
+returns-2 c = (rw (c .before .n2 .given .1), λ p h. tt)
 
 pub release-told-spec : {M : Type 1} → statement M
 release-told-spec =

@@ -19,7 +19,7 @@ open-bits-requires c κs = search needs
 
 returns : tie.Need-returns
 unfolding release pick erase outcome
-returns c = rw (← c .before .before .none-of .ensures, c .before .if1 .taken) (rw (c .before .before .before .hw .ensures) at (c .open-bits .ensures))
+returns c = (rw (← c .before .before .none-of .ensures, c .before .if1 .taken) (rw (c .before .before .before .hw .ensures) at (c .open-bits .ensures .0)), c .open-bits .ensures .1)
 
 open-requires : tie.Need-open-requires
 open-requires c κs = search needs
@@ -29,7 +29,7 @@ token-requires c κs = search needs
 
 returns-2 : tie.Need-returns-2
 unfolding release pick erase
-returns-2 c = rw (← c .before .before .before .none-of .ensures, c .before .before .if1 .left) (over _ _ (rw (c .before .before .before .before .hw .ensures) at (c .token .ensures)) (c .before .«open» .ensures))
+returns-2 c = (rw (← c .before .before .before .none-of .ensures, c .before .before .if1 .left) (over _ _ (rw (c .before .before .before .before .hw .ensures) at (c .token .ensures .0)) (c .before .«open» .ensures .0)), c .token .ensures .1 (c .before .«open» .ensures .1))
 
 pub open-spec : {M : Type 1} → statement M
 open-spec =

@@ -31,11 +31,11 @@ bits-requires c κs = search needs
 
 returns : tie.Need-returns
 unfolding restAcquire restAcquireAt accessAcquire accessAcquireAt restRelease accessRelease tryToken validAcquireAt validRelease stepAcquire stepRelease openAcquire openRelease question andThen portOpened acquireBits tokenGiven gave
-returns c = rw (c .before .before .before .s .given .1) (over _ _ (c .token .ensures) (c .before .step .ensures))
+returns c = (rw (c .before .before .before .s .given .1) (over _ _ (c .token .ensures .0) (c .before .step .ensures .0)), λ h. c .token .ensures .1 (c .before .step .ensures .1 (rw (c .before .before .before .s .given .1) at h)))
 
 returns-2 : tie.Need-returns-2
 unfolding restAcquire restAcquireAt accessAcquire accessAcquireAt restRelease accessRelease tryToken validAcquireAt validRelease stepAcquire stepRelease openAcquire openRelease question andThen portOpened acquireBits tokenGiven gave
-returns-2 c = rw (c .before .before .before .s2 .given .1) (over _ _ (c .bits .ensures) (c .before .step2 .ensures))
+returns-2 c = (rw (c .before .before .before .s2 .given .1) (over _ _ (c .bits .ensures .0) (c .before .step2 .ensures .0)), λ h. c .bits .ensures .1 (c .before .step2 .ensures .1 (rw (c .before .before .before .s2 .given .1) at h)))
 
 pub step-spec : {M : Type 1} → statement M
 step-spec =

@@ -1,8 +1,8 @@
 -- `token` meets its contract.
-use Rattle.acquire.specs.Acquire.{accessAcquire, accessAcquireAt, accessRelease, acquireNext, releaseNext, restAcquire, restAcquireAt, restRelease}
+use Rattle.acquire.specs.Acquire.{accessAcquire, accessAcquireAt, accessRelease, acquireNext, releaseNext, restAcquire, restAcquireAt, restRelease, validRelease, validReleaseNext}
 use Rattle.hardware.specs.Prog.{_>>=_, followed, going}
 use Rattle.hardware.specs.Runs.{given}
-use Rattle.hostif.specs.Hostif.{tokenNext}
+use Rattle.hostif.specs.Hostif.{tokenNext, validTokenNext}
 use Rattle.sync.specs.Resource.{acquireBitsNext, releaseBitsNext}
 use borrow.Author.Needs.{needs}
 use Rattle.acquire.proofs.release.token.Statement.{statement}
@@ -18,12 +18,12 @@ token-done-requires : tie.Need-token-done-requires
 token-done-requires c κs = search needs
 
 returns : tie.Need-returns
-unfolding acquireNext accessAcquire accessAcquireAt restAcquire restAcquireAt releaseNext accessRelease restRelease acquireBitsNext releaseBitsNext tokenNext
-returns c = rw (c .before .n .given .1) (going _ _ _)
+unfolding acquireNext accessAcquire accessAcquireAt restAcquire restAcquireAt releaseNext accessRelease restRelease acquireBitsNext releaseBitsNext tokenNext validReleaseNext validRelease validTokenNext
+returns c = (rw (c .before .n .given .1) (going _ _ _), λ h. rw (c .before .n .given .1) at h)
 
 returns-2 : tie.Need-returns-2
 unfolding followed _>>=_ tokenNext
-returns-2 c = rw (c .before .before .n2 .given .1) (c .token-done .ensures)
+returns-2 c = (rw (c .before .before .n2 .given .1) (c .token-done .ensures .0), λ h. c .token-done .ensures .1)
 
 pub token-spec : {M : Type 1} → statement M
 token-spec = tie.close (tie.spec enum-known-n enum-known-n-2 token-done-requires returns returns-2)

@@ -20,11 +20,11 @@ open-bits-requires-2 c κs = search needs
 
 returns : tie.Need-returns
 unfolding tokenGiven gave flag outcome
-returns c = rw (c .before .enum-told .given .1) (c .open-bits .ensures)
+returns c = (rw (c .before .enum-told .given .1) (c .open-bits .ensures .0), c .open-bits .ensures .1)
 
 returns-2 : tie.Need-returns-2
 unfolding tokenGiven gave flag outcome
-returns-2 c = rw (c .before .before .g .given .1) (c .open-bits2 .ensures)
+returns-2 c = (rw (c .before .before .g .given .1) (c .open-bits2 .ensures .0), c .open-bits2 .ensures .1)
 
 pub token-done-spec : {M : Type 1} → statement M
 token-done-spec =

@@ -1,11 +1,11 @@
 -- `step` meets its contract.
-use Rattle.hardware.specs.Asked.{familyNumbered, openLan, openPort, question}
-use Rattle.hardware.specs.Change.{changed, settled, stored}
-use Rattle.hardware.specs.Poll.{polled, restPoll}
-use Rattle.hardware.specs.Prog.{_>>=_, erase, fed, orErr, pick}
-use Rattle.hardware.specs.Registers.{checked, flushed, outcome, raw, read, word, written}
+use Rattle.hardware.proofs.Laws.{below}
+use Rattle.hardware.specs.Poll.{restPoll, validPoll}
+use Rattle.hardware.specs.Prog.{fed}
+use Rattle.hardware.specs.Registers.{read}
 use Rattle.hardware.specs.Runs.{given}
 use borrow.Author.Needs.{needs}
+use borrow.Author.Tests.{ltb-true}
 use Rattle.hardware.proofs.poll.step.Statement.{statement}
 use Rattle.hardware.proofs.poll.step.Tie as tie
 
@@ -25,12 +25,12 @@ open-requires : tie.Need-open-requires
 open-requires c κs = search needs
 
 returns : tie.Need-returns
-unfolding restPoll
-returns c = rw (c .before .before .before .s .given .1) (fed _ (c .seen .ensures) (c .before .read .ensures))
+unfolding restPoll validPoll
+returns c = (rw (c .before .before .before .s .given .1) (fed _ (c .seen .ensures .0) (c .before .read .ensures)), λ n h. c .seen .ensures .1 n (ltb-true _ _ (rw (c .before .before .before .s .given .1) at h)))
 
 returns-2 : tie.Need-returns-2
-unfolding restPoll
-returns-2 c = rw (c .before .before .s2 .given .1) (c .«open» .ensures)
+unfolding restPoll validPoll
+returns-2 c = (rw (c .before .before .s2 .given .1) (c .«open» .ensures .0), λ n h. c .«open» .ensures .1 n (below _ _ (rw (c .before .before .s2 .given .1) at h)))
 
 pub step-spec : {M : Type 1} → statement M
 step-spec =

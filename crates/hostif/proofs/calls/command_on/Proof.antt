@@ -1,56 +1,47 @@
 -- `command_on` meets its contract.
-use Rattle.hostif.specs.Calls.{asked, saidCommand, stepped}
+use Rattle.hostif.specs.Calls.{asked, saidCommand, standsCommand, stepped}
 use Rattle.sync.specs.Resource.{taken}
 use borrow.Author.Needs.{needs}
+use mathlib.Core.Path.{_∙_, sym}
 use Rattle.hostif.proofs.calls.command_on.Statement.{statement}
 use Rattle.hostif.proofs.calls.command_on.Tie as tie
 
 valid-port-requires : tie.Need-valid-port-requires
 valid-port-requires c κs = search needs
 
--- src/calls.rt:90:12
 valid-requires : tie.Need-valid-requires
 valid-requires c κs = search needs
 
--- src/calls.rt:91:34
 access-requires : tie.Need-access-requires
 access-requires c κs = search needs
 
--- src/calls.rt:91:16
 awaited-requires : tie.Need-awaited-requires
 awaited-requires c κs = search needs
 
--- src/calls.rt:92:17
 go-requires : tie.Need-go-requires
 go-requires c κs = search needs
 
--- src/calls.rt:92:17
 same-length : tie.Need-same-length
 same-length c = search needs
 
--- src/calls.rt:92:17
 returns : tie.Need-returns
 unfolding stepped asked
-returns c = rw (← c .before .before .before .before .before .before .before .before .before .before .before .valid-port .ensures, c .before .before .before .before .before .before .before .before .before .before .if1 .taken, ← c .before .before .before .before .before .before .before .before .before .valid .ensures, c .before .before .before .before .before .before .before .before .if2 .taken, ← c .before .before .before .before .before .before .access .ensures, ← c .before .before .before .before .before .awaited .ensures, c .before .before .before .before .if3 .taken) (c .before .before .go .ensures)
+returns c = (rw (← c .before .before .before .before .before .before .before .before .before .before .before .valid-port .ensures, c .before .before .before .before .before .before .before .before .before .before .if1 .taken, ← c .before .before .before .before .before .before .before .before .before .valid .ensures, c .before .before .before .before .before .before .before .before .if2 .taken, ← c .before .before .before .before .before .before .access .ensures, ← c .before .before .before .before .before .awaited .ensures, c .before .before .before .before .if3 .taken) (c .before .before .go .ensures .0), c .before .before .go .ensures .1 (sym (c .before .before .before .before .before .before .before .before .before .before .before .valid-port .ensures) ∙ c .before .before .before .before .before .before .before .before .before .before .if1 .taken) (sym (c .before .before .before .before .before .before .before .before .before .valid .ensures) ∙ c .before .before .before .before .before .before .before .before .if2 .taken))
 
--- src/calls.rt:94:13
 same-length-2 : tie.Need-same-length-2
 same-length-2 c = search needs
 
--- src/calls.rt:94:13
 returns-2 : tie.Need-returns-2
-unfolding stepped asked saidCommand
-returns-2 c = rw (← c .before .before .before .before .before .before .before .valid-port .ensures, c .before .before .before .before .before .before .if1 .taken, ← c .before .before .before .before .before .valid .ensures, c .before .before .before .before .if2 .taken, ← c .before .before .access .ensures, ← c .before .awaited .ensures, c .if3 .left)
+unfolding stepped asked saidCommand standsCommand
+returns-2 c = (rw (← c .before .before .before .before .before .before .before .valid-port .ensures, c .before .before .before .before .before .before .if1 .taken, ← c .before .before .before .before .before .valid .ensures, c .before .before .before .before .if2 .taken, ← c .before .before .access .ensures, ← c .before .awaited .ensures, c .if3 .left), tt)
 
--- src/calls.rt:85:1
 returns-3 : tie.Need-returns-3
-unfolding stepped asked saidCommand
-returns-3 c = rw (← c .before .before .before .valid-port .ensures, c .before .before .if1 .taken, ← c .before .valid .ensures, c .if2 .left)
+unfolding stepped asked saidCommand standsCommand
+returns-3 c = (rw (← c .before .before .before .valid-port .ensures, c .before .before .if1 .taken, ← c .before .valid .ensures, c .if2 .left), tt)
 
--- src/calls.rt:85:1
 returns-4 : tie.Need-returns-4
-unfolding stepped asked saidCommand
-returns-4 c = rw (← c .before .valid-port .ensures, c .if1 .left)
+unfolding stepped asked saidCommand standsCommand
+returns-4 c = (rw (← c .before .valid-port .ensures, c .if1 .left), tt)
 
 pub command-on-spec : {M : Type 1} → statement M
 command-on-spec =

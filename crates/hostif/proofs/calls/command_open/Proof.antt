@@ -1,7 +1,8 @@
 -- `command_open` meets its contract.
+use Rattle.hardware.proofs.Laws.{opened-valid}
 use Rattle.hardware.specs.Asked.{portOpened}
 use Rattle.hardware.specs.Runs.{given}
-use Rattle.hostif.specs.Calls.{asked, goes, openCommand, openedBlock, saidCommand}
+use Rattle.hostif.specs.Calls.{asked, goes, openCommand, openedBlock, saidCommand, standsCommand}
 use Rattle.sync.specs.Resource.{taken}
 use borrow.Author.Needs.{needs}
 use mathlib.Core.Path.{_∙_, ap, refl}
@@ -11,40 +12,32 @@ use Rattle.hostif.proofs.calls.command_open.Tie as tie
 open-port-requires : tie.Need-open-port-requires
 open-port-requires c κs = search needs
 
--- src/calls.rt:67:23
 enum-known-p : tie.Need-enum-known-p
 enum-known-p c = search needs
 
--- src/calls.rt:68:16
 fits-requires : tie.Need-fits-requires
 fits-requires c κs = search needs
 
--- src/calls.rt:69:47
 open-requires : tie.Need-open-requires
 open-requires c κs = search needs
 
--- src/calls.rt:69:17
 command-told-requires : tie.Need-command-told-requires
 command-told-requires c κs = search needs
 
--- src/calls.rt:69:17
 returns : tie.Need-returns
 unfolding openCommand openedBlock asked portOpened
-returns c = rw (← c .before .before .before .before .before .before .before .open-port .ensures, c .before .before .before .before .before .p .given .1, ← c .before .before .before .fits2 .ensures _ refl, c .before .before .if1 .taken) (c .command-told .ensures ∙ ap goes (c .before .«open» .ensures _))
+returns c = (rw (← c .before .before .before .before .before .before .before .open-port .ensures, c .before .before .before .before .before .p .given .1, ← c .before .before .before .fits2 .ensures _ refl, c .before .before .if1 .taken) (c .command-told .ensures .0 ∙ ap goes (c .before .«open» .ensures .0 _)), c .command-told .ensures .1 (opened-valid _ _ _ (c .before .before .before .before .before .p .given .1) (c .before .before .before .before .before .before .before .open-port .ensures)) (c .before .«open» .ensures .1 _))
 
--- src/calls.rt:73:26
 enum-known-q : tie.Need-enum-known-q
 enum-known-q c = search needs
 
--- src/calls.rt:63:1
 returns-2 : tie.Need-returns-2
-unfolding openCommand openedBlock asked portOpened saidCommand
-returns-2 c = rw (← c .before .before .before .before .before .open-port .ensures, c .before .before .before .p .given .1, ← c .before .fits2 .ensures _ refl, c .if1 .left)
+unfolding openCommand openedBlock asked portOpened saidCommand standsCommand
+returns-2 c = (rw (← c .before .before .before .before .before .open-port .ensures, c .before .before .before .p .given .1, ← c .before .fits2 .ensures _ refl, c .if1 .left), tt)
 
--- src/calls.rt:63:1
 returns-3 : tie.Need-returns-3
-unfolding openCommand openedBlock asked portOpened saidCommand
-returns-3 c = rw (← c .before .before .before .open-port .ensures, c .before .q .given .1)
+unfolding openCommand openedBlock asked portOpened saidCommand standsCommand
+returns-3 c = (rw (← c .before .before .before .open-port .ensures, c .before .q .given .1), tt)
 
 pub command-open-spec : {M : Type 1} → statement M
 command-open-spec =

@@ -1,7 +1,7 @@
 -- `command_step` meets its contract.
 use Rattle.hardware.specs.Runs.{given}
 use Rattle.hostif.proofs.Laws.{block-fits}
-use Rattle.hostif.specs.Calls.{asked, saidCommand, stepCommand, stepped}
+use Rattle.hostif.specs.Calls.{asked, saidCommand, standsCommand, stepCommand, stepped}
 use Rattle.sync.specs.Resource.{taken}
 use borrow.Author.Needs.{needs}
 use mathlib.Core.Path.{_∙_, refl, sym}
@@ -11,36 +11,29 @@ use Rattle.hostif.proofs.calls.command_step.Tie as tie
 fits-requires : tie.Need-fits-requires
 fits-requires c κs = search needs
 
--- src/calls.rt:105:32
 enum-known-s : tie.Need-enum-known-s
 enum-known-s c = search needs
 
--- src/calls.rt:105:44
 command-on-requires : tie.Need-command-on-requires
 command-on-requires c κs = block-fits (c .before .before .before .before .before .before .before .args .block .now) (sym (c .before .before .before .before .before .fits2 .ensures _ refl) ∙ c .before .before .before .before .if1 .taken)
 
--- src/calls.rt:106:55
 enum-told : tie.Need-enum-told
 enum-told c = search needs
 
--- src/calls.rt:104:9
 same-length : tie.Need-same-length
 same-length c = search needs
 
--- src/calls.rt:104:9
 returns : tie.Need-returns
 unfolding stepCommand asked
-returns c = rw (← c .before .before .before .before .before .before .before .before .fits2 .ensures _ refl, c .before .before .before .before .before .before .before .if1 .taken, c .before .before .before .before .before .s .given .1) (c .before .before .command-on .ensures)
+returns c = (rw (← c .before .before .before .before .before .before .before .before .fits2 .ensures _ refl, c .before .before .before .before .before .before .before .if1 .taken, c .before .before .before .before .before .s .given .1) (c .before .before .command-on .ensures .0), c .before .before .command-on .ensures .1)
 
--- src/calls.rt:104:9
 returns-2 : tie.Need-returns-2
-unfolding stepCommand asked stepped saidCommand
-returns-2 c = rw (← c .before .before .before .fits2 .ensures _ refl, c .before .before .if1 .taken, c .enum-told .given .1)
+unfolding stepCommand asked stepped saidCommand standsCommand
+returns-2 c = (rw (← c .before .before .before .fits2 .ensures _ refl, c .before .before .if1 .taken, c .enum-told .given .1), tt)
 
--- src/calls.rt:100:1
 returns-3 : tie.Need-returns-3
-unfolding stepCommand asked saidCommand
-returns-3 c = rw (← c .before .fits2 .ensures _ refl, c .if1 .left)
+unfolding stepCommand asked saidCommand standsCommand
+returns-3 c = (rw (← c .before .fits2 .ensures _ refl, c .if1 .left), tt)
 
 pub command-step-spec : {M : Type 1} → statement M
 command-step-spec =

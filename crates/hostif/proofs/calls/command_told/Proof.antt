@@ -1,7 +1,7 @@
 -- `command_told` meets its contract.
 use Rattle.hardware.specs.Runs.{given}
-use Rattle.hostif.specs.Calls.{saidCommand, saidToken}
-use Rattle.hostif.specs.Hostif.{commandNext, tokenNext}
+use Rattle.hostif.specs.Calls.{saidCommand, saidToken, standsCommand}
+use Rattle.hostif.specs.Hostif.{commandNext, tokenNext, validCommandNext}
 use borrow.Author.Needs.{needs}
 use Rattle.hostif.proofs.calls.command_told.Statement.{statement}
 use Rattle.hostif.proofs.calls.command_told.Tie as tie
@@ -16,12 +16,12 @@ enum-known-n-2 : tie.Need-enum-known-n-2
 enum-known-n-2 c = search needs
 
 returns : tie.Need-returns
-unfolding saidCommand commandNext
-returns c = rw (c .before .before .n .given .1, ← c .access .ensures)
+unfolding saidCommand commandNext standsCommand validCommandNext
+returns c = (rw (c .before .before .n .given .1, ← c .access .ensures), λ p h. (c .access .ensures, p, rw (c .before .before .n .given .1) at h))
 
 returns-2 : tie.Need-returns-2
-unfolding saidCommand saidToken commandNext tokenNext
-returns-2 c = rw (c .before .n2 .given .1)
+unfolding saidCommand saidToken commandNext tokenNext standsCommand
+returns-2 c = (rw (c .before .n2 .given .1), λ p h. tt)
 
 pub command-told-spec : {M : Type 1} → statement M
 command-told-spec =

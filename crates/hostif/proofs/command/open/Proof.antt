@@ -4,6 +4,7 @@ use Rattle.hostif.specs.Hostif.{command}
 use Rattle.sync.specs.Regs.{tries}
 use Rattle.sync.specs.Resource.{acquireBits}
 use borrow.Author.Needs.{needs}
+use native.Mathlib.Omega.{arith}
 use Rattle.hostif.proofs.command.open.Statement.{statement}
 use Rattle.hostif.proofs.command.open.Tie as tie
 
@@ -18,7 +19,7 @@ acquiring-requires c κs = search needs
 
 returns : tie.Need-returns
 unfolding command acquireBits
-returns c = λ l. over _ _ (c .acquiring .ensures l) (rw (c .before .before .tries .ensures) at (c .before .«open» .ensures))
+returns c = (λ l. over _ _ (c .acquiring .ensures .0 l) (rw (c .before .before .tries .ensures) at (c .before .«open» .ensures .0)), λ m. c .acquiring .ensures .1 m (c .before .«open» .ensures .1 (omega (arith, c .before .before .tries .ensures))))
 
 pub open-spec : {M : Type 1} → statement M
 open-spec = tie.close (tie.spec tries-requires open-requires acquiring-requires returns)

@@ -13,7 +13,7 @@ releasing-requires c κs = search needs
 
 returns : tie.Need-returns
 unfolding released erase
-returns c = λ l. over _ _ (c .releasing .ensures l) (c .before .«open» .ensures)
+returns c = (λ l. over _ _ (c .releasing .ensures .0 l) (c .before .«open» .ensures .0), λ m. c .releasing .ensures .1 m (c .before .«open» .ensures .1))
 
 pub release-spec : {M : Type 1} → statement M
 release-spec = tie.close (tie.spec open-requires releasing-requires returns)

@@ -3,9 +3,10 @@ use Rattle.hardware.specs.Change.{accessUpdate, change, restUpdate}
 use Rattle.hardware.specs.Prog.{_>>=_, erase, followed, orErr, pick}
 use Rattle.hardware.specs.Registers.{byte, flag, outcome, word}
 use Rattle.hardware.specs.Runs.{given}
-use Rattle.hostif.specs.Hostif.{accessCommand, accessRequest, accessResponse, acquired, both, closed, commandNext, hicrRead, released, request, requestNext, requested, respond, responseNext, restCommand, restRequest, restResponse, validCommand}
+use Rattle.hostif.specs.Hostif.{accessCommand, accessRequest, accessResponse, acquired, both, closed, commandNext, hicrRead, released, request, requestNext, requested, respond, responseNext, restCommand, restRequest, restResponse, validCommand, validCommandNext, validResponse}
 use Rattle.sync.specs.Resource.{acquireBitsNext, releaseBitsNext}
 use borrow.Author.Needs.{needs}
+use mathlib.Core.Path.{refl}
 use Rattle.hostif.proofs.command.request_done.Statement.{statement}
 use Rattle.hostif.proofs.command.request_done.Tie as tie
 
@@ -19,12 +20,12 @@ release-requires : tie.Need-release-requires
 release-requires c κs = search needs
 
 returns : tie.Need-returns
-unfolding requestNext accessRequest restRequest responseNext accessResponse restResponse commandNext accessCommand restCommand acquireBitsNext releaseBitsNext followed _>>=_ erase orErr pick word outcome byte flag hicrRead request respond both closed released requested acquired change accessUpdate restUpdate validCommand
-returns c = λ l. rw (c .before .w .given .1)
+unfolding requestNext accessRequest restRequest responseNext accessResponse restResponse commandNext accessCommand restCommand acquireBitsNext releaseBitsNext followed _>>=_ erase orErr pick word outcome byte flag hicrRead request respond both closed released requested acquired change accessUpdate restUpdate validCommand validCommandNext validResponse
+returns c = (λ l. rw (c .before .w .given .1), λ m. refl)
 
 returns-2 : tie.Need-returns-2
 unfolding requestNext accessRequest restRequest responseNext accessResponse restResponse commandNext accessCommand restCommand acquireBitsNext releaseBitsNext followed _>>=_ erase orErr pick word outcome byte flag hicrRead request respond both closed released requested acquired change accessUpdate restUpdate validCommand
-returns-2 c = λ l. rw (c .before .before .w2 .given .1) (c .release .ensures l)
+returns-2 c = (λ l. rw (c .before .before .w2 .given .1) (c .release .ensures .0 l), c .release .ensures .1)
 
 pub request-done-spec : {M : Type 1} → statement M
 request-done-spec =

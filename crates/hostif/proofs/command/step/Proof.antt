@@ -1,7 +1,7 @@
 -- `step` meets its contract.
 use Rattle.hardware.specs.Prog.{over}
 use Rattle.hardware.specs.Runs.{given}
-use Rattle.hostif.specs.Hostif.{restCommand}
+use Rattle.hostif.specs.Hostif.{restCommand, validCommand}
 use borrow.Author.Needs.{needs}
 use mathlib.Core.Path.{refl}
 use Rattle.hostif.proofs.command.step.Statement.{statement}
@@ -44,23 +44,23 @@ releasing-requires : tie.Need-releasing-requires
 releasing-requires c κs = search needs
 
 returns : tie.Need-returns
-unfolding restCommand
-returns c = rw (c .before .before .before .s .given .1) (over _ _ (c .acquiring .ensures _) (c .before .step .ensures))
+unfolding restCommand validCommand
+returns c = (rw (c .before .before .before .s .given .1) (over _ _ (c .acquiring .ensures .0 _) (c .before .step .ensures .0)), λ v. c .acquiring .ensures .1 _ (c .before .step .ensures .1 (rw (c .before .before .before .s .given .1) at v)))
 
 returns-2 : tie.Need-returns-2
-unfolding restCommand
-returns-2 c = rw (c .before .before .before .s2 .given .1) (over _ _ (c .requesting .ensures _) (c .before .step2 .ensures _ refl))
+unfolding restCommand validCommand
+returns-2 c = (rw (c .before .before .before .s2 .given .1) (over _ _ (c .requesting .ensures .0 _) (c .before .step2 .ensures .0 _ refl)), λ v. c .requesting .ensures .1 _ (c .before .step2 .ensures .1 (rw (c .before .before .before .s2 .given .1) at v)))
 
 same-length : tie.Need-same-length
 same-length c = search needs
 
 returns-3 : tie.Need-returns-3
-unfolding restCommand
-returns-3 c = rw (c .before .before .before .before .before .before .s3 .given .1) (over _ _ (c .responding .ensures _) (c .before .before .before .step3 .ensures))
+unfolding restCommand validCommand
+returns-3 c = (rw (c .before .before .before .before .before .before .s3 .given .1) (over _ _ (c .responding .ensures .0 _) (c .before .before .before .step3 .ensures .0)), λ v. c .responding .ensures .1 _ (c .before .before .before .step3 .ensures .1 (rw (c .before .before .before .before .before .before .s3 .given .1) at v)))
 
 returns-4 : tie.Need-returns-4
-unfolding restCommand
-returns-4 c = rw (c .before .before .before .s4 .given .1) (over _ _ (c .releasing .ensures _) (c .before .step4 .ensures))
+unfolding restCommand validCommand
+returns-4 c = (rw (c .before .before .before .s4 .given .1) (over _ _ (c .releasing .ensures .0 _) (c .before .step4 .ensures .0)), λ v. c .releasing .ensures .1 _ (c .before .step4 .ensures .1 (rw (c .before .before .before .s4 .given .1) at v)))
 
 pub step-spec : {M : Type 1} → statement M
 step-spec =

@@ -1,10 +1,10 @@
 -- `poll` meets its contract.
 use Rattle.hardware.specs.Change.{accessUpdate, change, restUpdate, updateNext}
-use Rattle.hardware.specs.Poll.{pollNext}
+use Rattle.hardware.specs.Poll.{pollNext, validPollNext}
 use Rattle.hardware.specs.Prog.{_>>=_, erase, followed, going, orErr, pick}
 use Rattle.hardware.specs.Registers.{byte, flag, outcome, word}
 use Rattle.hardware.specs.Runs.{given}
-use Rattle.hostif.specs.Hostif.{accessRequest, completed, enabled, hicrRead, polling, request, requestNext, restRequest, start, validRequest, words}
+use Rattle.hostif.specs.Hostif.{accessRequest, completed, enabled, hicrRead, polling, request, requestNext, restRequest, start, validRequest, validRequestNext, words}
 use borrow.Author.Needs.{needs}
 use Rattle.hostif.proofs.request.poll.Statement.{statement}
 use Rattle.hostif.proofs.request.poll.Tie as tie
@@ -19,12 +19,12 @@ complete-requires : tie.Need-complete-requires
 complete-requires c κs = search needs
 
 returns : tie.Need-returns
-unfolding requestNext accessRequest restRequest pollNext updateNext
-returns c = λ l. rw (c .before .n .given .1) (going _ _ _)
+unfolding requestNext accessRequest restRequest pollNext updateNext validRequestNext validRequest validPollNext
+returns c = (λ l. rw (c .before .n .given .1) (going _ _ _), λ m h. rw (c .before .n .given .1) at h)
 
 returns-2 : tie.Need-returns-2
 unfolding requestNext accessRequest restRequest pollNext updateNext followed _>>=_ erase orErr pick word outcome byte flag completed polling start enabled hicrRead request change accessUpdate restUpdate validRequest words
-returns-2 c = λ l. rw (c .before .before .n2 .given .1) (c .complete .ensures l)
+returns-2 c = (λ l. rw (c .before .before .n2 .given .1) (c .complete .ensures .0 l), λ m h. c .complete .ensures .1 m)
 
 pub poll-spec : {M : Type 1} → statement M
 poll-spec = tie.close (tie.spec enum-known-n enum-known-n-2 complete-requires returns returns-2)

@@ -4,8 +4,10 @@ use Rattle.hardware.specs.Poll.{poll, pollNext}
 use Rattle.hardware.specs.Prog.{_>>=_, erase, followed, orErr, over, pick}
 use Rattle.hardware.specs.Registers.{byte, flag, outcome, word}
 use Rattle.hardware.specs.Runs.{given}
-use Rattle.hostif.specs.Hostif.{accessRequest, completed, enabled, hicrRead, polling, request, requestNext, restRequest, start, validRequest, words}
+use Rattle.hostif.specs.Hostif.{POLLS, accessRequest, completed, enabled, hicrRead, polling, request, requestNext, restRequest, start, validRequest, validRequestNext, words}
 use borrow.Author.Needs.{needs}
+use mathlib.Core.Path.{refl}
+use native.Mathlib.Omega.{arith}
 use Rattle.hostif.proofs.request.started.Statement.{statement}
 use Rattle.hostif.proofs.request.started.Tie as tie
 
@@ -26,11 +28,11 @@ enum-known-o c = search needs
 
 returns : tie.Need-returns
 unfolding outcome orErr polling
-returns c = λ l. rw (c .before .before .before .enum-told .given .1) (over _ _ (c .poll .ensures l) (rw (c .before .before .watch .ensures) at (c .before .«open» .ensures)))
+returns c = (λ l. rw (c .before .before .before .enum-told .given .1) (over _ _ (c .poll .ensures .0 l) (rw (c .before .before .watch .ensures) at (c .before .«open» .ensures .0))), λ m. c .poll .ensures .1 m (c .before .«open» .ensures .1 POLLS (omega arith)))
 
 returns-2 : tie.Need-returns-2
-unfolding requestNext accessRequest restRequest pollNext updateNext followed _>>=_ erase orErr pick word outcome byte flag completed polling start enabled hicrRead request change accessUpdate restUpdate validRequest words
-returns-2 c = λ l. rw (c .before .o .given .1)
+unfolding requestNext accessRequest restRequest pollNext updateNext followed _>>=_ erase orErr pick word outcome byte flag completed polling start enabled hicrRead request change accessUpdate restUpdate validRequest words validRequestNext
+returns-2 c = (λ l. rw (c .before .o .given .1), λ m. refl)
 
 pub started-spec : {M : Type 1} → statement M
 started-spec =

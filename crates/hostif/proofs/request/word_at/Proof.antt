@@ -7,6 +7,8 @@ use lib.ListN.{List·getD-eq-default}
 use lib.ListN.{List·getD-eq-default}
 use lib.ListN.{List·getD-eq-default}
 use lib.ListN.{List·getD-eq-default}
+use lib.ListN.{List·getD-eq-default}
+use lib.ListN.{List·getD-eq-default}
 use Rattle.hostif.proofs.request.word_at.Statement.{statement}
 use Rattle.hostif.proofs.request.word_at.Tie as tie
 

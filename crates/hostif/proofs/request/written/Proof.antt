@@ -5,9 +5,11 @@ use Rattle.hardware.specs.Prog.{_>>=_, erase, followed, orErr, pick}
 use Rattle.hardware.specs.Registers.{byte, flag, outcome, word}
 use Rattle.hardware.specs.Runs.{given}
 use Rattle.hostif.proofs.Laws.{words-at, words-none}
-use Rattle.hostif.specs.Hostif.{accessRequest, completed, enabled, hicrRead, polling, request, requestNext, restRequest, start, validRequest, words}
+use Rattle.hostif.specs.Hostif.{accessRequest, completed, enabled, hicrRead, polling, request, requestNext, restRequest, start, validRequest, validRequestNext, words}
 use Rattle.sync.specs.Resource.{taken}
 use borrow.Author.Needs.{needs}
+use borrow.Author.Tests.{lt-ltb}
+use mathlib.Core.Path.{refl}
 use native.Mathlib.Omega.{arith}
 use Rattle.hostif.proofs.request.written.Statement.{statement}
 use Rattle.hostif.proofs.request.written.Tie as tie
@@ -22,19 +24,19 @@ add-t10 : tie.Need-add-t10
 add-t10 c = search needs
 
 returns : tie.Need-returns
-unfolding outcome orErr
-returns c = λ l h. rw (c .before .enum-told .given .1) (words-at l _ _ (omega (arith, c .if1 .taken)))
+unfolding outcome orErr validRequestNext validRequest
+returns c = (λ l h. rw (c .before .enum-told .given .1) (words-at l _ _ (omega (arith, c .if1 .taken))), lt-ltb _ _ (c .if1 .taken))
 
 enum-known-o : tie.Need-enum-known-o
 enum-known-o c = search needs
 
 returns-2 : tie.Need-returns-2
-unfolding outcome orErr
-returns-2 c = λ l h. rw (c .before .enum-told .given .1) (words-none l _ _ (omega (arith, c .if1 .left)))
+unfolding outcome orErr validRequestNext validRequest
+returns-2 c = (λ l h. rw (c .before .enum-told .given .1) (words-none l _ _ (omega (arith, c .if1 .left))), refl)
 
 returns-3 : tie.Need-returns-3
-unfolding requestNext accessRequest restRequest pollNext updateNext followed _>>=_ erase orErr pick word outcome byte flag completed polling start enabled hicrRead request change accessUpdate restUpdate validRequest words
-returns-3 c = λ l h. rw (c .before .o .given .1)
+unfolding requestNext accessRequest restRequest pollNext updateNext followed _>>=_ erase orErr pick word outcome byte flag completed polling start enabled hicrRead request change accessUpdate restUpdate validRequest words validRequestNext
+returns-3 c = (λ l h. rw (c .before .o .given .1), refl)
 
 pub written-spec : {M : Type 1} → statement M
 written-spec =

@@ -2,10 +2,13 @@
 use Rattle.hardware.specs.Prog.{_>>=_, erase, followed, orErr, pick}
 use Rattle.hardware.specs.Registers.{byte, flag, outcome, word}
 use Rattle.hardware.specs.Runs.{given}
-use Rattle.hostif.specs.Hostif.{accessResponse, headSeen, lenOf, respond, responseNext, restResponse, statusOf, validResponse, wordSeen, words, wordsOf}
+use Rattle.hostif.proofs.Laws.{words-fit}
+use Rattle.hostif.specs.Hostif.{accessResponse, headSeen, lenOf, respond, responseNext, restResponse, statusOf, validResponse, validResponseNext, wordSeen, words, wordsOf}
 use Rattle.sync.specs.Resource.{taken}
 use borrow.Author.Needs.{needs}
 use borrow.Author.Tests.{le-ltb, lt-ltb}
+use mathlib.Core.Path.{refl}
+use native.Mathlib.Omega.{arith}
 use Rattle.hostif.proofs.response.head.Statement.{statement}
 use Rattle.hostif.proofs.response.head.Tie as tie
 
@@ -25,8 +28,8 @@ add-if1 : tie.Need-add-if1
 add-if1 c = search needs
 
 returns : tie.Need-returns
-unfolding word headSeen pick erase responseNext byte
-returns c = rw (c .before .before .before .w .given .1, lt-ltb _ _ (rw (c .before .len .ensures) at (c .if1 .taken)))
+unfolding word headSeen pick erase responseNext byte validResponseNext
+returns c = (rw (c .before .before .before .w .given .1, lt-ltb _ _ (rw (c .before .len .ensures) at (c .if1 .taken))), refl)
 
 store-requires : tie.Need-store-requires
 store-requires c κs = search needs
@@ -45,11 +48,11 @@ same-length c = search needs
 
 returns-2 : tie.Need-returns-2
 unfolding word headSeen pick
-returns-2 c = rw (c .before .before .before .before .before .before .before .before .before .w .given .1, le-ltb _ _ (rw (c .before .before .before .before .before .before .before .len .ensures) at (c .before .before .before .before .before .before .if1 .left)), ← c .before .words .ensures, ← c .before .before .before .before .store .ensures) (c .more .ensures _)
+returns-2 c = (rw (c .before .before .before .before .before .before .before .before .before .w .given .1, le-ltb _ _ (rw (c .before .before .before .before .before .before .before .len .ensures) at (c .before .before .before .before .before .before .if1 .left)), ← c .before .words .ensures, ← c .before .before .before .before .store .ensures) (c .more .ensures .0 _), c .more .ensures .1 _ (omega (arith, c .before .words .ensures)) (words-fit _ _ (rw (c .before .before .before .before .before .before .before .len .ensures) at (c .before .before .before .before .before .before .if1 .left))))
 
 returns-3 : tie.Need-returns-3
-unfolding responseNext accessResponse restResponse followed _>>=_ erase orErr pick word outcome byte flag headSeen wordSeen respond lenOf statusOf wordsOf validResponse
-returns-3 c = rw (c .before .w2 .given .1)
+unfolding responseNext accessResponse restResponse followed _>>=_ erase orErr pick word outcome byte flag headSeen wordSeen respond lenOf statusOf wordsOf validResponse validResponseNext
+returns-3 c = (rw (c .before .w2 .given .1), refl)
 
 pub head-spec : {M : Type 1} → statement M
 head-spec =

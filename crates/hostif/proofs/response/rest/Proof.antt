@@ -2,8 +2,9 @@
 use Rattle.hardware.specs.Prog.{_>>=_, erase, followed, orErr, pick}
 use Rattle.hardware.specs.Registers.{byte, flag, outcome, word}
 use Rattle.hardware.specs.Runs.{given}
-use Rattle.hostif.specs.Hostif.{accessResponse, headSeen, lenOf, respond, responseNext, restResponse, statusOf, validResponse, wordSeen, wordsOf}
+use Rattle.hostif.specs.Hostif.{accessResponse, headSeen, lenOf, respond, responseNext, restResponse, statusOf, validResponse, validResponseNext, wordSeen, wordsOf}
 use borrow.Author.Needs.{needs}
+use mathlib.Core.Path.{refl}
 use Rattle.hostif.proofs.response.rest.Statement.{statement}
 use Rattle.hostif.proofs.response.rest.Tie as tie
 
@@ -30,11 +31,11 @@ same-length c = search needs
 
 returns : tie.Need-returns
 unfolding word wordSeen
-returns c = rw (c .before .before .before .before .before .before .before .w .given .1, ← c .before .before .before .before .place .ensures, ← c .before .before .before .store .ensures) (c .more .ensures _)
+returns c = (rw (c .before .before .before .before .before .before .before .w .given .1, ← c .before .before .before .before .place .ensures, ← c .before .before .before .store .ensures) (c .more .ensures .0 _), c .more .ensures .1 _)
 
 returns-2 : tie.Need-returns-2
-unfolding responseNext accessResponse restResponse followed _>>=_ erase orErr pick word outcome byte flag headSeen wordSeen respond lenOf statusOf wordsOf validResponse
-returns-2 c = rw (c .before .w2 .given .1)
+unfolding responseNext accessResponse restResponse followed _>>=_ erase orErr pick word outcome byte flag headSeen wordSeen respond lenOf statusOf wordsOf validResponse validResponseNext
+returns-2 c = (rw (c .before .w2 .given .1), λ h k. refl)
 
 pub rest-spec : {M : Type 1} → statement M
 rest-spec =

@@ -1,5 +1,6 @@
 -- `step` meets its contract.
 use Rattle.hardware.specs.Runs.{given}
+use Rattle.hostif.proofs.Laws.{rest-fits}
 use Rattle.hostif.specs.Hostif.{restResponse}
 use borrow.Author.Needs.{needs}
 use Rattle.hostif.proofs.response.step.Statement.{statement}
@@ -28,14 +29,14 @@ same-length c = search needs
 
 returns : tie.Need-returns
 unfolding restResponse
-returns c = rw (c .before .before .before .before .before .before .s .given .1, ← c .before .before .before .read-raw .ensures) (c .before .before .head .ensures)
+returns c = (rw (c .before .before .before .before .before .before .s .given .1, ← c .before .before .before .read-raw .ensures) (c .before .before .head .ensures .0), λ v. c .before .before .head .ensures .1)
 
 same-length-2 : tie.Need-same-length-2
 same-length-2 c = search needs
 
 returns-2 : tie.Need-returns-2
 unfolding restResponse
-returns-2 c = rw (c .before .before .before .before .before .before .s2 .given .1, ← c .before .before .before .read-raw2 .ensures) (c .before .before .rest .ensures)
+returns-2 c = (rw (c .before .before .before .before .before .before .s2 .given .1, ← c .before .before .before .read-raw2 .ensures) (c .before .before .rest .ensures .0), λ v. c .before .before .rest .ensures .1 (rest-fits _ _ _ (rw (c .before .before .before .before .before .before .s2 .given .1) at v) .0) (rest-fits _ _ _ (rw (c .before .before .before .before .before .before .s2 .given .1) at v) .1))
 
 pub step-spec : {M : Type 1} → statement M
 step-spec =

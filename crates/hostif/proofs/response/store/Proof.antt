@@ -7,6 +7,8 @@ use lib.Seq.{set-out}
 use lib.Seq.{set-out}
 use lib.Seq.{set-out}
 use lib.Seq.{set-out}
+use lib.Seq.{set-out}
+use lib.Seq.{set-out}
 use Rattle.hostif.proofs.response.store.Statement.{statement}
 use Rattle.hostif.proofs.response.store.Tie as tie
 

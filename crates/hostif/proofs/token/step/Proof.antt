@@ -1,7 +1,7 @@
 -- `step` meets its contract.
 use Rattle.hardware.specs.Prog.{over}
 use Rattle.hostif.proofs.Laws.{two-words}
-use Rattle.hostif.specs.Hostif.{commandNext, restToken}
+use Rattle.hostif.specs.Hostif.{commandNext, restToken, validToken}
 use borrow.Author.Needs.{needs}
 use mathlib.Core.Path.{_∙_, ap}
 use Rattle.hostif.proofs.token.step.Statement.{statement}
@@ -23,8 +23,8 @@ commanded-requires : tie.Need-commanded-requires
 commanded-requires c κs = search needs
 
 returns : tie.Need-returns
-unfolding restToken
-returns c = over _ _ (c .commanded .ensures) (ap (commandNext _ _) (two-words _ (c .before .before .step .kept .1 .1 .0)) ∙ c .before .before .step .ensures)
+unfolding restToken validToken
+returns c = (over _ _ (c .commanded .ensures .0) (ap (commandNext _ _) (two-words _ (c .before .before .step .kept .1 .1 .0)) ∙ c .before .before .step .ensures .0), λ v. c .commanded .ensures .1 (c .before .before .step .ensures .1 v))
 
 pub step-spec : {M : Type 1} → statement M
 step-spec =

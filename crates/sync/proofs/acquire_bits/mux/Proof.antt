@@ -4,8 +4,10 @@ use Rattle.hardware.specs.Prog.{_>>=_, erase, followed, orErr, pick}
 use Rattle.hardware.specs.Registers.{outcome, word}
 use Rattle.sync.specs.Lock.{lockNext, unlockNext}
 use Rattle.sync.specs.Regs.{mux}
-use Rattle.sync.specs.Resource.{accessAcquireBits, accessAcquireStage, acquireBitsNext, against, free, muxed, restAcquireBits, restAcquireStage, syncSeen, taken, tryAgain, tryRead, validAcquireBits, validAcquireStage}
+use Rattle.sync.specs.Resource.{accessAcquireBits, accessAcquireStage, acquireBitsNext, against, free, muxed, restAcquireBits, restAcquireStage, syncSeen, taken, tryAgain, tryRead, validAcquireBits, validAcquireBitsNext, validAcquireStage}
 use borrow.Author.Needs.{needs}
+use borrow.Author.Tests.{lt-ltb}
+use mathlib.Core.Path.{refl}
 use Rattle.sync.proofs.acquire_bits.mux.Statement.{statement}
 use Rattle.sync.proofs.acquire_bits.mux.Tie as tie
 
@@ -13,12 +15,12 @@ mux-requires : tie.Need-mux-requires
 mux-requires c κs = search needs
 
 returns : tie.Need-returns
-unfolding acquireBitsNext accessAcquireBits accessAcquireStage restAcquireBits restAcquireStage lockNext unlockNext updateNext followed _>>=_ erase orErr pick word outcome taken free muxed syncSeen tryRead tryAgain against change accessUpdate restUpdate validAcquireStage validAcquireBits
-returns c = rw (← c .before .mux .ensures, c .if1 .taken)
+unfolding acquireBitsNext accessAcquireBits accessAcquireStage restAcquireBits restAcquireStage lockNext unlockNext updateNext followed _>>=_ erase orErr pick word outcome taken free muxed syncSeen tryRead tryAgain against change accessUpdate restUpdate validAcquireStage validAcquireBits validAcquireBitsNext
+returns c = (rw (← c .before .mux .ensures, c .if1 .taken), λ h. rw (lt-ltb _ _ h))
 
 returns-2 : tie.Need-returns-2
-unfolding acquireBitsNext accessAcquireBits accessAcquireStage restAcquireBits restAcquireStage lockNext unlockNext updateNext followed _>>=_ erase orErr pick word outcome taken free muxed syncSeen tryRead tryAgain against change accessUpdate restUpdate validAcquireStage validAcquireBits
-returns-2 c = rw (← c .before .mux .ensures, c .if1 .left)
+unfolding acquireBitsNext accessAcquireBits accessAcquireStage restAcquireBits restAcquireStage lockNext unlockNext updateNext followed _>>=_ erase orErr pick word outcome taken free muxed syncSeen tryRead tryAgain against change accessUpdate restUpdate validAcquireStage validAcquireBits validAcquireBitsNext
+returns-2 c = (rw (← c .before .mux .ensures, c .if1 .left), λ h. refl)
 
 pub mux-spec : {M : Type 1} → statement M
 mux-spec = tie.close (tie.spec mux-requires returns returns-2)

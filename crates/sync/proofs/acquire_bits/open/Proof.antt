@@ -1,16 +1,17 @@
 -- `open` meets its contract.
+use Rattle.hardware.proofs.Laws.{one-less}
 use Rattle.hardware.specs.Prog.{erase, over}
 use Rattle.hardware.specs.Registers.{outcome}
 use Rattle.sync.proofs.Laws.{acquire-more}
-use Rattle.sync.specs.Resource.{acquireBitsNext, acquireTries, taken}
+use Rattle.sync.specs.Resource.{acquireBitsNext, acquireTries, taken, validAcquireBitsNext}
 use borrow.Author.Needs.{needs}
-use mathlib.Core.Path.{_∙_}
+use mathlib.Core.Path.{_∙_, refl}
 use Rattle.sync.proofs.acquire_bits.open.Statement.{statement}
 use Rattle.sync.proofs.acquire_bits.open.Tie as tie
 
 returns : tie.Need-returns
-unfolding acquireTries erase acquireBitsNext outcome
-returns c = rw (c .if1 .taken)
+unfolding acquireTries erase acquireBitsNext outcome validAcquireBitsNext
+returns c = (rw (c .if1 .taken), λ h. refl)
 
 sub-locking : tie.Need-sub-locking
 sub-locking c = search needs
@@ -22,7 +23,7 @@ locking-requires : tie.Need-locking-requires
 locking-requires c κs = search needs
 
 returns-2 : tie.Need-returns-2
-returns-2 c = over _ _ (c .locking .ensures) (c .before .«open» .ensures) ∙ acquire-more _ _ _ _ (c .before .before .if1 .left)
+returns-2 c = (over _ _ (c .locking .ensures .0) (c .before .«open» .ensures .0) ∙ acquire-more _ _ _ _ (c .before .before .if1 .left), λ h. c .locking .ensures .1 (one-less _ _ (c .before .before .if1 .left) h) (c .before .«open» .ensures .1))
 
 pub open-spec : {M : Type 1} → statement M
 open-spec = tie.close (tie.spec returns sub-locking open-requires locking-requires returns-2)

@@ -3,8 +3,9 @@ use Rattle.hardware.specs.Prog.{_>>=_, erase, over, pick}
 use Rattle.hardware.specs.Registers.{word}
 use Rattle.hardware.specs.Runs.{given}
 use Rattle.sync.specs.Regs.{bits}
-use Rattle.sync.specs.Resource.{accessAcquireBits, accessAcquireStage, acquireBitsNext, free, restAcquireBits, restAcquireStage, syncSeen, taken, tryAgain}
+use Rattle.sync.specs.Resource.{accessAcquireBits, accessAcquireStage, acquireBitsNext, free, restAcquireBits, restAcquireStage, syncSeen, taken, tryAgain, validAcquireBits, validAcquireBitsNext, validAcquireStage}
 use borrow.Author.Needs.{needs}
+use borrow.Author.Tests.{lt-ltb}
 use Rattle.sync.proofs.acquire_bits.seen.Statement.{statement}
 use Rattle.sync.proofs.acquire_bits.seen.Tie as tie
 
@@ -21,8 +22,8 @@ bits-requires : tie.Need-bits-requires
 bits-requires c κs = search needs
 
 returns : tie.Need-returns
-unfolding word syncSeen pick free erase _>>=_ acquireBitsNext accessAcquireBits accessAcquireStage restAcquireBits restAcquireStage
-returns c = rw (c .before .before .before .before .before .w .given .1, ← c .before .before .before .all .ensures, ← c .before .before .none-of .ensures, c .before .if1 .taken, ← c .bits .ensures)
+unfolding word syncSeen pick free erase _>>=_ acquireBitsNext accessAcquireBits accessAcquireStage restAcquireBits restAcquireStage validAcquireBitsNext validAcquireBits validAcquireStage
+returns c = (rw (c .before .before .before .before .before .w .given .1, ← c .before .before .before .all .ensures, ← c .before .before .none-of .ensures, c .before .if1 .taken, ← c .bits .ensures), λ h. rw (lt-ltb _ _ h))
 
 open-requires : tie.Need-open-requires
 open-requires c κs = search needs
@@ -41,11 +42,11 @@ failing-requires c κs = search needs
 
 returns-2 : tie.Need-returns-2
 unfolding word syncSeen pick tryAgain
-returns-2 c = rw (c .before .before .before .before .before .before .w .given .1, ← c .before .before .before .before .all .ensures, ← c .before .before .before .none-of .ensures, c .before .before .if1 .left) (over _ _ (c .unlocking .ensures) (c .before .«open» .ensures))
+returns-2 c = (rw (c .before .before .before .before .before .before .w .given .1, ← c .before .before .before .before .all .ensures, ← c .before .before .before .none-of .ensures, c .before .before .if1 .left) (over _ _ (c .unlocking .ensures .0) (c .before .«open» .ensures)), c .unlocking .ensures .1)
 
 returns-3 : tie.Need-returns-3
 unfolding word syncSeen
-returns-3 c = rw (c .before .before .before .w2 .given .1) (over _ _ (c .failing .ensures) (c .before .open2 .ensures))
+returns-3 c = (rw (c .before .before .before .w2 .given .1) (over _ _ (c .failing .ensures .0) (c .before .open2 .ensures)), c .failing .ensures .1)
 
 pub seen-spec : {M : Type 1} → statement M
 seen-spec =

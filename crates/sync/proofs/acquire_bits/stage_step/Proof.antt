@@ -2,9 +2,10 @@
 use Rattle.hardware.specs.Prog.{over}
 use Rattle.hardware.specs.Registers.{read, write}
 use Rattle.hardware.specs.Runs.{given}
-use Rattle.sync.specs.Resource.{restAcquireBits, restAcquireStage}
+use Rattle.sync.specs.Resource.{restAcquireBits, restAcquireStage, validAcquireStage}
 use borrow.Author.Needs.{needs}
 use mathlib.Core.Path.{_∙_}
+use native.Mathlib.Omega.{arith}
 use Rattle.sync.proofs.acquire_bits.stage_step.Statement.{statement}
 use Rattle.sync.proofs.acquire_bits.stage_step.Tie as tie
 
@@ -84,36 +85,36 @@ open-requires-2 : tie.Need-open-requires-2
 open-requires-2 c κs = search needs
 
 returns : tie.Need-returns
-unfolding restAcquireStage restAcquireBits
-returns c = rw (c .before .before .before .s .given .1) (over _ _ (c .locking .ensures) (c .before .step .ensures))
+unfolding restAcquireStage restAcquireBits validAcquireStage
+returns c = (rw (c .before .before .before .s .given .1) (over _ _ (c .locking .ensures .0) (c .before .step .ensures .0)), λ h v. c .locking .ensures .1 h (c .before .step .ensures .1 (rw (c .before .before .before .s .given .1) at v)))
 
 returns-2 : tie.Need-returns-2
 unfolding restAcquireStage restAcquireBits
-returns-2 c = rw (c .before .before .enum-told .given .1, ← c .before .read .ensures) (c .seen .ensures)
+returns-2 c = (rw (c .before .before .enum-told .given .1, ← c .before .read .ensures) (c .seen .ensures .0), λ h v. c .seen .ensures .1 h)
 
 returns-3 : tie.Need-returns-3
 unfolding restAcquireStage restAcquireBits
-returns-3 c = rw (c .before .before .before .s2 .given .1) (over _ _ (c .failing .ensures) (c .before .step2 .ensures))
+returns-3 c = (rw (c .before .before .before .s2 .given .1) (over _ _ (c .failing .ensures .0) (c .before .step2 .ensures)), λ h v. c .failing .ensures .1 h)
 
 returns-4 : tie.Need-returns-4
 unfolding restAcquireStage
-returns-4 c = rw (c .before .before .before .enum-told2 .given .1, ← c .before .before .write .ensures) (over _ _ (c .taking .ensures) (c .before .«open» .ensures))
+returns-4 c = (rw (c .before .before .before .enum-told2 .given .1, ← c .before .before .write .ensures) (over _ _ (c .taking .ensures .0) (c .before .«open» .ensures)), λ h v. c .taking .ensures .1 h)
 
 returns-5 : tie.Need-returns-5
 unfolding restAcquireStage restAcquireBits
-returns-5 c = rw (c .before .before .before .s3 .given .1) (over _ _ (c .taking2 .ensures) (c .before .step3 .ensures))
+returns-5 c = (rw (c .before .before .before .s3 .given .1) (over _ _ (c .taking2 .ensures .0) (c .before .step3 .ensures)), λ h v. c .taking2 .ensures .1 h)
 
 returns-6 : tie.Need-returns-6
 unfolding restAcquireStage restAcquireBits
-returns-6 c = rw (c .before .before .before .before .s4 .given .1) (c .muxing .ensures ∙ (rw (c .before .before .set-mux .ensures) at (c .before .step4 .ensures)))
+returns-6 c = (rw (c .before .before .before .before .s4 .given .1) (c .muxing .ensures .0 ∙ (rw (c .before .before .set-mux .ensures) at (c .before .step4 .ensures))), λ h v. c .muxing .ensures .1 h)
 
 returns-7 : tie.Need-returns-7
 unfolding restAcquireStage restAcquireBits
-returns-7 c = rw (c .before .before .before .s5 .given .1) (over _ _ (c .unlocking .ensures) (c .before .step5 .ensures))
+returns-7 c = (rw (c .before .before .before .s5 .given .1) (over _ _ (c .unlocking .ensures .0) (c .before .step5 .ensures)), λ h v. c .unlocking .ensures .1 h)
 
 returns-8 : tie.Need-returns-8
 unfolding restAcquireStage restAcquireBits
-returns-8 c = rw (c .before .before .s6 .given .1) (c .open2 .ensures)
+returns-8 c = (rw (c .before .before .s6 .given .1) (c .open2 .ensures .0), λ h v. c .open2 .ensures .1 (omega arith))
 
 pub stage-step-spec : {M : Type 1} → statement M
 stage-step-spec =

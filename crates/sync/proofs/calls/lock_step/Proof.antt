@@ -1,11 +1,11 @@
 -- `lock_step` meets its contract.
 use Rattle.hardware.specs.Asked.{andThen, familyOpened, question, yes}
 use Rattle.hardware.specs.Runs.{given}
-use Rattle.sync.specs.Calls.{openLock, openUnlock, saidLock, saidUnlock, stepLock, stepUnlock}
+use Rattle.sync.specs.Calls.{openLock, openUnlock, saidLock, saidUnlock, standsLock, stepLock, stepUnlock}
 use Rattle.sync.specs.Lock.{lockNext, unlockNext}
 use Rattle.sync.specs.Resource.{taken}
 use borrow.Author.Needs.{needs}
-use mathlib.Core.Path.{_∙_, ap}
+use mathlib.Core.Path.{_∙_, ap, sym}
 use Rattle.sync.proofs.calls.lock_step.Statement.{statement}
 use Rattle.sync.proofs.calls.lock_step.Tie as tie
 
@@ -29,22 +29,22 @@ lock-told-requires c κs = search needs
 
 returns : tie.Need-returns
 unfolding stepLock question
-returns c = rw (c .before .before .before .before .before .before .before .before .s .given .1, ← c .before .before .before .before .before .before .valid .ensures, c .before .before .before .before .before .if1 .taken, ← c .before .before .before .before .access .ensures, ← c .before .before .before .awaited .ensures, c .before .before .if2 .taken) (c .lock-told .ensures ∙ ap yes (c .before .step .ensures))
+returns c = (rw (c .before .before .before .before .before .before .before .before .s .given .1, ← c .before .before .before .before .before .before .valid .ensures, c .before .before .before .before .before .if1 .taken, ← c .before .before .before .before .access .ensures, ← c .before .before .before .awaited .ensures, c .before .before .if2 .taken) (c .lock-told .ensures .0 ∙ ap yes (c .before .step .ensures .0)), c .lock-told .ensures .1 (c .before .step .ensures .1 (sym (c .before .before .before .before .before .before .valid .ensures) ∙ c .before .before .before .before .before .if1 .taken)))
 
 returns-2 : tie.Need-returns-2
-unfolding stepLock saidLock question
-returns-2 c = rw (c .before .before .before .before .before .before .s .given .1, ← c .before .before .before .before .valid .ensures, c .before .before .before .if1 .taken, ← c .before .before .access .ensures, ← c .before .awaited .ensures, c .if2 .left)
+unfolding stepLock saidLock question standsLock
+returns-2 c = (rw (c .before .before .before .before .before .before .s .given .1, ← c .before .before .before .before .valid .ensures, c .before .before .before .if1 .taken, ← c .before .before .access .ensures, ← c .before .awaited .ensures, c .if2 .left), tt)
 
 enum-told : tie.Need-enum-told
 enum-told c = search needs
 
 returns-3 : tie.Need-returns-3
-unfolding saidLock saidUnlock stepLock stepUnlock openLock openUnlock lockNext unlockNext question andThen familyOpened
-returns-3 c = rw (c .before .before .before .s .given .1, ← c .before .valid .ensures, c .if1 .left)
+unfolding saidLock saidUnlock stepLock stepUnlock openLock openUnlock lockNext unlockNext question andThen familyOpened standsLock
+returns-3 c = (rw (c .before .before .before .s .given .1, ← c .before .valid .ensures, c .if1 .left), tt)
 
 returns-4 : tie.Need-returns-4
-unfolding saidLock saidUnlock stepLock stepUnlock openLock openUnlock lockNext unlockNext question andThen familyOpened
-returns-4 c = rw (c .enum-told .given .1)
+unfolding saidLock saidUnlock stepLock stepUnlock openLock openUnlock lockNext unlockNext question andThen familyOpened standsLock
+returns-4 c = (rw (c .enum-told .given .1), tt)
 
 pub lock-step-spec : {M : Type 1} → statement M
 lock-step-spec =

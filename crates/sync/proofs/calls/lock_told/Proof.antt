@@ -1,8 +1,8 @@
 -- `lock_told` meets its contract.
 use Rattle.hardware.specs.Asked.{andThen, familyOpened, question}
 use Rattle.hardware.specs.Runs.{given}
-use Rattle.sync.specs.Calls.{openLock, openUnlock, saidLock, saidUnlock, stepLock, stepUnlock}
-use Rattle.sync.specs.Lock.{lockNext, unlockNext}
+use Rattle.sync.specs.Calls.{openLock, openUnlock, saidLock, saidUnlock, standsLock, stepLock, stepUnlock}
+use Rattle.sync.specs.Lock.{lockNext, unlockNext, validLockNext}
 use borrow.Author.Needs.{needs}
 use Rattle.sync.proofs.calls.lock_told.Statement.{statement}
 use Rattle.sync.proofs.calls.lock_told.Tie as tie
@@ -17,12 +17,12 @@ enum-known-n-2 : tie.Need-enum-known-n-2
 enum-known-n-2 c = search needs
 
 returns : tie.Need-returns
-unfolding saidLock saidUnlock stepLock stepUnlock openLock openUnlock lockNext unlockNext question andThen familyOpened
-returns c = rw (c .before .before .n .given .1, ← c .access .ensures)
+unfolding saidLock saidUnlock stepLock stepUnlock openLock openUnlock lockNext unlockNext question andThen familyOpened standsLock validLockNext
+returns c = (rw (c .before .before .n .given .1, ← c .access .ensures), λ h. (c .access .ensures, rw (c .before .before .n .given .1) at h))
 
 returns-2 : tie.Need-returns-2
-unfolding saidLock saidUnlock stepLock stepUnlock openLock openUnlock lockNext unlockNext question andThen familyOpened
-returns-2 c = rw (c .before .n2 .given .1)
+unfolding saidLock saidUnlock stepLock stepUnlock openLock openUnlock lockNext unlockNext question andThen familyOpened standsLock
+returns-2 c = (rw (c .before .n2 .given .1), λ h. tt)
 
 pub lock-told-spec : {M : Type 1} → statement M
 lock-told-spec = tie.close (tie.spec enum-known-n access-requires enum-known-n-2 returns returns-2)

@@ -1,7 +1,7 @@
 -- `unlock_step` meets its contract.
 use Rattle.hardware.specs.Asked.{andThen, familyOpened, question, yes}
 use Rattle.hardware.specs.Runs.{given}
-use Rattle.sync.specs.Calls.{openLock, openUnlock, saidLock, saidUnlock, stepLock, stepUnlock}
+use Rattle.sync.specs.Calls.{openLock, openUnlock, saidLock, saidUnlock, standsUnlock, stepLock, stepUnlock}
 use Rattle.sync.specs.Lock.{lockNext, unlockNext}
 use Rattle.sync.specs.Resource.{taken}
 use borrow.Author.Needs.{needs}
@@ -26,18 +26,18 @@ unlock-told-requires c κs = search needs
 
 returns : tie.Need-returns
 unfolding stepUnlock question
-returns c = rw (c .before .before .before .before .before .before .s .given .1, ← c .before .before .before .before .access .ensures, ← c .before .before .before .awaited .ensures, c .before .before .if1 .taken) (c .unlock-told .ensures ∙ ap yes (c .before .step .ensures))
+returns c = (rw (c .before .before .before .before .before .before .s .given .1, ← c .before .before .before .before .access .ensures, ← c .before .before .before .awaited .ensures, c .before .before .if1 .taken) (c .unlock-told .ensures .0 ∙ ap yes (c .before .step .ensures)), c .unlock-told .ensures .1)
 
 enum-told : tie.Need-enum-told
 enum-told c = search needs
 
 returns-2 : tie.Need-returns-2
-unfolding stepUnlock saidUnlock question
-returns-2 c = rw (c .before .before .before .before .s .given .1, ← c .before .before .access .ensures, ← c .before .awaited .ensures, c .if1 .left)
+unfolding stepUnlock saidUnlock question standsUnlock
+returns-2 c = (rw (c .before .before .before .before .s .given .1, ← c .before .before .access .ensures, ← c .before .awaited .ensures, c .if1 .left), tt)
 
 returns-3 : tie.Need-returns-3
-unfolding saidLock saidUnlock stepLock stepUnlock openLock openUnlock lockNext unlockNext question andThen familyOpened
-returns-3 c = rw (c .enum-told .given .1)
+unfolding saidLock saidUnlock stepLock stepUnlock openLock openUnlock lockNext unlockNext question andThen familyOpened standsUnlock
+returns-3 c = (rw (c .enum-told .given .1), tt)
 
 pub unlock-step-spec : {M : Type 1} → statement M
 unlock-step-spec =

@@ -1,7 +1,9 @@
 -- `open` meets its contract.
 use Rattle.hardware.specs.Prog.{over}
 use Rattle.sync.specs.Lock.{lock}
+use Rattle.sync.specs.Regs.{TRIES}
 use borrow.Author.Needs.{needs}
+use native.Mathlib.Omega.{arith}
 use Rattle.sync.proofs.lock.open.Statement.{statement}
 use Rattle.sync.proofs.lock.open.Tie as tie
 
@@ -16,7 +18,7 @@ smbi-requires-2 c κs = search needs
 
 returns : tie.Need-returns
 unfolding lock
-returns c = over _ _ (c .smbi2 .ensures) (rw (c .before .before .smbi .ensures) at (c .before .«open» .ensures))
+returns c = (over _ _ (c .smbi2 .ensures .0) (rw (c .before .before .smbi .ensures) at (c .before .«open» .ensures .0)), c .smbi2 .ensures .1 (c .before .«open» .ensures .1 TRIES (omega arith)))
 
 pub open-spec : {M : Type 1} → statement M
 open-spec = tie.close (tie.spec smbi-requires open-requires smbi-requires-2 returns)

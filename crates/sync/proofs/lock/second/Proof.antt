@@ -1,8 +1,10 @@
 -- `second` meets its contract.
 use Rattle.hardware.specs.Prog.{over, pick}
 use Rattle.sync.specs.Lock.{second, swesmbi}
+use Rattle.sync.specs.Regs.{TRIES}
 use Rattle.sync.specs.Resource.{taken}
 use borrow.Author.Needs.{needs}
+use native.Mathlib.Omega.{arith}
 use Rattle.sync.proofs.lock.second.Statement.{statement}
 use Rattle.sync.proofs.lock.second.Tie as tie
 
@@ -17,7 +19,7 @@ swesmbi-requires c κs = search needs
 
 returns : tie.Need-returns
 unfolding second pick
-returns c = rw (← c .before .before .before .same .ensures, c .before .before .if1 .taken) (over _ _ (c .swesmbi .ensures) (c .before .«open» .ensures))
+returns c = (rw (← c .before .before .before .same .ensures, c .before .before .if1 .taken) (over _ _ (c .swesmbi .ensures .0) (c .before .«open» .ensures .0)), c .swesmbi .ensures .1 (c .before .«open» .ensures .1 (omega arith)))
 
 regsmp-requires : tie.Need-regsmp-requires
 regsmp-requires c κs = search needs
@@ -30,7 +32,7 @@ regsmp-requires-2 c κs = search needs
 
 returns-2 : tie.Need-returns-2
 unfolding second pick
-returns-2 c = rw (← c .before .before .before .before .same .ensures, c .before .before .before .if1 .left) (over _ _ (c .regsmp2 .ensures) (rw (c .before .before .regsmp .ensures) at (c .before .open2 .ensures)))
+returns-2 c = (rw (← c .before .before .before .before .same .ensures, c .before .before .before .if1 .left) (over _ _ (c .regsmp2 .ensures .0) (rw (c .before .before .regsmp .ensures) at (c .before .open2 .ensures .0))), c .regsmp2 .ensures .1 (c .before .open2 .ensures .1 TRIES (omega arith)))
 
 pub second-spec : {M : Type 1} → statement M
 second-spec =

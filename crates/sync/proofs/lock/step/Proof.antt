@@ -1,7 +1,8 @@
 -- `step` meets its contract.
 use Rattle.hardware.specs.Prog.{over}
 use Rattle.hardware.specs.Runs.{given}
-use Rattle.sync.specs.Lock.{lock, restLock, second, swesmbi}
+use Rattle.sync.specs.Lock.{lock, restLock, second, swesmbi, validLock}
+use Rattle.sync.specs.Regs.{TRIES}
 use borrow.Author.Needs.{needs}
 use Rattle.sync.proofs.lock.step.Statement.{statement}
 use Rattle.sync.proofs.lock.step.Tie as tie
@@ -52,20 +53,20 @@ back-requires-2 : tie.Need-back-requires-2
 back-requires-2 c κs = search needs
 
 returns : tie.Need-returns
-unfolding restLock
-returns c = rw (c .before .before .before .before .s .given .1) (over _ _ (c .smbi2 .ensures) (rw (c .before .before .smbi .ensures) at (c .before .step .ensures)))
+unfolding restLock validLock
+returns c = (rw (c .before .before .before .before .s .given .1) (over _ _ (c .smbi2 .ensures .0) (rw (c .before .before .smbi .ensures) at (c .before .step .ensures .0))), λ h. c .smbi2 .ensures .1 (c .before .step .ensures .1 TRIES (rw (c .before .before .before .before .s .given .1) at h)))
 
 returns-2 : tie.Need-returns-2
-unfolding restLock lock second
-returns-2 c = rw (c .before .before .before .s2 .given .1) (over _ _ (c .swesmbi .ensures) (c .before .step2 .ensures))
+unfolding restLock lock second validLock
+returns-2 c = (rw (c .before .before .before .s2 .given .1) (over _ _ (c .swesmbi .ensures .0) (c .before .step2 .ensures .0)), λ h. c .swesmbi .ensures .1 (c .before .step2 .ensures .1 (rw (c .before .before .before .s2 .given .1) at h)))
 
 returns-3 : tie.Need-returns-3
-unfolding restLock lock second
-returns-3 c = rw (c .before .before .before .before .s3 .given .1) (over _ _ (c .regsmp2 .ensures) (rw (c .before .before .regsmp .ensures) at (c .before .step3 .ensures)))
+unfolding restLock lock second validLock
+returns-3 c = (rw (c .before .before .before .before .s3 .given .1) (over _ _ (c .regsmp2 .ensures .0) (rw (c .before .before .regsmp .ensures) at (c .before .step3 .ensures .0))), λ h. c .regsmp2 .ensures .1 (c .before .step3 .ensures .1 TRIES (rw (c .before .before .before .before .s3 .given .1) at h)))
 
 returns-4 : tie.Need-returns-4
 unfolding restLock lock second
-returns-4 c = rw (c .before .before .before .before .s4 .given .1) (over _ _ (c .back2 .ensures) (rw (c .before .before .back .ensures) at (c .before .step4 .ensures)))
+returns-4 c = (rw (c .before .before .before .before .s4 .given .1) (over _ _ (c .back2 .ensures .0) (rw (c .before .before .back .ensures) at (c .before .step4 .ensures))), λ h. c .back2 .ensures .1)
 
 pub step-spec : {M : Type 1} → statement M
 step-spec =

@@ -4,9 +4,10 @@ use Rattle.hardware.specs.Poll.{pollNext}
 use Rattle.hardware.specs.Prog.{_>>=_, erase, followed, orErr, pick}
 use Rattle.hardware.specs.Registers.{flag, outcome, word}
 use Rattle.hardware.specs.Runs.{given}
-use Rattle.sync.specs.Lock.{accessLock, lapsed, lock, lockNext, regsmpDone, restLock, second, smbiDone, swesmbiDone, swesmbiNext, validLock}
+use Rattle.sync.specs.Lock.{accessLock, lapsed, lock, lockNext, regsmpDone, restLock, second, smbiDone, swesmbiDone, swesmbiNext, validLock, validLockNext}
 use Rattle.sync.specs.Resource.{taken}
 use borrow.Author.Needs.{needs}
+use mathlib.Core.Path.{refl}
 use Rattle.sync.proofs.lock.swesmbi_done.Statement.{statement}
 use Rattle.sync.proofs.lock.swesmbi_done.Tie as tie
 
@@ -14,8 +15,8 @@ enum-known-v : tie.Need-enum-known-v
 enum-known-v c = search needs
 
 returns : tie.Need-returns
-unfolding swesmbiNext restLock accessLock lockNext lock second lapsed smbiDone swesmbiDone regsmpDone validLock followed _>>=_ erase orErr pick word outcome flag pollNext updateNext change
-returns c = rw (c .before .before .v .given .1, c .if1 .taken)
+unfolding swesmbiNext restLock accessLock lockNext lock second lapsed smbiDone swesmbiDone regsmpDone validLock followed _>>=_ erase orErr pick word outcome flag pollNext updateNext change validLockNext
+returns c = (rw (c .before .before .v .given .1, c .if1 .taken), refl)
 
 lapse-requires : tie.Need-lapse-requires
 lapse-requires c κs = search needs
@@ -25,11 +26,11 @@ enum-known-v-2 c = search needs
 
 returns-2 : tie.Need-returns-2
 unfolding swesmbiNext restLock accessLock lockNext lock second lapsed smbiDone swesmbiDone regsmpDone validLock followed _>>=_ erase orErr pick word outcome flag pollNext updateNext change
-returns-2 c = rw (c .before .before .before .v .given .1, c .before .if1 .left) (c .lapse .ensures)
+returns-2 c = (rw (c .before .before .before .v .given .1, c .before .if1 .left) (c .lapse .ensures .0), c .lapse .ensures .1)
 
 returns-3 : tie.Need-returns-3
-unfolding swesmbiNext restLock accessLock lockNext lock second lapsed smbiDone swesmbiDone regsmpDone validLock followed _>>=_ erase orErr pick word outcome flag pollNext updateNext change
-returns-3 c = rw (c .before .v2 .given .1)
+unfolding swesmbiNext restLock accessLock lockNext lock second lapsed smbiDone swesmbiDone regsmpDone validLock followed _>>=_ erase orErr pick word outcome flag pollNext updateNext change validLockNext
+returns-3 c = (rw (c .before .v2 .given .1), refl)
 
 pub swesmbi-done-spec : {M : Type 1} → statement M
 swesmbi-done-spec =

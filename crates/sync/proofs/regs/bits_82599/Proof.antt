@@ -10,6 +10,7 @@ use lib.Bits.{and-le-r}
 use lib.Bits.{and-le-r}
 use lib.Bits.{and-le-r}
 use lib.Bits.{and-le-r}
+use lib.Bits.{and-le-r}
 use Rattle.sync.proofs.regs.bits_82599.Statement.{statement}
 use Rattle.sync.proofs.regs.bits_82599.Tie as tie
 

@@ -12,6 +12,7 @@ use lib.Bits.{and-le-r}
 use lib.Bits.{and-le-r}
 use lib.Bits.{and-le-r}
 use lib.Bits.{and-le-r}
+use lib.Bits.{and-le-r}
 use Rattle.sync.proofs.regs.bits_x540.Statement.{statement}
 use Rattle.sync.proofs.regs.bits_x540.Tie as tie
 

@@ -13,7 +13,7 @@ unlocking-requires c κs = search needs
 
 returns : tie.Need-returns
 unfolding restReleaseBits releaseBits unmuxed cleared
-returns c = over _ _ (c .unlocking .ensures) (c .before .«open» .ensures)
+returns c = (over _ _ (c .unlocking .ensures .0) (c .before .«open» .ensures), c .unlocking .ensures .1)
 
 pub clear-done-spec : {M : Type 1} → statement M
 clear-done-spec = tie.close (tie.spec open-requires unlocking-requires returns)

@@ -4,8 +4,9 @@ use Rattle.hardware.specs.Prog.{_>>=_, erase, followed, orErr, pick}
 use Rattle.hardware.specs.Registers.{outcome, word}
 use Rattle.hardware.specs.Runs.{given}
 use Rattle.sync.specs.Lock.{lockNext, unlockNext}
-use Rattle.sync.specs.Resource.{accessReleaseBits, clearBits, cleared, clearing, muxed, releaseBits, releaseBitsNext, restReleaseBits, settle, taken, unmuxed, validReleaseBits}
+use Rattle.sync.specs.Resource.{accessReleaseBits, clearBits, cleared, clearing, muxed, releaseBits, releaseBitsNext, restReleaseBits, settle, taken, unmuxed, validReleaseBits, validReleaseBitsNext}
 use borrow.Author.Needs.{needs}
+use mathlib.Core.Path.{refl}
 use Rattle.sync.proofs.release_bits.finish.Statement.{statement}
 use Rattle.sync.proofs.release_bits.finish.Tie as tie
 
@@ -16,19 +17,19 @@ same-requires : tie.Need-same-requires
 same-requires c κs = search needs
 
 returns : tie.Need-returns
-unfolding releaseBitsNext accessReleaseBits restReleaseBits lockNext unlockNext updateNext followed _>>=_ erase orErr pick word outcome muxed settle cleared clearing clearBits unmuxed releaseBits change accessUpdate restUpdate validReleaseBits
-returns c = rw (c .before .before .enum-told .given .1, ← c .before .same .ensures, c .if1 .taken)
+unfolding releaseBitsNext accessReleaseBits restReleaseBits lockNext unlockNext updateNext followed _>>=_ erase orErr pick word outcome muxed settle cleared clearing clearBits unmuxed releaseBits change accessUpdate restUpdate validReleaseBits validReleaseBitsNext
+returns c = (rw (c .before .before .enum-told .given .1, ← c .before .same .ensures, c .if1 .taken), refl)
 
 enum-known-w : tie.Need-enum-known-w
 enum-known-w c = search needs
 
 returns-2 : tie.Need-returns-2
-unfolding releaseBitsNext accessReleaseBits restReleaseBits lockNext unlockNext updateNext followed _>>=_ erase orErr pick word outcome muxed settle cleared clearing clearBits unmuxed releaseBits change accessUpdate restUpdate validReleaseBits
-returns-2 c = rw (c .before .before .enum-told .given .1, ← c .before .same .ensures, c .if1 .left)
+unfolding releaseBitsNext accessReleaseBits restReleaseBits lockNext unlockNext updateNext followed _>>=_ erase orErr pick word outcome muxed settle cleared clearing clearBits unmuxed releaseBits change accessUpdate restUpdate validReleaseBits validReleaseBitsNext
+returns-2 c = (rw (c .before .before .enum-told .given .1, ← c .before .same .ensures, c .if1 .left), refl)
 
 returns-3 : tie.Need-returns-3
-unfolding releaseBitsNext accessReleaseBits restReleaseBits lockNext unlockNext updateNext followed _>>=_ erase orErr pick word outcome muxed settle cleared clearing clearBits unmuxed releaseBits change accessUpdate restUpdate validReleaseBits
-returns-3 c = rw (c .before .w .given .1)
+unfolding releaseBitsNext accessReleaseBits restReleaseBits lockNext unlockNext updateNext followed _>>=_ erase orErr pick word outcome muxed settle cleared clearing clearBits unmuxed releaseBits change accessUpdate restUpdate validReleaseBits validReleaseBitsNext
+returns-3 c = (rw (c .before .w .given .1), refl)
 
 pub finish-spec : {M : Type 1} → statement M
 finish-spec = tie.close (tie.spec enum-told same-requires returns enum-known-w returns-2 returns-3)

@@ -13,7 +13,7 @@ locking-requires c κs = search needs
 
 returns : tie.Need-returns
 unfolding restReleaseBits releaseBits unmuxed cleared
-returns c = over _ _ (c .locking .ensures) (c .before .«open» .ensures)
+returns c = (over _ _ (c .locking .ensures .0) (c .before .«open» .ensures .0), c .locking .ensures .1 (c .before .«open» .ensures .1))
 
 pub lock-spec : {M : Type 1} → statement M
 lock-spec = tie.close (tie.spec open-requires locking-requires returns)

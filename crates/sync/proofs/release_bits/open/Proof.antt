@@ -4,8 +4,9 @@ use Rattle.hardware.specs.Prog.{_>>=_, erase, followed, orErr, pick}
 use Rattle.hardware.specs.Registers.{outcome, word}
 use Rattle.sync.specs.Lock.{lock, lockNext, unlockNext}
 use Rattle.sync.specs.Regs.{mux}
-use Rattle.sync.specs.Resource.{accessReleaseBits, clearBits, cleared, clearing, muxed, releaseBits, releaseBitsNext, restReleaseBits, settle, taken, unmuxed, validReleaseBits}
+use Rattle.sync.specs.Resource.{accessReleaseBits, clearBits, cleared, clearing, muxed, releaseBits, releaseBitsNext, restReleaseBits, settle, taken, unmuxed, validReleaseBits, validReleaseBitsNext}
 use borrow.Author.Needs.{needs}
+use mathlib.Core.Path.{refl}
 use Rattle.sync.proofs.release_bits.open.Statement.{statement}
 use Rattle.sync.proofs.release_bits.open.Tie as tie
 
@@ -13,15 +14,15 @@ mux-requires : tie.Need-mux-requires
 mux-requires c κs = search needs
 
 returns : tie.Need-returns
-unfolding releaseBitsNext accessReleaseBits restReleaseBits lockNext unlockNext updateNext followed _>>=_ erase orErr pick word outcome muxed settle cleared clearing clearBits unmuxed releaseBits change accessUpdate restUpdate validReleaseBits
-returns c = rw (← c .before .mux .ensures, c .if1 .taken)
+unfolding releaseBitsNext accessReleaseBits restReleaseBits lockNext unlockNext updateNext followed _>>=_ erase orErr pick word outcome muxed settle cleared clearing clearBits unmuxed releaseBits change accessUpdate restUpdate validReleaseBits validReleaseBitsNext
+returns c = (rw (← c .before .mux .ensures, c .if1 .taken), refl)
 
 lock-requires : tie.Need-lock-requires
 lock-requires c κs = search needs
 
 returns-2 : tie.Need-returns-2
 unfolding releaseBitsNext accessReleaseBits restReleaseBits lockNext unlockNext updateNext followed _>>=_ erase orErr pick word outcome muxed settle cleared clearing clearBits unmuxed releaseBits change accessUpdate restUpdate validReleaseBits
-returns-2 c = rw (← c .before .before .mux .ensures, c .before .if1 .left) (c .lock .ensures)
+returns-2 c = (rw (← c .before .before .mux .ensures, c .before .if1 .left) (c .lock .ensures .0), c .lock .ensures .1)
 
 pub open-spec : {M : Type 1} → statement M
 open-spec = tie.close (tie.spec mux-requires returns lock-requires returns-2)

@@ -3,8 +3,10 @@ use Rattle.hardware.specs.Change.{updateNext}
 use Rattle.hardware.specs.Prog.{_>>=_, erase, followed, going, orErr, pick}
 use Rattle.hardware.specs.Registers.{flag, outcome, word}
 use Rattle.hardware.specs.Runs.{given}
-use Rattle.sync.specs.Lock.{accessSwesmbi, restSwesmbi, swesmbiCheck, swesmbiNext, swesmbiSeen, validSwesmbi}
+use Rattle.sync.specs.Lock.{accessSwesmbi, restSwesmbi, swesmbiCheck, swesmbiNext, swesmbiSeen, validSwesmbi, validSwesmbiNext}
 use borrow.Author.Needs.{needs}
+use borrow.Author.Tests.{lt-ltb}
+use mathlib.Core.Path.{refl}
 use Rattle.sync.proofs.swesmbi.set.Statement.{statement}
 use Rattle.sync.proofs.swesmbi.set.Tie as tie
 
@@ -21,16 +23,16 @@ enum-known-o : tie.Need-enum-known-o
 enum-known-o c = search needs
 
 returns : tie.Need-returns
-unfolding restSwesmbi accessSwesmbi swesmbiNext updateNext
-returns c = rw (c .before .n .given .1) (going _ _ _)
+unfolding restSwesmbi accessSwesmbi swesmbiNext updateNext validSwesmbiNext validSwesmbi
+returns c = (rw (c .before .n .given .1) (going _ _ _), λ h. lt-ltb _ _ h)
 
 returns-2 : tie.Need-returns-2
-unfolding restSwesmbi accessSwesmbi swesmbiNext swesmbiSeen swesmbiCheck validSwesmbi followed _>>=_ erase orErr pick word outcome flag updateNext
-returns-2 c = rw (c .before .before .before .n2 .given .1, c .enum-told .given .1)
+unfolding restSwesmbi accessSwesmbi swesmbiNext swesmbiSeen swesmbiCheck validSwesmbi followed _>>=_ erase orErr pick word outcome flag updateNext validSwesmbiNext
+returns-2 c = (rw (c .before .before .before .n2 .given .1, c .enum-told .given .1), λ h. lt-ltb _ _ h)
 
 returns-3 : tie.Need-returns-3
-unfolding restSwesmbi accessSwesmbi swesmbiNext swesmbiSeen swesmbiCheck validSwesmbi followed _>>=_ erase orErr pick word outcome flag updateNext
-returns-3 c = rw (c .before .before .before .before .n2 .given .1, c .before .o .given .1)
+unfolding restSwesmbi accessSwesmbi swesmbiNext swesmbiSeen swesmbiCheck validSwesmbi followed _>>=_ erase orErr pick word outcome flag updateNext validSwesmbiNext
+returns-3 c = (rw (c .before .before .before .before .n2 .given .1, c .before .o .given .1), λ h. refl)
 
 pub set-spec : {M : Type 1} → statement M
 set-spec =

@@ -1,9 +1,11 @@
 -- `step` meets its contract.
+use Rattle.hardware.proofs.Laws.{below}
 use Rattle.hardware.specs.Prog.{fed, over}
 use Rattle.hardware.specs.Registers.{read}
 use Rattle.hardware.specs.Runs.{given}
-use Rattle.sync.specs.Lock.{restSwesmbi, swesmbiCheck}
+use Rattle.sync.specs.Lock.{restSwesmbi, swesmbiCheck, validSwesmbi}
 use borrow.Author.Needs.{needs}
+use borrow.Author.Tests.{ltb-true}
 use Rattle.sync.proofs.swesmbi.step.Statement.{statement}
 use Rattle.sync.proofs.swesmbi.step.Tie as tie
 
@@ -35,16 +37,16 @@ open-requires : tie.Need-open-requires
 open-requires c κs = search needs
 
 returns : tie.Need-returns
-unfolding restSwesmbi swesmbiCheck
-returns c = rw (c .before .before .before .before .s .given .1) (over _ _ (c .set .ensures) (rw (c .before .before .setting .ensures) at (c .before .step .ensures)))
+unfolding restSwesmbi swesmbiCheck validSwesmbi
+returns c = (rw (c .before .before .before .before .s .given .1) (over _ _ (c .set .ensures .0) (rw (c .before .before .setting .ensures) at (c .before .step .ensures))), λ h. c .set .ensures .1 (ltb-true _ _ (rw (c .before .before .before .before .s .given .1) at h)))
 
 returns-2 : tie.Need-returns-2
-unfolding restSwesmbi swesmbiCheck
-returns-2 c = rw (c .before .before .before .s2 .given .1) (fed _ (c .seen .ensures) (c .before .read .ensures))
+unfolding restSwesmbi swesmbiCheck validSwesmbi
+returns-2 c = (rw (c .before .before .before .s2 .given .1) (fed _ (c .seen .ensures .0) (c .before .read .ensures)), λ h. c .seen .ensures .1 (ltb-true _ _ (rw (c .before .before .before .s2 .given .1) at h)))
 
 returns-3 : tie.Need-returns-3
-unfolding restSwesmbi
-returns-3 c = rw (c .before .before .s3 .given .1) (c .«open» .ensures)
+unfolding restSwesmbi validSwesmbi
+returns-3 c = (rw (c .before .before .s3 .given .1) (c .«open» .ensures .0), λ h. c .«open» .ensures .1 (below _ _ (rw (c .before .before .s3 .given .1) at h)))
 
 pub step-spec : {M : Type 1} → statement M
 step-spec =

@@ -1,2 +1,4 @@
 pub mod Laws
 pub mod Commands
+pub mod Ends
+pub mod Noteless

@@ -15,7 +15,7 @@ use Rattle.hardware.specs.declared.Answer.the-variants.{Value, Done}
 use Rattle.hardware.specs.declared.change.Change.{Change}
 use Rattle.hardware.specs.declared.poll.Watch.{Watch}
 use Rattle.hardware.specs.Asked.{fits}
-use Rattle.hardware.specs.Prog.{Note, Attempt, Acquired, Released, Lapsed, Prog, ret, ask, note, give, stays, erase, R, Ok, Err, orErr, _>>=_, _>>?_, pick}
+use Rattle.hardware.specs.Prog.{Note, Attempt, Acquired, Released, Lapsed, Prog, ret, ask, note, give, stays, erase, begun, tally, R, Ok, Err, orErr, _>>=_, _>>?_, pick}
 use Rattle.hardware.specs.Registers.{read, readRaw, write, flush, delay}
 use Rattle.hardware.specs.Change.{settled, stored, change}
 use Rattle.hardware.specs.Poll.{polled, poll}
@@ -69,6 +69,15 @@ ends-erase (ask x f) zero e = absurd e
 ends-erase (ask x f) (suc n) e = λ a t. ends-erase (f a) n (e a t)
 ends-erase (note k p) n e = ends-stays k (erase p) n (ends-erase p n e)
 ends-erase (give b p) n e = ends-erase p n e
+
+-- the count of attempts takes none either
+pub ends-tally : {A : Type 0} (m : ℕ) (p : Prog A) (n : ℕ) → Ends p n → Ends (tally m p) n
+unfolding Ends tally
+ends-tally m (ret v) n e = tt
+ends-tally m (ask x f) zero e = absurd e
+ends-tally m (ask x f) (suc n) e = λ a t. ends-tally m (f a) n (e a t)
+ends-tally m (note k p) n e = ends-tally (begun k m) p n e
+ends-tally m (give b p) n e = ends-tally m p n e
 
 -- what has ended needs none
 pub ret-ends : {A : Type 0} (v : A) (n : ℕ) → Ends (ret v) n

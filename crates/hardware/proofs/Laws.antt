@@ -1,16 +1,17 @@
 -- Laws of the register programs that the proofs cite.
-use Prim.Native.Nat.{ℕ, _-_, _<_, _≤_, suc, zero}
-use mathlib.Core.Path.{_≡_, refl, ap}
+use Prim.Native.Nat.{ℕ, _+_, _-_, _<_, _≤_, suc, zero}
+use mathlib.Core.Path.{_≡_, refl, ap, sym, _∙_}
 use mathlib.Core.Bool.{Bool, true, false}
 use mathlib.Core.List.{List, [], _∷_}
 use lib.Dec.{ltb}
 use lib.ListN.{getD}
+use native.Mathlib.Nat.{add-zero, zero-add}
 use native.Mathlib.Numerals.{sub-one}
 use native.Mathlib.Omega.{arith}
 use borrow.Author.Tests.{ltb-true}
-use Rattle.hardware.specs.Prog.{Prog, ask, erase, orErr, _>>=_, pick}
+use Rattle.hardware.specs.Prog.{Note, Attempt, Acquired, Released, Lapsed, Prog, ret, ask, note, give, erase, orErr, _>>=_, pick, begun, tally}
 use Rattle.hardware.specs.Asked.{Asked, no, yes, andThen, question, openFamily, openLan, openPort, portOpened, validPort}
-use Rattle.hardware.specs.Runs.{run, ran, run-erase}
+use Rattle.hardware.specs.Runs.{run, onward, ran, run-erase, given, answered, transfersIn, countedStand, counted}
 use Rattle.hardware.specs.declared.Answer.{Answer}
 use Rattle.hardware.specs.declared.Family.{Family}
 use Rattle.hardware.specs.declared.Port.{Port}
@@ -73,3 +74,21 @@ family-valid device lan p (no n) h = cc
 pub opened-valid : (family device lan : ℕ) {o : Opening} {p : Port} → o ≡ Opened p → portOpened o ≡ openPort family device lan → validPort p ≡ true
 unfolding openPort portOpened
 opened-valid family device lan {p = p} e h = family-valid device lan p (openFamily family) (rw e at h)
+
+-- the count at the end of a run is that of the transfers it begins
+begun-more : (k : Note) (n m : ℕ) → begun k n + m ≡ n + begun k m
+begun-more Attempt n m = omega arith
+begun-more Acquired n m = refl
+begun-more Released n m = refl
+begun-more Lapsed n m = refl
+
+pub run-tally : {A : Type 0} (n : ℕ) (p : Prog A) (l : List Answer) → run (tally n p) l ≡ counted (n + transfersIn p l) (run p l)
+unfolding run onward tally transfersIn countedStand
+run-tally n (ret v) l = ap (λ m. run (tally m (ret v)) l) (sym (add-zero n))
+run-tally n (ask x f) [] = refl
+run-tally n (ask x f) (a ∷ l) = ap (answered x) (run-tally n (f a) l)
+run-tally n (note k p) l = run-tally (begun k n) p l ∙ ap (λ m. counted m (run p l)) (begun-more k n (transfersIn p l))
+run-tally n (give b p) l = ap (given b) (run-tally n p l)
+
+pub run-counted : {A : Type 0} (p : Prog A) (l : List Answer) → run (tally 0 p) l ≡ counted (transfersIn p l) (run p l)
+run-counted p l = run-tally 0 p l ∙ ap (λ m. counted m (run p l)) (zero-add (transfersIn p l))

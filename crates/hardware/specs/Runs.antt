@@ -6,7 +6,7 @@ use lib.Dec.{T}
 use Rattle.hardware.specs.declared.Access.{Access}
 use Rattle.hardware.specs.declared.Answer.{Answer}
 use Rattle.hardware.specs.Asked.{Asked, no, yes, fits}
-use Rattle.hardware.specs.Prog.{Prog, ret, ask, note, give, Note, Attempt, Acquired, Released, Lapsed, stays, erase, _>>=_}
+use Rattle.hardware.specs.Prog.{Prog, ret, ask, note, give, Note, Attempt, Acquired, Released, Lapsed, stays, erase, _>>=_, Counted, begun}
 
 -- how a run stands: it has ended, or waits for the answer to one more access
 pub data Stand (A : Type 0) : Type 0 where
@@ -71,3 +71,19 @@ Awaited (give b p) l = Awaited p l
 unfoldable pub ran : {A : Type 0} → Asked (Prog A) → List Answer → Asked (Run A)
 ran (no n) l = no n
 ran (yes p) l = yes (run p l)
+
+-- the transfers that a run begins
+unfoldable pub transfersIn : {A : Type 0} → Prog A → List Answer → ℕ
+transfersIn (ret v) l = 0
+transfersIn (ask x f) [] = 0
+transfersIn (ask x f) (a ∷ l) = transfersIn (f a) l
+transfersIn (note n p) l = begun n (transfersIn p l)
+transfersIn (give b p) l = transfersIn p l
+
+-- a run with a count of transfers beside its result
+unfoldable pub countedStand : {A : Type 0} → ℕ → Stand A → Stand (Counted A)
+countedStand n (ended v) = ended (record { transfers = n; result = v })
+countedStand n (waiting x) = waiting x
+
+abbrev pub counted : {A : Type 0} → ℕ → Run A → Run (Counted A)
+counted n r = record { accesses = r .accesses; bytes = r .bytes; stand = countedStand n (r .stand) }

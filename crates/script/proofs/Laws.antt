@@ -277,3 +277,11 @@ pub put-all : (s b : List ℕ) (i : ℕ) {l : List ℕ} → length s ≤ i → i
 put-all s b i h k e =
     let all : i ≡ length s = omega arith in
     e ∙ ap (λ n. take n s ++ drop n b) all ∙ ap (λ t. t ++ drop (length s) b) (take-length s)
+
+-- each command takes a byte or two
+pub commands-length : (s : List ℕ) → length (commands s) ≤ length s
+unfolding commands pick
+commands-length [] = omega arith
+commands-length (b ∷ []) = omega arith
+commands-length (b ∷ v ∷ s) =
+    elim (eqb b 0x20) as (λ x. length (pick x (Send v ∷ commands s) (alone b ∷ commands (v ∷ s))) ≤ length (b ∷ v ∷ s)) [ true ↦ omega (arith, commands-length s) | false ↦ omega (arith, commands-length (v ∷ s)) ]

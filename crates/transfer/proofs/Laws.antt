@@ -3,26 +3,41 @@ use Prim.Native.Nat.{ℕ, _<_, _≤_}
 use mathlib.Core.Path.{_≡_, refl, ap, _∙_, sym}
 use mathlib.Core.Bool.{Bool, true, false}
 use mathlib.Core.List.{List, []}
+use lib.Dec.{eqb}
 use lib.ListN.{length, drop}
 use Rattle.hardware.specs.declared.Access.{Access}
 use Rattle.hardware.specs.declared.Answer.{Answer}
 use Rattle.hardware.specs.declared.Outcome.{Outcome}
 use Rattle.hardware.specs.declared.Outcome.the-variants.{Ok, Err}
-use Rattle.hardware.specs.Prog.{Prog, ask, give, erase, followed, going, pick, _>>=_}
+use Rattle.hardware.specs.declared.Port.{Port}
+use Rattle.hardware.specs.declared.Refusal.{Refusal}
+use Rattle.hardware.specs.declared.Refusal.the-variants.{Family, Lan, Device, Attempts, ScriptLength, Command as RefusedCommand, Script, Block, Buffer, State, Finished, Kind}
+use Rattle.hardware.specs.Asked.{Asked, no, question}
+use Rattle.hardware.specs.Numbers.{refusalNumber}
+use Rattle.hardware.specs.Registers.{raw}
+use Rattle.hardware.specs.Prog.{Prog, ask, give, erase, followed, going, going-tally, over-tally, orErr, pick, tally, R, _>>=_}
 use Rattle.bus.specs.declared.Layout.{Layout}
 use Rattle.bus.specs.declared.Taken.{Taken}
 use Rattle.bus.specs.declared.command.Command.{Command}
 use Rattle.bus.specs.declared.command.Command.the-variants.{Start, Send, Read, Stop, Free}
-use Rattle.bus.specs.Bus.{Bus, clear}
+use Rattle.bus.specs.Bus.{Bus, clear, none}
 use Rattle.bus.specs.Command.{commanded}
+use Rattle.bus.specs.Layout.{layoutOf}
 use Rattle.bus.proofs.Commands.{job-start, job-send, job-read, job-stop, job-free}
-use Rattle.script.specs.Script.{commands, commandAt, nextAt}
+use Rattle.script.specs.declared.cursor.Judged.{Judged}
+use Rattle.script.specs.declared.cursor.Judged.the-variants.{Accepted, Refused}
+use Rattle.script.specs.Script.{commands, commandAt, nextAt, judged, judgedAs, device}
 use Rattle.script.proofs.Laws.{commands-at, commands-past}
 use Rattle.transfer.specs.declared.attempt.Sequence.{Sequence}
 use Rattle.transfer.specs.declared.attempt.Sequence.the-variants.{Pulses}
+use Rattle.transfer.specs.declared.attempt.Attempt.{Attempt}
+use Rattle.transfer.specs.declared.attempt.Attempt.the-variants.{New}
+use Rattle.transfer.specs.declared.attempt.AttemptNext.{AttemptNext}
+use Rattle.transfer.specs.declared.attempt.AttemptNext.the-variants.{Going}
 use Rattle.transfer.specs.declared.transfer.TransferNext.the-variants.{End}
 use Rattle.transfer.specs.Transfer.{Mode, loud, silent, tells, tells-erase, did, isRead, tookBy, handed, transfer, ranOn, transferNext}
-use Rattle.transfer.specs.Attempt.{clearing}
+use Rattle.transfer.specs.Attempt.{clearing, begun, attempting, attempt, accessAttempt, restAttempt, awaiting, attemptNext}
+use Rattle.transfer.specs.Calls.{dropped, script, restScript, judgedThen}
 
 -- the machine's list of line calls is the command
 pub job-did : (l : Layout) (device : ℕ) (c : Command) (k : ℕ → Bus) → commanded l device c k ≡ did l device c k
@@ -72,3 +87,51 @@ told-on loud b x p k = ap (give b) (going x p k)
 pub only : (q : Sequence) (l : Layout) → clear l ≡ clearing q l
 unfolding clearing
 only Pulses l = refl
+
+-- a script that is accepted or refused
+
+pub judged-yes : {A : Type 0} (s : List ℕ) (k : Asked A) → judged s ≡ 0 → judgedThen s k ≡ k
+unfolding judgedThen question
+judged-yes s k h = rw h
+
+pub judged-accepted : (s : List ℕ) {j : Judged} → j ≡ Accepted → judgedAs j ≡ judged s → judged s ≡ 0
+unfolding judgedAs
+judged-accepted s h e = rw h at (sym e)
+
+numbered : {A : Type 0} (q : Refusal) (k : Asked A) → question (eqb (refusalNumber q) 0) (refusalNumber q) k ≡ no (refusalNumber q)
+unfolding question
+numbered Family k = refl
+numbered Lan k = refl
+numbered Device k = refl
+numbered Attempts k = refl
+numbered ScriptLength k = refl
+numbered RefusedCommand k = refl
+numbered Script k = refl
+numbered Block k = refl
+numbered Buffer k = refl
+numbered State k = refl
+numbered Finished k = refl
+numbered Kind k = refl
+
+pub judged-no : {A : Type 0} (s : List ℕ) (k : Asked A) {j : Judged} {q : Refusal} → j ≡ Refused q → judgedAs j ≡ judged s
+    → judgedThen s k ≡ no (refusalNumber q)
+unfolding judgedThen judgedAs
+judged-no s k {q = q} h e = rw (← e, h) (numbered q k)
+
+-- the call of a script begins as an attempt that is counted
+pub script-begins : (port : Port) (s : List ℕ)
+    → tally 1 (followed (attemptNext loud Pulses (layoutOf (port .family)) (device s) s (Going New)) dropped) ≡ tally 0 (script port s)
+unfolding attemptNext awaiting accessAttempt restAttempt script attempt attempting tally _>>=_
+script-begins port s =
+    sym (going-tally 1 (accessAttempt (layoutOf (port .family)) New) (restAttempt loud Pulses (layoutOf (port .family)) (device s) s New) dropped)
+
+pub script-rest : (port : Port) (s : List ℕ) (t : Attempt) (a : Answer) (n : AttemptNext)
+    → attemptNext loud Pulses (layoutOf (port .family)) (device s) s n ≡ erase (restAttempt loud Pulses (layoutOf (port .family)) (device s) s t a)
+    → tally 1 (followed (attemptNext loud Pulses (layoutOf (port .family)) (device s) s n) dropped) ≡ tally 1 (restScript port s t a)
+unfolding restScript
+script-rest port s t a n e = over-tally 1 (restAttempt loud Pulses (layoutOf (port .family)) (device s) s t a) dropped refl e
+
+pub told-tally : {A B : Type 0} (n b : ℕ) (x : Access) (p : Answer → Prog A) (k : A → Prog B)
+    → give b (ask x (λ a. tally n (p a >>= k))) ≡ tally n (followed (tells loud b (ask x (λ a. erase (p a)))) k)
+unfolding tells followed tally _>>=_
+told-tally n b x p k = ap (give b) (going-tally n x p k)

@@ -11,7 +11,6 @@ use Rattle.hardware.specs.Prog.{Prog, ret, ask, note, Attempt as Begins, erase,
 use Rattle.hardware.specs.Registers.{readRaw, raw}
 use Rattle.bus.specs.declared.Layout.{Layout}
 use Rattle.bus.specs.declared.Taken.{Taken}
-use Rattle.bus.specs.declared.command.Command.{Command}
 use Rattle.bus.specs.Bus.{Held, Bus, none, isI2c, clear}
 use Rattle.bus.specs.Clear.{accessClear, restClear, validClear}
 use Rattle.script.specs.Script.{commands}
@@ -46,15 +45,15 @@ orTried q l device ctl (Err e) = pick (isI2c e) (clearing q l ctl >>= cleared de
 unfoldable pub tried : Sequence → Layout → ℕ → Held → Prog (R Taken)
 tried q l device h = orTried q l device (h .ctl) (h .out)
 
-unfoldable pub begun : Mode → Sequence → Layout → ℕ → List Command → ℕ → Prog (R Taken)
-begun m q l device cs ctl = transfer m l device cs none ctl >>= tried q l device
+unfoldable pub begun : Sequence → Layout → ℕ → Bus → ℕ → Prog (R Taken)
+begun q l device f ctl = f ctl >>= tried q l device
 
--- once it has begun
-unfoldable pub attempting : Mode → Sequence → Layout → ℕ → List Command → Prog (R Taken)
-attempting m q l device cs = readRaw (l .reg) >>? begun m q l device cs
+-- once it has begun; f is what the Rust's closure does on the bus
+unfoldable pub attempting : Sequence → Layout → ℕ → Bus → Prog (R Taken)
+attempting q l device f = readRaw (l .reg) >>? begun q l device f
 
-unfoldable pub attempt : Mode → Sequence → Layout → ℕ → List Command → Prog (R Taken)
-attempt m q l device cs = note Begins (attempting m q l device cs)
+unfoldable pub attempt : Sequence → Layout → ℕ → Bus → Prog (R Taken)
+attempt q l device f = note Begins (attempting q l device f)
 
 unfoldable pub accessAttempt : Layout → Attempt → Access
 accessAttempt l New = Read (l .reg)
@@ -62,7 +61,7 @@ accessAttempt l (Moving t) = accessTransfer l t
 accessAttempt l (Clearing c) = accessClear l c
 
 unfoldable pub restAttempt : Mode → Sequence → Layout → ℕ → List ℕ → Attempt → Answer → Prog (R Taken)
-restAttempt m q l device s New a = orErr (begun m q l device (commands s)) (raw a)
+restAttempt m q l device s New a = orErr (begun q l device (transfer m l device (commands s) none)) (raw a)
 restAttempt m q l device s (Moving t) a = restTransfer m l device s t a >>= tried q l device
 restAttempt m q l device s (Clearing c) a = restClear l c a >>= cleared device
 

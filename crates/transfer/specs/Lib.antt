@@ -1,2 +1,3 @@
 pub mod Transfer
 pub mod Attempt
+pub mod Calls

@@ -18,7 +18,8 @@ ghost use Rattle.hardware.specs.Prog.{erase, followed, orErr, Err};
 ghost use Rattle.hardware.specs.Registers.{word};
 ghost use Rattle.bus.specs.Clear.{clearNext, validClearNext};
 ghost use Rattle.script.specs.Script.{commands, onCommand};
-ghost use Rattle.transfer.specs.Transfer.{Mode, transferNext, validTransferNext};
+ghost use Rattle.bus.specs.Bus.{none};
+ghost use Rattle.transfer.specs.Transfer.{Mode, transfer, transferNext, validTransferNext};
 ghost use Rattle.transfer.specs.Attempt.{clearing, orI2c, cleared, orTried, tried, begun, accessAttempt, restAttempt, attemptNext, validAttempt, validAttemptNext};
 
 // The clearing sequences by name. Pulses: that of the Rust, nine pulses of SCL between two starts.
@@ -101,7 +102,7 @@ fn moved(q: Sequence, l: Layout, device: u8, n: TransferNext) -> AttemptNext
 }
 
 fn begin(q: Sequence, l: Layout, device: u8, script: &[u8], w: Word) -> AttemptNext
-    ensures { λ r. ⌜ ((m : Mode) → attemptNext m q l device (now (script .entry)) r ≡ erase (orErr (begun m q l device (commands (now (script .entry)))) (word w))) ⌝ }
+    ensures { λ r. ⌜ ((m : Mode) → attemptNext m q l device (now (script .entry)) r ≡ erase (orErr (begun q l device (transfer m l device (commands (now (script .entry))) none)) (word w))) ⌝ }
     ensures { λ r. ⌜ (onCommand (now (script .entry)) 0 ≡ true → validAttemptNext l (now (script .entry)) r ≡ true) ⌝ }
 {
     match w {

@@ -1,0 +1,360 @@
+-- How many answers of the awaited kinds bring the line calls, the commands and the clearing sequence to their end, for
+-- every layout and control word. The numbers are accesses.
+use Prim.Native.Nat.{ℕ, _+_, _*_, _≤_, suc, zero}
+use mathlib.Core.Path.{_≡_, refl}
+use mathlib.Core.Bool.{Bool, true, false}
+use native.Mathlib.Omega.{arith}
+use Rattle.hardware.specs.declared.Error.{Error}
+use Rattle.hardware.specs.declared.Error.the-variants.{I2c}
+use Rattle.hardware.specs.Prog.{R, Ok, Err, pick, erase}
+use Rattle.hardware.specs.Registers.{raw, written, flushed}
+use Rattle.hardware.specs.Runs.{Ends}
+use Rattle.hardware.proofs.Ends.{ends-more, ends-bind, ends-pick, ends-erase, ret-ends, ask-ends}
+use Rattle.bus.specs.declared.Layout.{Layout}
+use Rattle.bus.specs.declared.Taken.{Taken}
+use Rattle.bus.specs.Bus.{Bus, done, fail, none, orHeld, flushing, put, get, wait, sclSeen, sclTries, sclHigh, sclLow, sdaSeen, sdaFree, sda, releaseSda, look, lookSeen, start, close, stop, outBit, sample, sampleSeen, inBit, shifted, inBits, inByte, bitOf, outBits, ackSeen, ackTries, send, pulses, orQuiet, quieted, quiet, clear, clearFree, clearAgain, clearStop}
+
+-- n accesses bring a program to its end, whatever control word it is given
+abbrev pub EndsBus : Bus → ℕ → Type 0
+EndsBus k n = (ctl : ℕ) → Ends (k ctl) n
+
+-- a write and a flush
+abbrev pub PUT-STEPS : ℕ
+PUT-STEPS = 2
+
+abbrev pub GET-STEPS : ℕ
+GET-STEPS = 1
+
+abbrev pub WAIT-STEPS : ℕ
+WAIT-STEPS = 1
+
+-- a try of SCL: a word is put, a wait and a read
+abbrev pub SCL-TRY-STEPS : ℕ
+SCL-TRY-STEPS = PUT-STEPS + WAIT-STEPS + GET-STEPS
+
+-- 500 tries at most
+abbrev pub SCL-HIGH-STEPS : ℕ
+SCL-HIGH-STEPS = 500 * SCL-TRY-STEPS
+
+abbrev pub SCL-LOW-STEPS : ℕ
+SCL-LOW-STEPS = PUT-STEPS + WAIT-STEPS
+
+-- SDA pulled low
+abbrev pub SDA-LOW-STEPS : ℕ
+SDA-LOW-STEPS = PUT-STEPS + WAIT-STEPS
+
+-- SDA released and looked at; the second word is put on the X552 and X553 only
+abbrev pub SDA-STEPS : ℕ
+SDA-STEPS = PUT-STEPS + WAIT-STEPS + (PUT-STEPS + GET-STEPS)
+
+abbrev pub RELEASE-SDA-STEPS : ℕ
+RELEASE-SDA-STEPS = PUT-STEPS + WAIT-STEPS
+
+abbrev pub START-STEPS : ℕ
+START-STEPS = GET-STEPS + SDA-STEPS + SCL-HIGH-STEPS + WAIT-STEPS + SDA-LOW-STEPS + WAIT-STEPS + SCL-LOW-STEPS + WAIT-STEPS
+
+-- the last word is put on the X552 and X553 only
+abbrev pub STOP-STEPS : ℕ
+STOP-STEPS = SDA-LOW-STEPS + SCL-HIGH-STEPS + WAIT-STEPS + SDA-STEPS + WAIT-STEPS + PUT-STEPS
+
+-- SCL high, a wait, SCL low and a wait
+abbrev pub PULSE-STEPS : ℕ
+PULSE-STEPS = SCL-HIGH-STEPS + WAIT-STEPS + SCL-LOW-STEPS + WAIT-STEPS
+
+abbrev pub OUT-BIT-STEPS : ℕ
+OUT-BIT-STEPS = SDA-STEPS + PULSE-STEPS
+
+-- a pulse with SDA released and read while SCL is high
+abbrev pub IN-BIT-STEPS : ℕ
+IN-BIT-STEPS = RELEASE-SDA-STEPS + SCL-HIGH-STEPS + WAIT-STEPS + GET-STEPS + SCL-LOW-STEPS + WAIT-STEPS
+
+abbrev pub IN-BYTE-STEPS : ℕ
+IN-BYTE-STEPS = 8 * IN-BIT-STEPS
+
+-- ten samples at most, each a read and a wait
+abbrev pub ACK-STEPS : ℕ
+ACK-STEPS = 10 * (GET-STEPS + WAIT-STEPS)
+
+-- eight bits, SDA released, and the acknowledgement
+abbrev pub SEND-STEPS : ℕ
+SEND-STEPS = 8 * OUT-BIT-STEPS + (RELEASE-SDA-STEPS + SCL-HIGH-STEPS + WAIT-STEPS + ACK-STEPS + SCL-LOW-STEPS + WAIT-STEPS)
+
+-- SDA released and nine pulses
+abbrev pub FREE-STEPS : ℕ
+FREE-STEPS = RELEASE-SDA-STEPS + 9 * PULSE-STEPS
+
+-- a start, the pulses, a start and a stop
+abbrev pub CLEAR-STEPS : ℕ
+CLEAR-STEPS = START-STEPS + FREE-STEPS + START-STEPS + STOP-STEPS
+
+pub scl-high-steps : SCL-HIGH-STEPS ≡ 2000
+scl-high-steps = refl
+
+pub scl-low-steps : SCL-LOW-STEPS ≡ 3
+scl-low-steps = refl
+
+pub sda-steps : SDA-STEPS ≡ 6
+sda-steps = refl
+
+pub sda-low-steps : SDA-LOW-STEPS ≡ 3
+sda-low-steps = refl
+
+pub release-sda-steps : RELEASE-SDA-STEPS ≡ 3
+release-sda-steps = refl
+
+pub start-steps : START-STEPS ≡ 2016
+start-steps = refl
+
+pub stop-steps : STOP-STEPS ≡ 2013
+stop-steps = refl
+
+pub pulse-steps : PULSE-STEPS ≡ 2005
+pulse-steps = refl
+
+pub out-bit-steps : OUT-BIT-STEPS ≡ 2011
+out-bit-steps = refl
+
+pub in-bit-steps : IN-BIT-STEPS ≡ 2009
+in-bit-steps = refl
+
+pub in-byte-steps : IN-BYTE-STEPS ≡ 16072
+in-byte-steps = refl
+
+pub ack-steps : ACK-STEPS ≡ 20
+ack-steps = refl
+
+pub send-steps : SEND-STEPS ≡ 18116
+send-steps = refl
+
+pub free-steps : FREE-STEPS ≡ 18048
+free-steps = refl
+
+pub clear-steps : CLEAR-STEPS ≡ 24093
+clear-steps = refl
+
+-- more accesses do no harm
+pub bus-more : (p : Bus) (n m : ℕ) → EndsBus p n → n ≤ m → EndsBus p m
+bus-more p n m e h ctl = ends-more _ n m (e ctl) h
+
+pub done-ends : (t : Taken) (n : ℕ) → EndsBus (done t) n
+done-ends t n ctl = ret-ends _ n
+
+pub fail-ends : (e : Error) (n : ℕ) → EndsBus (fail e) n
+fail-ends e n ctl = ret-ends _ n
+
+held-ends : {A : Type 0} (k : A → Bus) (n : ℕ) → ((a : A) → EndsBus (k a) n) → (ctl : ℕ) (r : R A) → Ends (orHeld k ctl r) n
+unfolding orHeld
+held-ends k n d ctl (Ok a) = d a ctl
+held-ends k n d ctl (Err e) = fail-ends e n ctl
+
+-- a choice between two programs
+either-ends : (b : Bool) (p q : Bus) (n : ℕ) → EndsBus p n → EndsBus q n → EndsBus (pick b p q) n
+unfolding pick
+either-ends true p q n e d = e
+either-ends false p q n e d = d
+
+flushing-ends : (k : Bus) (n : ℕ) → EndsBus k n → EndsBus (flushing k) (suc n)
+unfolding flushing
+flushing-ends k n e ctl = ask-ends _ _ n (λ a. held-ends (λ _. k) n (λ _. e) ctl (flushed a))
+
+pub put-ends : (l : Layout) (k : Bus) (n : ℕ) → EndsBus k n → EndsBus (put l k) (PUT-STEPS + n)
+unfolding put
+put-ends l k n e ctl =
+    ends-more _ (suc (suc n)) (PUT-STEPS + n)
+    (ask-ends _ _ (suc n) (λ a. held-ends (λ _. flushing k) (suc n) (λ _. flushing-ends k n e) ctl (written a)))
+    (omega arith)
+
+pub get-ends : (l : Layout) (k : ℕ → Bus) (n : ℕ) → ((v : ℕ) → EndsBus (k v) n) → EndsBus (get l k) (GET-STEPS + n)
+unfolding get
+get-ends l k n e ctl = ends-more _ (suc n) (GET-STEPS + n) (ask-ends _ _ n (λ a. held-ends k n e ctl (raw a))) (omega arith)
+
+pub wait-ends : (us : ℕ) (k : Bus) (n : ℕ) → EndsBus k n → EndsBus (wait us k) (WAIT-STEPS + n)
+unfolding wait
+wait-ends us k n e ctl = ends-more _ (suc n) (WAIT-STEPS + n) (ask-ends _ _ n (λ a. e ctl)) (omega arith)
+
+-- a word put and a wait
+put-wait-ends : (l : Layout) (us : ℕ) (k : Bus) (n : ℕ) → EndsBus k n → EndsBus (put l (wait us k)) (PUT-STEPS + WAIT-STEPS + n)
+put-wait-ends l us k n e ctl =
+    ends-more _ (PUT-STEPS + (WAIT-STEPS + n)) (PUT-STEPS + WAIT-STEPS + n)
+    (put-ends l _ (WAIT-STEPS + n) (wait-ends us k n e) ctl)
+    (omega arith)
+
+pub scl-tries-ends : (l : Layout) (tries : ℕ) (k : Bus) (n : ℕ) → EndsBus k n → EndsBus (sclTries l tries k) (tries * SCL-TRY-STEPS + n)
+unfolding sclTries sclSeen
+scl-tries-ends l zero k n e ctl = ends-more _ n (zero * SCL-TRY-STEPS + n) (e ctl) (omega arith)
+scl-tries-ends l (suc left) k n e ctl =
+    let m = left * SCL-TRY-STEPS + n in
+    ends-more _ (PUT-STEPS + WAIT-STEPS + (GET-STEPS + m)) (suc left * SCL-TRY-STEPS + n)
+    (put-wait-ends l 1 _ (GET-STEPS + m)
+    (get-ends l _ m
+    (λ v. either-ends _ _ _ m (scl-tries-ends l left k n e) (λ c. ends-more _ n m (e c) (omega arith)))) _)
+    (omega arith)
+
+pub scl-high-ends : (l : Layout) (k : Bus) (n : ℕ) → EndsBus k n → EndsBus (sclHigh l k) (SCL-HIGH-STEPS + n)
+unfolding sclHigh
+scl-high-ends l k n e ctl = scl-tries-ends l 500 k n e _
+
+pub scl-low-ends : (l : Layout) (k : Bus) (n : ℕ) → EndsBus k n → EndsBus (sclLow l k) (SCL-LOW-STEPS + n)
+unfolding sclLow
+scl-low-ends l k n e ctl = put-wait-ends l 1 k n e _
+
+-- SDA was looked at: held low, the whole ends
+sda-seen-ends : (l : Layout) (k : Bus) (n : ℕ) → EndsBus k n → (v : ℕ) → EndsBus (sdaSeen l k v) n
+unfolding sdaSeen
+sda-seen-ends l k n e v = either-ends _ _ _ n (fail-ends _ n) e
+
+sda-free-ends : (l : Layout) (k : Bus) (n : ℕ) → EndsBus k n → EndsBus (sdaFree l k) (PUT-STEPS + (GET-STEPS + n))
+unfolding sdaFree
+sda-free-ends l k n e ctl =
+    let d = get-ends l (sdaSeen l k) n (sda-seen-ends l k n e) in
+    ends-pick _ _ _ (PUT-STEPS + (GET-STEPS + n)) (ends-more _ (GET-STEPS + n) (PUT-STEPS + (GET-STEPS + n)) (d ctl) (omega arith))
+    (put-ends l _ (GET-STEPS + n) d _)
+
+pub sda-low-ends : (l : Layout) (k : Bus) (n : ℕ) → EndsBus k n → EndsBus (sda l false k) (SDA-LOW-STEPS + n)
+unfolding sda
+sda-low-ends l k n e ctl = put-wait-ends l 3 k n e _
+
+pub sda-ends : (l : Layout) (high : Bool) (k : Bus) (n : ℕ) → EndsBus k n → EndsBus (sda l high k) (SDA-STEPS + n)
+unfolding sda
+sda-ends l true k n e ctl =
+    ends-more _ _ (SDA-STEPS + n) (put-wait-ends l 3 _ _ (sda-free-ends l k n e) _) (omega arith)
+sda-ends l false k n e ctl = ends-more _ _ (SDA-STEPS + n) (sda-low-ends l k n e ctl) (omega arith)
+
+pub release-sda-ends : (l : Layout) (k : Bus) (n : ℕ) → EndsBus k n → EndsBus (releaseSda l k) (RELEASE-SDA-STEPS + n)
+unfolding releaseSda
+release-sda-ends l k n e ctl = put-wait-ends l 1 k n e _
+
+pub look-ends : (l : Layout) (k : Bus) (n : ℕ) → EndsBus k n → EndsBus (look l k) (GET-STEPS + n)
+unfolding look lookSeen
+look-ends l k n e = get-ends l _ n (λ v ctl. e _)
+
+pub start-ends : (l : Layout) (k : Bus) (n : ℕ) → EndsBus k n → EndsBus (start l k) (START-STEPS + n)
+unfolding start
+start-ends l k n e =
+    bus-more _ _ (START-STEPS + n)
+    (look-ends l _ _
+    (sda-ends l true _ _
+    (scl-high-ends l _ _
+    (wait-ends 5 _ _ (sda-low-ends l _ _ (wait-ends 4 _ _ (scl-low-ends l _ _ (wait-ends 5 k n e))))))))
+    (omega arith)
+
+pub close-ends : (l : Layout) (k : Bus) (n : ℕ) → EndsBus k n → EndsBus (close l k) (PUT-STEPS + n)
+unfolding close
+close-ends l k n e ctl = put-ends l k n e _
+
+pub stop-ends : (l : Layout) (k : Bus) (n : ℕ) → EndsBus k n → EndsBus (stop l k) (STOP-STEPS + n)
+unfolding stop
+stop-ends l k n e =
+    bus-more _ _ (STOP-STEPS + n)
+    (sda-low-ends l _ _
+    (scl-high-ends l _ _
+    (wait-ends 4 _ _
+    (sda-ends l true _ _
+    (wait-ends 5 _ _
+    (either-ends _ k (close l k) (PUT-STEPS + n) (bus-more k n (PUT-STEPS + n) e (omega arith)) (close-ends l k n e)))))))
+    (omega arith)
+
+-- SCL high, a wait, SCL low and a wait: how a bit that goes out ends
+pub pulse-ends : (l : Layout) (k : Bus) (n : ℕ) → EndsBus k n → EndsBus (sclHigh l (wait 4 (sclLow l (wait 5 k)))) (PULSE-STEPS + n)
+pulse-ends l k n e =
+    bus-more _ _ (PULSE-STEPS + n) (scl-high-ends l _ _ (wait-ends 4 _ _ (scl-low-ends l _ _ (wait-ends 5 k n e)))) (omega arith)
+
+pub out-bit-ends : (l : Layout) (bit : Bool) (k : Bus) (n : ℕ) → EndsBus k n → EndsBus (outBit l bit k) (OUT-BIT-STEPS + n)
+unfolding outBit
+out-bit-ends l bit k n e = bus-more _ _ (OUT-BIT-STEPS + n) (sda-ends l bit _ _ (pulse-ends l k n e)) (omega arith)
+
+pub sample-ends : (l : Layout) (k : Bool → Bus) (n : ℕ) → ((bit : Bool) → EndsBus (k bit) n) → EndsBus (sample l k) (GET-STEPS + n)
+unfolding sample sampleSeen
+sample-ends l k n e = get-ends l _ n (λ v. e _)
+
+pub in-bit-ends : (l : Layout) (k : Bool → Bus) (n : ℕ) → ((bit : Bool) → EndsBus (k bit) n) → EndsBus (inBit l k) (IN-BIT-STEPS + n)
+unfolding inBit
+in-bit-ends l k n e =
+    bus-more _ _ (IN-BIT-STEPS + n)
+    (release-sda-ends l _ _
+    (scl-high-ends l _ _
+    (wait-ends 4 _ _ (sample-ends l _ (SCL-LOW-STEPS + (WAIT-STEPS + n)) (λ bit. scl-low-ends l _ _ (wait-ends 5 (k bit) n (e bit)))))))
+    (omega arith)
+
+pub in-bits-ends : (l : Layout) (count byte : ℕ) (k : ℕ → Bus) (n : ℕ) → ((v : ℕ) → EndsBus (k v) n)
+    → EndsBus (inBits l count byte k) (count * IN-BIT-STEPS + n)
+unfolding inBits
+in-bits-ends l zero byte k n e = bus-more _ n (zero * IN-BIT-STEPS + n) (e byte) (omega arith)
+in-bits-ends l (suc count) byte k n e =
+    bus-more _ _ (suc count * IN-BIT-STEPS + n)
+    (in-bit-ends l _ (count * IN-BIT-STEPS + n) (λ bit. in-bits-ends l count (shifted byte bit) k n e))
+    (omega arith)
+
+pub in-byte-ends : (l : Layout) (k : ℕ → Bus) (n : ℕ) → ((v : ℕ) → EndsBus (k v) n) → EndsBus (inByte l k) (IN-BYTE-STEPS + n)
+unfolding inByte
+in-byte-ends l k n e = in-bits-ends l 8 0 k n e
+
+pub out-bits-ends : (l : Layout) (byte count : ℕ) (k : Bus) (n : ℕ) → EndsBus k n → EndsBus (outBits l byte count k) (count * OUT-BIT-STEPS + n)
+unfolding outBits
+out-bits-ends l byte zero k n e = bus-more _ n (zero * OUT-BIT-STEPS + n) e (omega arith)
+out-bits-ends l byte (suc count) k n e =
+    bus-more _ _ (suc count * OUT-BIT-STEPS + n)
+    (out-bit-ends l (bitOf byte count) _ (count * OUT-BIT-STEPS + n) (out-bits-ends l byte count k n e))
+    (omega arith)
+
+pub ack-tries-ends : (l : Layout) (tries : ℕ) (k : Bool → Bus) (n : ℕ) → ((high : Bool) → EndsBus (k high) n)
+    → EndsBus (ackTries l tries k) (tries * (GET-STEPS + WAIT-STEPS) + n)
+unfolding ackTries ackSeen
+ack-tries-ends l zero k n e = bus-more _ n (zero * (GET-STEPS + WAIT-STEPS) + n) (e true) (omega arith)
+ack-tries-ends l (suc left) k n e =
+    let m = left * (GET-STEPS + WAIT-STEPS) + n in
+    bus-more _ (GET-STEPS + (WAIT-STEPS + m)) (suc left * (GET-STEPS + WAIT-STEPS) + n)
+    (get-ends l _ (WAIT-STEPS + m)
+    (λ v. either-ends _ _ _ (WAIT-STEPS + m) (bus-more _ n (WAIT-STEPS + m) (e false) (omega arith)) (wait-ends 1 _ m (ack-tries-ends l left k n e))))
+    (omega arith)
+
+pub send-ends : (l : Layout) (device byte : ℕ) (k : Bus) (n : ℕ) → EndsBus k n → EndsBus (send l device byte k) (SEND-STEPS + n)
+unfolding send
+send-ends l device byte k n e =
+    bus-more _ _ (SEND-STEPS + n)
+    (out-bits-ends l byte 8 _ _
+    (release-sda-ends l _ _
+    (scl-high-ends l _ _
+    (wait-ends 4 _ _
+    (ack-tries-ends l 10 _ (SCL-LOW-STEPS + (WAIT-STEPS + n))
+    (λ high. scl-low-ends l _ _ (wait-ends 5 _ n (either-ends high (fail (I2c device)) k n (fail-ends _ n) e))))))))
+    (omega arith)
+
+pub pulses-ends : (l : Layout) (count : ℕ) (k : Bus) (n : ℕ) → EndsBus k n → EndsBus (pulses l count k) (count * PULSE-STEPS + n)
+unfolding pulses
+pulses-ends l zero k n e = bus-more _ n (zero * PULSE-STEPS + n) e (omega arith)
+pulses-ends l (suc count) k n e =
+    bus-more _ _ (suc count * PULSE-STEPS + n) (pulse-ends l _ (count * PULSE-STEPS + n) (pulses-ends l count k n e)) (omega arith)
+
+pub free-ends : (l : Layout) (k : Bus) (n : ℕ) → EndsBus k n → EndsBus (releaseSda l (pulses l 9 k)) (FREE-STEPS + n)
+free-ends l k n e = bus-more _ _ (FREE-STEPS + n) (release-sda-ends l _ _ (pulses-ends l 9 k n e)) (omega arith)
+
+-- a program whose I2c failure counts as success, and what comes after it
+quieted-ends : (k : Bus) (n : ℕ) → EndsBus k n → (ctl : ℕ) (r : R Taken) → Ends (orQuiet k ctl r) n
+unfolding orQuiet
+quieted-ends k n e ctl (Ok t) = e ctl
+quieted-ends k n e ctl (Err x) = ends-pick _ _ _ n (e ctl) (fail-ends x n ctl)
+
+pub quiet-ends : (p k : Bus) (m n : ℕ) → EndsBus p m → EndsBus k n → EndsBus (quiet p k) (m + n)
+unfolding quiet quieted
+quiet-ends p k m n d e ctl = ends-bind _ _ m n (d ctl) (λ h. quieted-ends k n e (h .ctl) (h .out))
+
+clear-stop-ends : (l : Layout) → EndsBus (clearStop l) STOP-STEPS
+unfolding clearStop
+clear-stop-ends l = quiet-ends _ _ (STOP-STEPS + 0) 0 (stop-ends l (done none) 0 (done-ends none 0)) (done-ends none 0)
+
+clear-again-ends : (l : Layout) → EndsBus (clearAgain l) (START-STEPS + STOP-STEPS)
+unfolding clearAgain
+clear-again-ends l = quiet-ends _ _ (START-STEPS + 0) STOP-STEPS (start-ends l (done none) 0 (done-ends none 0)) (clear-stop-ends l)
+
+clear-free-ends : (l : Layout) → EndsBus (clearFree l) (FREE-STEPS + (START-STEPS + STOP-STEPS))
+unfolding clearFree
+clear-free-ends l = free-ends l (clearAgain l) (START-STEPS + STOP-STEPS) (clear-again-ends l)
+
+pub clear-ends : (l : Layout) → EndsBus (clear l) CLEAR-STEPS
+unfolding clear
+clear-ends l =
+    quiet-ends _ _ (START-STEPS + 0) (FREE-STEPS + (START-STEPS + STOP-STEPS)) (start-ends l (done none) 0 (done-ends none 0)) (clear-free-ends l)
+
+pub clear-erased-ends : (l : Layout) (ctl : ℕ) → Ends (erase (clear l ctl)) CLEAR-STEPS
+clear-erased-ends l ctl = ends-erase _ CLEAR-STEPS (clear-ends l ctl)

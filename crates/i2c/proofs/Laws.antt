@@ -1,0 +1,224 @@
+-- Laws of the four transfers that the proofs cite.
+use Prim.Native.Nat.{ℕ, _+_, _-_, _<_, _≤_, suc, zero}
+use mathlib.Core.Path.{_≡_, refl, ap, fun-ext, _∙_, sym, subst}
+use mathlib.Core.Bool.{Bool, true, false}
+use lib.Dec.{T, ltb, leb, lit≤}
+use borrow.Author.Tests.{ltb-true, leb-true, lt-ltb, le-leb}
+use native.Mathlib.Numerals.{sub-one}
+use native.Mathlib.Omega.{arith}
+use Rattle.hardware.specs.declared.Access.the-variants.{Read}
+use Rattle.hardware.specs.declared.Port.{Port}
+use Rattle.hardware.specs.Prog.{Prog, ret, ask, R, Err, orErr, tally, erase, bind-assoc, bind-ret, pick, _>>=_, _>>?_}
+use Rattle.hardware.specs.Registers.{raw}
+use Rattle.acquire.specs.Acquire.{acquire, release}
+use Rattle.bus.specs.declared.Layout.{Layout}
+use Rattle.bus.specs.declared.Taken.{Taken}
+use Rattle.bus.specs.Layout.{layoutOf}
+use Rattle.bus.proofs.Laws.{picked-first}
+use Rattle.bus.specs.Bus.{none}
+use Rattle.script.specs.Script.{commands, starts, onCommand}
+use Rattle.script.specs.Scripts.{readByteScript, writeByteScript, readCombinedScript, writeCombinedScript}
+use Rattle.script.proofs.Scripts.{read-byte-commands, write-byte-commands, read-combined-commands, write-combined-commands}
+use Rattle.transfer.specs.declared.attempt.Sequence.the-variants.{Pulses}
+use Rattle.transfer.specs.declared.attempt.Attempt.the-variants.{New}
+use Rattle.transfer.specs.Transfer.{silent, tells, did, isRead, tookBy, handed, transfer}
+use Rattle.transfer.specs.Attempt.{begun, attempting, attempt, accessAttempt, restAttempt}
+use Rattle.i2c.specs.declared.once.Request.{Request}
+use Rattle.i2c.specs.declared.once.Request.the-variants.{ReadByte, WriteByte, ReadCombined, WriteCombined}
+use Rattle.i2c.specs.declared.tries.Stage.the-variants.{Trying}
+use Rattle.i2c.specs.declared.tries.TriesNext.the-variants.{Going}
+use Rattle.i2c.specs.I2c.{mask, deviceOf, scriptOf, isWrite, body, failedI2c, once, whenLock, readTries, writeTries, givenUp, writes, moves, qsfp, askBus, granted, givenBus, onGrant, withBus, handshaken}
+use Rattle.hardware.specs.declared.Error.the-variants.{I2c}
+use Rattle.hardware.specs.declared.change.Update.the-variants.{Reading}
+use Rattle.hardware.specs.Change.{change, accessUpdate, restUpdate}
+use Rattle.i2c.specs.declared.moves.Moves.the-variants.{Asking, Granting}
+use Rattle.i2c.specs.declared.moves.MovesNext.the-variants.{Going as MovesGoing}
+use Rattle.i2c.specs.Moves.{shakes, closing, entered, onGranted, awaitingGrant, lookedAt, accessMoves, restMoves, madeOf, movesNext}
+use Rattle.i2c.specs.Calls.{limitOf, triesOf}
+use Rattle.i2c.specs.Tries.{MOST, wanted, backThen, afterRelease, afterRead, afterWrite, afterTry, tryNow, lockedTry, triesLeft, accessTries, accessStage, restTries, restStage, triesNext}
+
+-- a call's script does what the Rust's closure does
+pub body-is : (l : Layout) (r : Request) → transfer silent l (deviceOf r) (commands (scriptOf r)) none ≡ body l r
+unfolding transfer did handed tells tookBy isRead pick body scriptOf deviceOf
+body-is l (ReadByte d o) = ap (λ cs. transfer silent l d cs none) (read-byte-commands d o)
+body-is l (WriteByte d o v) = ap (λ cs. transfer silent l d cs none) (write-byte-commands d o v)
+body-is l (ReadCombined d reg) = ap (λ cs. transfer silent l d cs none) (read-combined-commands d reg)
+body-is l (WriteCombined d reg v) = ap (λ cs. transfer silent l d cs none) (write-combined-commands d reg v)
+
+-- a script begins with a command
+pub on-start : (r : Request) → onCommand (scriptOf r) 0 ≡ true
+unfolding onCommand starts scriptOf readByteScript writeByteScript readCombinedScript writeCombinedScript
+on-start (ReadByte d o) = refl
+on-start (WriteByte d o v) = refl
+on-start (ReadCombined d reg) = refl
+on-start (WriteCombined d reg v) = refl
+
+-- an attempt begins, and is counted
+pub begins : (port : Port) (r : Request) (lock : Bool) (left made : ℕ)
+    → triesNext port r lock (Going (record { made = suc made; left = left; stage = Trying New })) ≡ tally made (tryNow port r lock left)
+unfolding triesNext accessTries accessStage accessAttempt restTries restStage restAttempt tryNow once attempt attempting tally _>>=_
+begins port r lock left made =
+    ap (λ f. ask (Read (layoutOf (port .family) .reg)) (λ a. tally (suc made) (orErr (begun Pulses (layoutOf (port .family)) (deviceOf r) f) (raw a) >>= afterTry port r lock left)))
+    (body-is (layoutOf (port .family)) r)
+
+pub when-yes : (lock : Bool) (p : Prog (R (Unit {0}))) (k : Prog (R Taken)) → lock ≡ true → (p >>? λ _. k) ≡ whenLock lock p k
+unfolding whenLock pick
+when-yes lock p k h = rw (h)
+
+pub when-no : (lock : Bool) (p : Prog (R (Unit {0}))) (k : Prog (R Taken)) → lock ≡ false → k ≡ whenLock lock p k
+unfolding whenLock pick
+when-no lock p k h = rw (h)
+
+after-reads : (port : Port) (r : Request) (lock : Bool) (left : ℕ) → isWrite r ≡ false → afterTry port r lock left ≡ afterRead port r lock left
+unfolding afterTry pick
+after-reads port r lock left h = fun-ext (λ result. rw (h))
+
+after-writes : (port : Port) (r : Request) (lock : Bool) (left : ℕ) → isWrite r ≡ true → afterTry port r lock left ≡ afterWrite port r lock left
+unfolding afterTry pick
+after-writes port r lock left h = fun-ext (λ result. rw (h))
+
+-- with a try left, it is made
+pub again-more : (port : Port) (r : Request) (lock : Bool) (left : ℕ) → (left ≡ 0 → ⊥) → lockedTry port r lock (left - 1) ≡ triesLeft port r lock left
+unfolding triesLeft
+again-more port r lock zero h = absurd (h refl)
+again-more port r lock (suc n) h = ap (λ m. lockedTry port r lock m) (sub-one (suc n))
+
+-- a read's tries are the Rust's
+pub tries-reads : (port : Port) (r : Request) (lock : Bool) (left : ℕ) → isWrite r ≡ false → triesLeft port r lock left ≡ readTries port r lock left
+unfolding triesLeft lockedTry tryNow readTries afterRead backThen
+tries-reads port r lock zero w = refl
+tries-reads port r lock (suc n) w = ap (λ k. whenLock lock (acquire port (mask port)) (once port r >>= k)) (after-reads port r lock n w)
+
+-- with a write left, it is made under the lock that is held
+pub write-more : (port : Port) (r : Request) (lock : Bool) (left : ℕ) (result : R Taken) → isWrite r ≡ true
+    → tryNow port r lock left ≡ writeTries port r (suc left) result >>= givenUp port lock
+unfolding tryNow writeTries afterWrite
+write-more port r lock left result w =
+    ap (λ k. once port r >>= k) (after-writes port r lock left w) ∙ sym (bind-assoc (once port r) _ (givenUp port lock))
+
+failed-on : (port : Port) (r : Request) (lock : Bool) (left : ℕ) (result : R Taken) → failedI2c result ≡ true
+    → (writeTries port r left result >>= givenUp port lock) ≡ afterWrite port r lock left result
+unfolding afterWrite pick
+failed-on port r lock left result f = rw (f)
+
+pub write-again : (port : Port) (r : Request) (lock : Bool) (left : ℕ) (result : R Taken) → isWrite r ≡ true → failedI2c result ≡ true → (left ≡ 0 → ⊥)
+    → tryNow port r lock (left - 1) ≡ afterTry port r lock left result
+write-again port r lock zero result w f h = absurd (h refl)
+write-again port r lock (suc n) result w f h =
+    ap (λ m. tryNow port r lock m) (sub-one (suc n)) ∙ write-more port r lock n result w
+    ∙ failed-on port r lock (suc n) result f ∙ sym (ap (λ k. k result) (after-writes port r lock (suc n) w))
+
+-- the last write: what is given back ends the call
+pub write-done : (port : Port) (r : Request) (lock : Bool) (left : ℕ) (result : R Taken) → isWrite r ≡ true → failedI2c result ≡ false
+    → backThen port lock (afterRelease port r lock left result) ≡ afterTry port r lock left result
+unfolding afterRelease afterTry afterWrite givenUp backThen pick _>>=_
+write-done port r lock left result w f = rw (w, f)
+
+pub write-last : (port : Port) (r : Request) (lock : Bool) (left : ℕ) (result : R Taken) → isWrite r ≡ true → failedI2c result ≡ true → left ≡ 0
+    → backThen port lock (afterRelease port r lock left result) ≡ afterTry port r lock left result
+unfolding afterRelease afterTry afterWrite givenUp backThen writeTries pick _>>=_
+write-last port r lock left result w f z = rw (w, f, z)
+
+pub read-done : (port : Port) (r : Request) (lock : Bool) (left : ℕ) (result : R Taken) → isWrite r ≡ false
+    → backThen port lock (afterRelease port r lock left result) ≡ afterTry port r lock left result
+unfolding afterRelease afterTry afterRead pick
+read-done port r lock left result w = rw (w)
+
+pub write-open : (port : Port) (r : Request) (lock : Bool) (tries : ℕ) → isWrite r ≡ true → lockedTry port r lock 1 ≡ moves port r lock tries
+unfolding lockedTry moves writes pick
+write-open port r lock tries w = rw (w) (ap (λ k. whenLock lock (acquire port (mask port)) k) (write-more port r lock 1 _ w))
+
+pub read-open : (port : Port) (r : Request) (lock : Bool) (tries : ℕ) → isWrite r ≡ false → readTries port r lock tries ≡ moves port r lock tries
+unfolding moves pick
+read-open port r lock tries w = rw (w)
+
+-- room for the attempts begun and those to come
+pub strict-room : (cap made left : ℕ) (v : Bool) → cap ≤ MOST → pick (ltb (made + left) cap) v false ≡ true → made < MOST
+strict-room cap made left v hc h = omega (arith, hc, ltb-true (made + left) cap (picked-first (ltb (made + left) cap) v h))
+
+pub room : (cap made left : ℕ) (v : Bool) → cap ≤ MOST → pick (leb (made + left) cap) v false ≡ true → made + left ≤ MOST
+room cap made left v hc h = omega (arith, hc, leb-true (made + left) cap (picked-first (leb (made + left) cap) v h))
+
+-- with a look left, ESDP is read
+pub granted-more : (port : Port) (r : Request) (lock : Bool) (made tries left : ℕ) → (left ≡ 0 → ⊥)
+    → movesNext port r lock (MovesGoing (Granting made tries (left - 1))) ≡ tally made (awaitingGrant port r lock tries left)
+unfolding movesNext accessMoves restMoves madeOf lookedAt awaitingGrant granted tally _>>=_
+granted-more port r lock made tries zero h = absurd (h refl)
+granted-more port r lock made tries (suc n) h =
+    ap (λ m. movesNext port r lock (MovesGoing (Granting made tries m))) (sub-one (suc n))
+
+closing-gives : (port : Port) (r : Request) → shakes port r ≡ true → closing port r ≡ givenBus
+unfolding closing pick
+closing-gives port r h = fun-ext (λ result. rw (h))
+
+closing-ends : (port : Port) (r : Request) → shakes port r ≡ false → closing port r ≡ ret
+unfolding closing pick
+closing-ends port r h = fun-ext (λ result. rw (h))
+
+asks : (port : Port) (r : Request) (lock : Bool) (made tries : ℕ)
+    → movesNext port r lock (MovesGoing (Asking made tries Reading)) ≡ tally made (change askBus >>? λ _. awaitingGrant port r lock tries 200)
+unfolding movesNext accessMoves restMoves madeOf accessUpdate restUpdate change tally _>>=_
+asks port r lock made tries = refl
+
+with-bus : (port : Port) (device : ℕ) (f : Prog (R Taken)) → qsfp port ≡ true → (change askBus >>? λ _. granted 200 >>? onGrant device f) ≡ withBus port device f
+unfolding withBus pick
+with-bus port device f h = rw (h)
+
+no-bus : (port : Port) (device : ℕ) (f : Prog (R Taken)) → qsfp port ≡ false → f ≡ withBus port device f
+unfolding withBus pick
+no-bus port device f h = rw (h)
+
+-- the handshake begins
+pub shake-open : (port : Port) (r : Request) (lock : Bool) (made tries : ℕ) → shakes port r ≡ true
+    → movesNext port r lock (MovesGoing (Asking made tries Reading)) ≡ tally made (handshaken port r (moves port r lock tries))
+unfolding handshaken shakes awaitingGrant onGranted onGrant deviceOf
+shake-open port (ReadByte d o) lock made tries h =
+    asks port (ReadByte d o) lock made tries
+    ∙ ap (λ k. tally made (change askBus >>? λ _. granted 200 >>? λ came. pick came (moves port (ReadByte d o) lock tries) (ret (Err (I2c d))) >>= k)) (closing-gives port (ReadByte d o) h)
+    ∙ ap (tally made) (with-bus port d (moves port (ReadByte d o) lock tries) h)
+shake-open port (WriteByte d o v) lock made tries h =
+    asks port (WriteByte d o v) lock made tries
+    ∙ ap (λ k. tally made (change askBus >>? λ _. granted 200 >>? λ came. pick came (moves port (WriteByte d o v) lock tries) (ret (Err (I2c d))) >>= k)) (closing-gives port (WriteByte d o v) h)
+    ∙ ap (tally made) (with-bus port d (moves port (WriteByte d o v) lock tries) h)
+shake-open port (ReadCombined d reg) lock made tries h = absurd (subst T (sym h) tt)
+shake-open port (WriteCombined d reg v) lock made tries h = absurd (subst T (sym h) tt)
+
+entered-by : (port : Port) (r : Request) (lock : Bool) (tries : ℕ) → closing port r ≡ ret → entered port r lock tries ≡ moves port r lock tries
+unfolding entered
+entered-by port r lock tries h = ap (λ k. moves port r lock tries >>= k) h ∙ bind-ret (moves port r lock tries)
+
+unshaken : (port : Port) (r : Request) (f : Prog (R Taken)) → shakes port r ≡ false → f ≡ handshaken port r f
+unfolding handshaken shakes
+unshaken port (ReadByte d o) f h = no-bus port d f h
+unshaken port (WriteByte d o v) f h = no-bus port d f h
+unshaken port (ReadCombined d reg) f h = refl
+unshaken port (WriteCombined d reg v) f h = refl
+
+-- no handshake
+pub no-shake : (port : Port) (r : Request) (lock : Bool) (tries : ℕ) → shakes port r ≡ false
+    → entered port r lock tries ≡ handshaken port r (moves port r lock tries)
+no-shake port r lock tries h = entered-by port r lock tries (closing-ends port r h) ∙ unshaken port r (moves port r lock tries) h
+
+pub upto : {a b c : ℕ} → a ≤ b → b ≤ c → a ≤ c
+upto h g = omega (arith, h, g)
+
+pub less : {a b : ℕ} → a < b → a ≤ b
+less h = omega (arith, h)
+
+-- the attempts of a call fit its limit
+pub limit-fits : (r : Request) (attempts : ℕ) → attempts ≤ 255 → wanted r (triesOf r attempts) ≤ limitOf r
+unfolding wanted isWrite triesOf limitOf pick
+limit-fits (ReadByte d o) attempts h = h
+limit-fits (WriteByte d o v) attempts h = omega arith
+limit-fits (ReadCombined d reg) attempts h = omega arith
+limit-fits (WriteCombined d reg v) attempts h = omega arith
+
+pub limit-most : (r : Request) → limitOf r ≤ MOST
+unfolding limitOf
+limit-most (ReadByte d o) = lit≤ tt
+limit-most (WriteByte d o v) = lit≤ tt
+limit-most (ReadCombined d reg) = lit≤ tt
+limit-most (WriteCombined d reg v) = lit≤ tt
+
+pub limit-room : (r : Request) (tries attempts : ℕ) → tries ≡ triesOf r attempts → attempts ≤ 255 → 0 + wanted r tries ≤ limitOf r
+limit-room r tries attempts e h = rw (e) (omega (arith, limit-fits r attempts h))

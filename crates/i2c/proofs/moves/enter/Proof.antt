@@ -1,0 +1,20 @@
+-- `enter` meets its contract.
+use Rattle.hardware.specs.Prog.{over-after}
+use Rattle.i2c.specs.Moves.{entered}
+use Rattle.sync.specs.Lock.{lock}
+use borrow.Author.Needs.{needs}
+use Rattle.i2c.proofs.moves.enter.Statement.{statement}
+use Rattle.i2c.proofs.moves.enter.Tie as tie
+
+open-requires : tie.Need-open-requires
+open-requires c κs = search needs
+
+inside-requires : tie.Need-inside-requires
+inside-requires c κs = search needs
+
+returns : tie.Need-returns
+unfolding entered
+returns c = (λ h. over-after _ _ _ (c .inside .ensures .0 (c .before .before .args .lock)) (c .before .«open» .ensures .0 h), λ cap hc h. c .inside .ensures .1 cap (c .before .«open» .ensures .1 cap hc h))
+
+pub enter-spec : {M : Type 1} → statement M
+enter-spec = tie.close (tie.spec open-requires inside-requires returns)

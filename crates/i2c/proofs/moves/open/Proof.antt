@@ -1,0 +1,28 @@
+-- `open` meets its contract.
+use Rattle.hardware.specs.Prog.{tally}
+use Rattle.i2c.proofs.Laws.{no-shake, shake-open}
+use Rattle.i2c.specs.Moves.{shakes, validMoves, validMovesNext}
+use Rattle.sync.specs.Lock.{lock}
+use Rattle.sync.specs.Regs.{tries}
+use Rattle.sync.specs.Resource.{taken}
+use borrow.Author.Needs.{needs}
+use borrow.Author.Tests.{le-leb}
+use mathlib.Core.Path.{_∙_, ap, sym}
+use Rattle.i2c.proofs.moves.open.Statement.{statement}
+use Rattle.i2c.proofs.moves.open.Tie as tie
+
+shakes-requires : tie.Need-shakes-requires
+shakes-requires c κs = search needs
+
+returns : tie.Need-returns
+unfolding validMovesNext validMoves
+returns c = (λ h. shake-open (c .before .before .args .port) (c .before .before .args .r) (c .before .before .args .lock) (c .before .before .args .made) (c .before .before .args .tries) (sym (c .before .shakes .ensures) ∙ c .if1 .taken), λ cap hc h. le-leb _ _ h)
+
+enter-requires : tie.Need-enter-requires
+enter-requires c κs = search needs
+
+returns-2 : tie.Need-returns-2
+returns-2 c = (λ h. c .enter .ensures .0 h ∙ ap (tally (c .before .before .before .args .made)) (no-shake (c .before .before .before .args .port) (c .before .before .before .args .r) (c .before .before .before .args .lock) (c .before .before .before .args .tries) (sym (c .before .before .shakes .ensures) ∙ c .before .if1 .left)), c .enter .ensures .1)
+
+pub open-spec : {M : Type 1} → statement M
+open-spec = tie.close (tie.spec shakes-requires returns enter-requires returns-2)

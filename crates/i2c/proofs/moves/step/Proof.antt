@@ -1,0 +1,107 @@
+-- `step` meets its contract.
+use Rattle.bus.proofs.Laws.{picked-first, picked-second}
+use Rattle.hardware.specs.Prog.{over-after, over-tally}
+use Rattle.hardware.specs.Registers.{read}
+use Rattle.hardware.specs.Runs.{given}
+use Rattle.hostif.specs.Calls.{asked}
+use Rattle.i2c.proofs.Laws.{less, upto}
+use Rattle.i2c.specs.Moves.{madeOf, restMoves, validMoves}
+use Rattle.sync.specs.Lock.{lock}
+use borrow.Author.Needs.{needs}
+use borrow.Author.Tests.{leb-true, ltb-true}
+use Rattle.i2c.proofs.moves.step.Statement.{statement}
+use Rattle.i2c.proofs.moves.step.Tie as tie
+
+enum-known-s : tie.Need-enum-known-s
+enum-known-s c = search needs
+
+ask-bus-requires : tie.Need-ask-bus-requires
+ask-bus-requires c κs = search needs
+
+step-requires : tie.Need-step-requires
+step-requires c κs = search needs
+
+asked-requires : tie.Need-asked-requires
+asked-requires c κs = search needs
+
+enum-known-s-2 : tie.Need-enum-known-s-2
+enum-known-s-2 c = search needs
+
+read-requires : tie.Need-read-requires
+read-requires c κs = search needs
+
+looked-requires : tie.Need-looked-requires
+looked-requires c κs = search needs
+
+enum-known-s-3 : tie.Need-enum-known-s-3
+enum-known-s-3 c = search needs
+
+grant-requires : tie.Need-grant-requires
+grant-requires c κs = search needs
+
+enum-known-s-4 : tie.Need-enum-known-s-4
+enum-known-s-4 c = search needs
+
+step-requires-2 : tie.Need-step-requires-2
+step-requires-2 c κs = search needs
+
+inside-requires : tie.Need-inside-requires
+inside-requires c κs = search needs
+
+enum-known-s-5 : tie.Need-enum-known-s-5
+enum-known-s-5 c = search needs
+
+give-bus-requires : tie.Need-give-bus-requires
+give-bus-requires c κs = search needs
+
+step-requires-3 : tie.Need-step-requires-3
+step-requires-3 c κs = search needs
+
+given-requires : tie.Need-given-requires
+given-requires c κs = search needs
+
+returns : tie.Need-returns
+unfolding restMoves madeOf validMoves
+returns c = (λ cap hc v. rw (c .before .before .before .before .s .given .1) (over-tally _ _ _ (c .asked .ensures .0 (c .before .before .before .before .before .before .args .lock)) (rw (c .before .before .ask-bus .ensures) at (c .before .step .ensures))), λ cap hc v. c .asked .ensures .1 cap (leb-true _ _ (rw (c .before .before .before .before .s .given .1) at v)))
+
+returns-2 : tie.Need-returns-2
+unfolding restMoves madeOf validMoves
+returns-2 c = (λ cap hc v. rw (c .before .before .before .s2 .given .1) (rw (c .before .read .ensures) at (c .looked .ensures .0 (upto (leb-true _ _ (picked-first _ _ (rw (c .before .before .before .s2 .given .1) at v))) hc))), λ cap hc v. c .looked .ensures .1 cap hc (ltb-true _ _ (picked-second _ _ (rw (c .before .before .before .s2 .given .1) at v))) (leb-true _ _ (picked-first _ _ (rw (c .before .before .before .s2 .given .1) at v))))
+
+returns-3 : tie.Need-returns-3
+unfolding restMoves madeOf validMoves
+returns-3 c = (λ cap hc v. rw (c .before .before .s3 .given .1) (c .grant .ensures .0 (c .before .before .before .before .args .lock)), λ cap hc v. c .grant .ensures .1 cap (less (ltb-true _ _ (picked-second _ _ (rw (c .before .before .s3 .given .1) at v)))) (leb-true _ _ (picked-first _ _ (rw (c .before .before .s3 .given .1) at v))))
+
+returns-4 : tie.Need-returns-4
+unfolding restMoves madeOf validMoves
+returns-4 c = (λ cap hc v. rw (c .before .before .before .s4 .given .1) (over-after _ _ _ (c .inside .ensures .0 (c .before .before .before .before .before .args .lock)) (c .before .step2 .ensures .0 cap hc (rw (c .before .before .before .s4 .given .1) at v))), λ cap hc v. c .inside .ensures .1 cap (c .before .step2 .ensures .1 cap hc (rw (c .before .before .before .s4 .given .1) at v)))
+
+returns-5 : tie.Need-returns-5
+unfolding restMoves madeOf validMoves
+returns-5 c = (λ cap hc v. rw (c .before .before .before .before .s5 .given .1) (over-tally _ _ _ (c .given .ensures .0 (c .before .before .before .before .before .before .args .port) (c .before .before .before .before .before .before .args .r) (c .before .before .before .before .before .before .args .lock)) (rw (c .before .before .give-bus .ensures) at (c .before .step3 .ensures))), λ cap hc v. c .given .ensures .1 cap (c .before .before .before .before .before .before .args .port) (c .before .before .before .before .before .before .args .r) (leb-true _ _ (rw (c .before .before .before .before .s5 .given .1) at v)))
+
+pub step-spec : {M : Type 1} → statement M
+step-spec =
+    tie.close
+    (tie.spec
+    enum-known-s
+    ask-bus-requires
+    step-requires
+    asked-requires
+    enum-known-s-2
+    read-requires
+    looked-requires
+    enum-known-s-3
+    grant-requires
+    enum-known-s-4
+    step-requires-2
+    inside-requires
+    enum-known-s-5
+    give-bus-requires
+    step-requires-3
+    given-requires
+    returns
+    returns-2
+    returns-3
+    returns-4
+    returns-5)

@@ -1,0 +1,48 @@
+-- `after_write` meets its contract.
+use Rattle.hardware.specs.Prog.{tally}
+use Rattle.i2c.proofs.Laws.{write-again, write-done, write-last}
+use Rattle.sync.specs.Lock.{lock}
+use Rattle.sync.specs.Resource.{taken}
+use Rattle.transfer.specs.Attempt.{got}
+use borrow.Author.Needs.{needs}
+use mathlib.Core.Path.{_∙_, ap, sym}
+use native.Mathlib.Omega.{arith}
+use Rattle.i2c.proofs.tries.after_write.Statement.{statement}
+use Rattle.i2c.proofs.tries.after_write.Tie as tie
+
+failed-requires : tie.Need-failed-requires
+failed-requires c κs = search needs
+
+give-back-requires : tie.Need-give-back-requires
+give-back-requires c κs = search needs
+
+returns : tie.Need-returns
+returns c = (λ h w. c .give-back .ensures .0 h ∙ ap (tally (c .before .before .before .before .args .made)) (write-last (c .before .before .before .before .args .port) (c .before .before .before .before .args .r) (c .before .before .before .before .args .lock) (c .before .before .before .before .args .left) (got (c .before .before .before .before .args .g)) w (sym (c .before .before .before .failed .ensures) ∙ c .before .before .if1 .taken) (c .before .if2 .taken)), c .give-back .ensures .1)
+
+sub-begin : tie.Need-sub-begin
+sub-begin c = search needs
+
+begin-requires : tie.Need-begin-requires
+begin-requires c κs = search needs
+
+returns-2 : tie.Need-returns-2
+returns-2 c = (λ h w. c .begin .ensures .0 (c .before .before .before .before .args .port) (c .before .before .before .before .args .r) (c .before .before .before .before .args .lock) (omega (arith, h, c .before .if2 .left)) ∙ ap (tally (c .before .before .before .before .args .made)) (write-again (c .before .before .before .before .args .port) (c .before .before .before .before .args .r) (c .before .before .before .before .args .lock) (c .before .before .before .before .args .left) (got (c .before .before .before .before .args .g)) w (sym (c .before .before .before .failed .ensures) ∙ c .before .before .if1 .taken) (c .before .if2 .left)), λ cap hc h. c .begin .ensures .1 cap (c .before .before .before .before .args .port) (c .before .before .before .before .args .r) hc (omega (arith, h, c .before .if2 .left)))
+
+give-back-requires-2 : tie.Need-give-back-requires-2
+give-back-requires-2 c κs = search needs
+
+returns-3 : tie.Need-returns-3
+returns-3 c = (λ h w. c .give-back2 .ensures .0 h ∙ ap (tally (c .before .before .before .args .made)) (write-done (c .before .before .before .args .port) (c .before .before .before .args .r) (c .before .before .before .args .lock) (c .before .before .before .args .left) (got (c .before .before .before .args .g)) w (sym (c .before .before .failed .ensures) ∙ c .before .if1 .left)), c .give-back2 .ensures .1)
+
+pub after-write-spec : {M : Type 1} → statement M
+after-write-spec =
+    tie.close
+    (tie.spec
+    failed-requires
+    give-back-requires
+    returns
+    sub-begin
+    begin-requires
+    returns-2
+    give-back-requires-2
+    returns-3)

@@ -1,0 +1,45 @@
+-- `give_back` meets its contract.
+use Rattle.acquire.specs.Acquire.{release}
+use Rattle.hardware.specs.Prog.{over-tally, tally}
+use Rattle.hostif.specs.Hostif.{released}
+use Rattle.i2c.proofs.Laws.{when-no, when-yes}
+use Rattle.i2c.specs.I2c.{mask}
+use Rattle.i2c.specs.Tries.{afterRelease, backThen}
+use Rattle.sync.specs.Lock.{lock}
+use Rattle.sync.specs.Resource.{taken}
+use Rattle.transfer.specs.Attempt.{got}
+use borrow.Author.Needs.{needs}
+use mathlib.Core.Path.{_∙_, ap}
+use Rattle.i2c.proofs.tries.give_back.Statement.{statement}
+use Rattle.i2c.proofs.tries.give_back.Tie as tie
+
+mask-requires : tie.Need-mask-requires
+mask-requires c κs = search needs
+
+open-requires : tie.Need-open-requires
+open-requires c κs = search needs
+
+released-requires : tie.Need-released-requires
+released-requires c κs = search needs
+
+returns : tie.Need-returns
+unfolding backThen
+returns c = (λ h. over-tally _ _ _ (c .released .ensures .0 h) (rw (c .before .before .mask .ensures) at (c .before .«open» .ensures .0)) ∙ ap (tally (c .before .before .before .before .args .made)) (when-yes (c .before .before .before .before .args .lock) (release (c .before .before .before .before .args .port) (mask (c .before .before .before .before .args .port))) (afterRelease (c .before .before .before .before .args .port) (c .before .before .before .before .args .r) (c .before .before .before .before .args .lock) (c .before .before .before .before .args .left) (got (c .before .before .before .before .args .g))) (c .before .before .before .if1 .taken)), λ cap hc h. c .released .ensures .1 cap hc h (c .before .«open» .ensures .1))
+
+after-release-requires : tie.Need-after-release-requires
+after-release-requires c κs = search needs
+
+returns-2 : tie.Need-returns-2
+unfolding backThen
+returns-2 c = (λ h. c .after-release .ensures .0 h ∙ ap (tally (c .before .before .args .made)) (when-no (c .before .before .args .lock) (release (c .before .before .args .port) (mask (c .before .before .args .port))) (afterRelease (c .before .before .args .port) (c .before .before .args .r) (c .before .before .args .lock) (c .before .before .args .left) (got (c .before .before .args .g))) (c .before .if1 .left)), c .after-release .ensures .1)
+
+pub give-back-spec : {M : Type 1} → statement M
+give-back-spec =
+    tie.close
+    (tie.spec
+    mask-requires
+    open-requires
+    released-requires
+    returns
+    after-release-requires
+    returns-2)

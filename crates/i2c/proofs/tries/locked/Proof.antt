@@ -1,0 +1,38 @@
+-- `locked` meets its contract.
+use Rattle.acquire.specs.Acquire.{acquire}
+use Rattle.hardware.specs.Prog.{over-tally, tally}
+use Rattle.hostif.specs.Hostif.{acquired}
+use Rattle.i2c.proofs.Laws.{when-no, when-yes}
+use Rattle.i2c.specs.I2c.{mask}
+use Rattle.i2c.specs.Tries.{lockedTry, tryNow}
+use Rattle.sync.specs.Lock.{lock}
+use Rattle.sync.specs.Resource.{taken}
+use borrow.Author.Needs.{needs}
+use mathlib.Core.Path.{_∙_, ap}
+use Rattle.i2c.proofs.tries.locked.Statement.{statement}
+use Rattle.i2c.proofs.tries.locked.Tie as tie
+
+mask-requires : tie.Need-mask-requires
+mask-requires c κs = search needs
+
+open-requires : tie.Need-open-requires
+open-requires c κs = search needs
+
+acquired-requires : tie.Need-acquired-requires
+acquired-requires c κs = search needs
+
+returns : tie.Need-returns
+unfolding lockedTry
+returns c = (λ r h. over-tally _ _ _ (c .acquired .ensures .0 (c .before .before .before .before .args .port) r (c .before .before .before .before .args .lock) h) (rw (c .before .before .mask .ensures) at (c .before .«open» .ensures .0)) ∙ ap (tally (c .before .before .before .before .args .made)) (when-yes (c .before .before .before .before .args .lock) (acquire (c .before .before .before .before .args .port) (mask (c .before .before .before .before .args .port))) (tryNow (c .before .before .before .before .args .port) r (c .before .before .before .before .args .lock) (c .before .before .before .before .args .left)) (c .before .before .before .if1 .taken)), λ cap r hc h. c .acquired .ensures .1 cap (c .before .before .before .before .args .port) r hc h (c .before .«open» .ensures .1))
+
+begin-requires : tie.Need-begin-requires
+begin-requires c κs = search needs
+
+returns-2 : tie.Need-returns-2
+unfolding lockedTry
+returns-2 c = (λ r h. c .begin .ensures .0 (c .before .before .args .port) r (c .before .before .args .lock) h ∙ ap (tally (c .before .before .args .made)) (when-no (c .before .before .args .lock) (acquire (c .before .before .args .port) (mask (c .before .before .args .port))) (tryNow (c .before .before .args .port) r (c .before .before .args .lock) (c .before .before .args .left)) (c .before .if1 .left)), λ cap r hc h. c .begin .ensures .1 cap (c .before .before .args .port) r hc h)
+
+pub locked-spec : {M : Type 1} → statement M
+locked-spec =
+    tie.close
+    (tie.spec mask-requires open-requires acquired-requires returns begin-requires returns-2)

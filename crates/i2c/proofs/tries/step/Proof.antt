@@ -1,0 +1,105 @@
+-- `step` meets its contract.
+use Prim.Native.Nat.{_+_}
+use Rattle.bus.proofs.Laws.{picked-first, picked-second}
+use Rattle.hardware.specs.Prog.{over-tally}
+use Rattle.hardware.specs.Runs.{given}
+use Rattle.hostif.specs.Hostif.{acquired, released}
+use Rattle.i2c.proofs.Laws.{room, strict-room}
+use Rattle.i2c.specs.I2c.{mask}
+use Rattle.i2c.specs.Tries.{restStage, restTries, validStage, validTries}
+use Rattle.sync.specs.Lock.{lock}
+use Rattle.transfer.specs.Attempt.{tried}
+use borrow.Author.Needs.{needs}
+use borrow.Author.Tests.{leb-true, ltb-true}
+use native.Mathlib.Omega.{arith}
+use Rattle.i2c.proofs.tries.step.Statement.{statement}
+use Rattle.i2c.proofs.tries.step.Tie as tie
+
+enum-known-stage : tie.Need-enum-known-stage
+enum-known-stage c = search needs
+
+mask-requires : tie.Need-mask-requires
+mask-requires c κs = search needs
+
+hw-requires : tie.Need-hw-requires
+hw-requires c κs = search needs
+
+step-requires : tie.Need-step-requires
+step-requires c κs = search needs
+
+acquired-requires : tie.Need-acquired-requires
+acquired-requires c κs = search needs
+
+enum-known-stage-2 : tie.Need-enum-known-stage-2
+enum-known-stage-2 c = search needs
+
+layout-of-requires : tie.Need-layout-of-requires
+layout-of-requires c κs = search needs
+
+step-requires-2 : tie.Need-step-requires-2
+step-requires-2 c κs = search needs
+
+tried-requires : tie.Need-tried-requires
+tried-requires c κs = search needs
+
+enum-known-stage-3 : tie.Need-enum-known-stage-3
+enum-known-stage-3 c = search needs
+
+mask-requires-2 : tie.Need-mask-requires-2
+mask-requires-2 c κs = search needs
+
+hw-requires-2 : tie.Need-hw-requires-2
+hw-requires-2 c κs = search needs
+
+step-requires-3 : tie.Need-step-requires-3
+step-requires-3 c κs = search needs
+
+released-requires : tie.Need-released-requires
+released-requires c κs = search needs
+
+enum-told : tie.Need-enum-told
+enum-told c = search needs
+
+again-requires : tie.Need-again-requires
+again-requires c κs = search needs
+
+returns : tie.Need-returns
+unfolding restTries restStage validTries validStage
+returns c = (λ cap hc v. rw (c .before .before .before .before .before .stage .given .1) (over-tally _ _ _ (c .acquired .ensures .0 (c .before .before .before .before .before .before .before .args .port) (c .before .before .before .before .before .before .before .args .r) (c .before .before .before .before .before .before .before .args .lock) (strict-room cap (c .before .before .before .before .before .before .before .args .s .made) (c .before .before .before .before .before .before .before .args .s .left) _ hc (rw (c .before .before .before .before .before .stage .given .1) at v))) (rw (c .before .before .hw .ensures, c .before .before .before .mask .ensures) at (c .before .step .ensures .0))), λ cap hc v. c .acquired .ensures .1 cap (c .before .before .before .before .before .before .before .args .port) (c .before .before .before .before .before .before .before .args .r) hc (ltb-true _ _ (picked-first _ _ (rw (c .before .before .before .before .before .stage .given .1) at v))) (c .before .step .ensures .1 (picked-second _ _ (rw (c .before .before .before .before .before .stage .given .1) at v))))
+
+returns-2 : tie.Need-returns-2
+unfolding restTries restStage validTries validStage
+returns-2 c = (λ cap hc v. rw (c .before .before .before .before .stage2 .given .1) (over-tally _ _ _ (c .tried .ensures .0 (room cap (c .before .before .before .before .before .before .args .s .made) (c .before .before .before .before .before .before .args .s .left) _ hc (rw (c .before .before .before .before .stage2 .given .1) at v))) (rw (c .before .before .layout-of .ensures) at (c .before .step2 .ensures .0))), λ cap hc v. c .tried .ensures .1 cap hc (leb-true _ _ (picked-first _ _ (rw (c .before .before .before .before .stage2 .given .1) at v))) ((rw (c .before .before .layout-of .ensures) at (c .before .step2 .ensures .1)) (picked-second _ _ (rw (c .before .before .before .before .stage2 .given .1) at v))))
+
+returns-3 : tie.Need-returns-3
+unfolding restTries restStage validTries validStage
+returns-3 c = (λ cap hc v. rw (c .before .before .before .before .before .stage3 .given .1) (over-tally _ _ _ (c .released .ensures .0 (room cap (c .before .before .before .before .before .before .before .args .s .made) (c .before .before .before .before .before .before .before .args .s .left) _ hc (rw (c .before .before .before .before .before .stage3 .given .1) at v))) (rw (c .before .before .hw2 .ensures, c .before .before .before .mask2 .ensures) at (c .before .step3 .ensures .0))), λ cap hc v. c .released .ensures .1 cap hc (leb-true _ _ (picked-first _ _ (rw (c .before .before .before .before .before .stage3 .given .1) at v))) (c .before .step3 .ensures .1 (picked-second _ _ (rw (c .before .before .before .before .before .stage3 .given .1) at v))))
+
+returns-4 : tie.Need-returns-4
+unfolding restTries restStage validTries validStage
+returns-4 c = (λ cap hc v. rw (c .before .enum-told .given .1) (c .again .ensures .0 (omega (arith, hc, leb-true ((c .before .before .before .args .s .made) + (c .before .before .before .args .s .left)) cap (rw (c .before .enum-told .given .1) at v)))), λ cap hc v. c .again .ensures .1 cap hc (leb-true ((c .before .before .before .args .s .made) + (c .before .before .before .args .s .left)) cap (rw (c .before .enum-told .given .1) at v)))
+
+pub step-spec : {M : Type 1} → statement M
+step-spec =
+    tie.close
+    (tie.spec
+    enum-known-stage
+    mask-requires
+    hw-requires
+    step-requires
+    acquired-requires
+    enum-known-stage-2
+    layout-of-requires
+    step-requires-2
+    tried-requires
+    enum-known-stage-3
+    mask-requires-2
+    hw-requires-2
+    step-requires-3
+    released-requires
+    enum-told
+    again-requires
+    returns
+    returns-2
+    returns-3
+    returns-4)

@@ -1,0 +1,4 @@
+pub mod I2c
+pub mod Tries
+pub mod Moves
+pub mod Calls

@@ -1,0 +1,118 @@
+-- How many answers of the awaited kinds bring commands, transfers and attempts to their end, for every layout, device
+-- and control word. The numbers are accesses.
+use Prim.Native.Nat.{ℕ, _+_, _*_}
+use mathlib.Core.Path.{_≡_, refl}
+use mathlib.Core.List.{List, [], _∷_}
+use lib.ListN.{length}
+use native.Mathlib.Omega.{arith}
+use Rattle.hardware.specs.Prog.{Prog, ret, ask, note, give, R, Ok, Err, erase, tally}
+use Rattle.hardware.specs.Runs.{Ends}
+use Rattle.hardware.proofs.Ends.{ends-more, ends-bind, ends-try, ends-pick, ends-erase, ends-tally, ret-ends, note-ends, readRaw-ends}
+use Rattle.bus.specs.declared.Layout.{Layout}
+use Rattle.bus.specs.declared.Taken.{Taken}
+use Rattle.bus.specs.declared.command.Command.{Command}
+use Rattle.bus.specs.declared.command.Command.the-variants.{Start, Send, Read, Stop, Free}
+use Rattle.bus.specs.Bus.{Bus}
+use Rattle.bus.proofs.Ends.{EndsBus, bus-more, done-ends, SEND-STEPS, CLEAR-STEPS, start-ends, send-ends, in-byte-ends, out-bit-ends, stop-ends, free-ends, clear-ends}
+use Rattle.transfer.specs.declared.attempt.Sequence.{Sequence}
+use Rattle.transfer.specs.declared.attempt.Sequence.the-variants.{Pulses}
+use Rattle.transfer.specs.Transfer.{Mode, loud, silent, tells, did, tookBy, handed, transfer}
+use Rattle.transfer.specs.Attempt.{clearing, orCleared, cleared, orTried, tried, begun, attempting, attempt}
+
+-- the longest command sends a byte
+abbrev pub COMMAND-STEPS : ℕ
+COMMAND-STEPS = SEND-STEPS
+
+-- I2CCTL read, n accesses on the bus, and the clearing after a failure
+abbrev pub ATTEMPT-STEPS : ℕ → ℕ
+ATTEMPT-STEPS n = 1 + n + CLEAR-STEPS
+
+pub command-steps : COMMAND-STEPS ≡ 18116
+command-steps = refl
+
+pub attempt-steps : (count : ℕ) → ATTEMPT-STEPS (COMMAND-STEPS * count) ≡ 18116 * count + 24094
+attempt-steps count = omega arith
+
+-- a byte given out takes no answer
+pub ends-tells : {A : Type 0} (m : Mode) (b : ℕ) (p : Prog A) (n : ℕ) → Ends p n → Ends (tells m b p) n
+unfolding Ends tells
+ends-tells silent b p n e = e
+ends-tells loud b (ret v) n e = e
+ends-tells loud b (ask x f) n e = e
+ends-tells loud b (note k p) n e = ends-tells loud b p n e
+ends-tells loud b (give d p) n e = e
+
+pub command-ends : (l : Layout) (device : ℕ) (c : Command) (k : ℕ → Bus) (n : ℕ) → ((b : ℕ) → EndsBus (k b) n)
+    → EndsBus (did l device c k) (COMMAND-STEPS + n)
+unfolding did
+command-ends l device Start k n e = bus-more _ _ (COMMAND-STEPS + n) (start-ends l (k 0) n (e 0)) (omega arith)
+command-ends l device (Send value) k n e = send-ends l device value (k 0) n (e 0)
+command-ends l device (Read high) k n e =
+    bus-more _ _ (COMMAND-STEPS + n) (in-byte-ends l _ _ (λ value. out-bit-ends l high (k value) n (e value))) (omega arith)
+command-ends l device Stop k n e = bus-more _ _ (COMMAND-STEPS + n) (stop-ends l (k 0) n (e 0)) (omega arith)
+command-ends l device Free k n e = bus-more _ _ (COMMAND-STEPS + n) (free-ends l (k 0) n (e 0)) (omega arith)
+
+handed-ends : (m : Mode) (c : Command) (b : ℕ) (k : Bus) (n : ℕ) → EndsBus k n → EndsBus (handed m c b k) n
+unfolding handed
+handed-ends m c b k n e ctl = ends-pick _ _ _ n (ends-tells m b (k ctl) n (e ctl)) (e ctl)
+
+pub transfer-ends : (m : Mode) (l : Layout) (device : ℕ) (cs : List Command) (t : Taken) → EndsBus (transfer m l device cs t) (COMMAND-STEPS * length cs)
+unfolding transfer
+transfer-ends m l device [] t = done-ends t _
+transfer-ends m l device (c ∷ cs) t =
+    bus-more _ _ (COMMAND-STEPS * length (c ∷ cs))
+    (command-ends l device c _ (COMMAND-STEPS * length cs) (λ b. handed-ends m c b _ _ (transfer-ends m l device cs (tookBy c t b))))
+    (omega arith)
+
+clearing-ends : (q : Sequence) (l : Layout) → EndsBus (clearing q l) CLEAR-STEPS
+unfolding clearing
+clearing-ends Pulses l = clear-ends l
+
+or-cleared-ends : (device : ℕ) (r : R Taken) → Ends (orCleared device r) 0
+unfolding orCleared
+or-cleared-ends device (Ok t) = ret-ends _ 0
+or-cleared-ends device (Err e) = ret-ends _ 0
+
+or-tried-ends : (q : Sequence) (l : Layout) (device ctl : ℕ) (r : R Taken) → Ends (orTried q l device ctl r) CLEAR-STEPS
+unfolding orTried cleared
+or-tried-ends q l device ctl (Ok t) = ret-ends _ CLEAR-STEPS
+or-tried-ends q l device ctl (Err e) =
+    ends-pick _ _ _ CLEAR-STEPS (ends-bind _ _ CLEAR-STEPS 0 (clearing-ends q l ctl) (λ h. or-cleared-ends device (h .out))) (ret-ends _ CLEAR-STEPS)
+
+-- n: the accesses of what the attempt does on the bus
+begun-ends : (q : Sequence) (l : Layout) (device : ℕ) (f : Bus) (n : ℕ) → EndsBus f n → (ctl : ℕ) → Ends (begun q l device f ctl) (n + CLEAR-STEPS)
+unfolding begun tried
+begun-ends q l device f n e ctl = ends-bind _ _ n CLEAR-STEPS (e ctl) (λ h. or-tried-ends q l device (h .ctl) (h .out))
+
+pub attempt-ends : (q : Sequence) (l : Layout) (device : ℕ) (f : Bus) (n : ℕ) → EndsBus f n → Ends (attempt q l device f) (ATTEMPT-STEPS n)
+unfolding attempt attempting
+attempt-ends q l device f n e =
+    ends-more _ (1 + (n + CLEAR-STEPS)) (ATTEMPT-STEPS n)
+    (note-ends _ _ _ (ends-try _ _ 1 (n + CLEAR-STEPS) (readRaw-ends _) (begun-ends q l device f n e)))
+    (omega arith)
+
+-- an attempt at a list of commands
+pub commands-ends : (m : Mode) (q : Sequence) (l : Layout) (device : ℕ) (cs : List Command) (t : Taken)
+    → Ends (attempt q l device (transfer m l device cs t)) (ATTEMPT-STEPS (COMMAND-STEPS * length cs))
+commands-ends m q l device cs t = attempt-ends q l device _ (COMMAND-STEPS * length cs) (transfer-ends m l device cs t)
+
+-- as the host sees them
+pub command-erased-ends : (l : Layout) (device : ℕ) (c : Command) (k : ℕ → Bus) (n : ℕ) → ((b : ℕ) → EndsBus (k b) n)
+    → (ctl : ℕ) → Ends (erase (did l device c k ctl)) (COMMAND-STEPS + n)
+command-erased-ends l device c k n e ctl = ends-erase _ _ (command-ends l device c k n e ctl)
+
+pub transfer-erased-ends : (m : Mode) (l : Layout) (device : ℕ) (cs : List Command) (t : Taken) (ctl : ℕ)
+    → Ends (erase (transfer m l device cs t ctl)) (COMMAND-STEPS * length cs)
+transfer-erased-ends m l device cs t ctl = ends-erase _ _ (transfer-ends m l device cs t ctl)
+
+pub attempt-erased-ends : (q : Sequence) (l : Layout) (device : ℕ) (f : Bus) (n : ℕ) → EndsBus f n → Ends (erase (attempt q l device f)) (ATTEMPT-STEPS n)
+attempt-erased-ends q l device f n e = ends-erase _ _ (attempt-ends q l device f n e)
+
+pub commands-erased-ends : (m : Mode) (q : Sequence) (l : Layout) (device : ℕ) (cs : List Command) (t : Taken)
+    → Ends (erase (attempt q l device (transfer m l device cs t))) (ATTEMPT-STEPS (COMMAND-STEPS * length cs))
+commands-erased-ends m q l device cs t = ends-erase _ _ (commands-ends m q l device cs t)
+
+-- with the count of attempts beside the result
+pub attempt-counted-ends : (transfers : ℕ) (q : Sequence) (l : Layout) (device : ℕ) (f : Bus) (n : ℕ) → EndsBus f n
+    → Ends (tally transfers (attempt q l device f)) (ATTEMPT-STEPS n)
+attempt-counted-ends transfers q l device f n e = ends-tally transfers _ _ (attempt-ends q l device f n e)

@@ -1,0 +1,94 @@
+-- Whole calls of a script: for every port and script that is accepted and every list of answers the library's run is the
+-- Rust's, with the count of transfers, and every list of answers of the awaited kinds that is long enough brings it to its
+-- end. A state that was handed out is not refused at its next step.
+use Prim.Native.Nat.{ℕ, _+_, _*_, _≤_, suc}
+use mathlib.Core.Path.{_≡_, refl, ap, _∙_}
+use mathlib.Core.Bool.{Bool, true, false}
+use mathlib.Core.List.{List}
+use native.Mathlib.Omega.{arith}
+use lib.Dec.{eqb}
+use lib.ListN.{length}
+use Rattle.hardware.specs.declared.Access.{Access}
+use Rattle.hardware.specs.declared.Answer.{Answer}
+use Rattle.hardware.specs.declared.Port.{Port}
+use Rattle.hardware.specs.Asked.{Asked, no, yes, andThen, question, openPort, fits}
+use Rattle.hardware.specs.Prog.{Prog, R, tally, _>>=_}
+use Rattle.hardware.specs.Runs.{run, ran, Ends, Awaited, ended, transfersIn, counted}
+use Rattle.hardware.proofs.Laws.{run-counted}
+use Rattle.hardware.proofs.Ends.{ends-more, ends-bind, ret-ends, run-ends}
+use Rattle.bus.specs.declared.Taken.{Taken}
+use Rattle.bus.proofs.Noteless.{Noteless, ret-noteless, bind-noteless, transfers-none}
+use Rattle.script.specs.Script.{commands, device, judged}
+use Rattle.script.proofs.Laws.{accepted, fits-length, commands-length}
+use Rattle.bus.specs.Bus.{none}
+use Rattle.bus.specs.Layout.{layoutOf}
+use Rattle.transfer.specs.declared.attempt.Attempt.{Attempt}
+use Rattle.transfer.specs.declared.attempt.Sequence.the-variants.{Pulses}
+use Rattle.transfer.specs.declared.calls.ScriptCall.the-variants.{Going}
+use Rattle.transfer.specs.declared.calls.ScriptTold.{ScriptTold}
+use Rattle.transfer.specs.declared.calls.ScriptTold.the-variants.{Ask, Read}
+use Rattle.transfer.specs.Transfer.{loud}
+use Rattle.transfer.specs.Attempt.{attempt}
+use Rattle.transfer.specs.Calls.{dropped, script, restScript, judgedThen, openScript, steppedScript, stepScript, saidScript, standsScript}
+use Rattle.transfer.proofs.Laws.{judged-yes}
+use Rattle.transfer.proofs.Ends.{COMMAND-STEPS, ATTEMPT-STEPS, attempt-steps, commands-ends}
+use Rattle.transfer.proofs.Noteless.{transfer-noteless, attempting-noteless}
+
+dropped-noteless : (r : R Taken) → Noteless (dropped r)
+unfolding dropped
+dropped-noteless r = ret-noteless _
+
+-- a call that is opened is run over the answers
+ran-question : {A : Type 0} (b : Bool) (n : ℕ) (p : Prog A) (l : List Answer) → ran (question b n (yes p)) l ≡ question b n (yes (run p l))
+unfolding ran question
+ran-question true n p l = refl
+ran-question false n p l = refl
+
+ran-opened : (o : Asked Port) (s : List ℕ) (l : List Answer)
+    → ran (andThen o (λ port. judgedThen s (yes (tally 0 (script port s))))) l ≡ andThen o (λ port. judgedThen s (yes (counted (transfersIn (script port s) l) (run (script port s) l))))
+unfolding ran andThen judgedThen
+ran-opened (no n) s l = refl
+ran-opened (yes port) s l = ran-question _ _ _ l ∙ ap (λ r. question (eqb (judged s) 0) (judged s) (yes r)) (run-counted (script port s) l)
+
+pub script-runs : (family device lan : ℕ) (s : List ℕ) (r : ScriptTold) → saidScript r s ≡ openScript family device lan s → (l : List Answer)
+    → ran (saidScript r s) l ≡ andThen (openPort family device lan) (λ port. judgedThen s (yes (counted (transfersIn (script port s) l) (run (script port s) l))))
+unfolding openScript
+script-runs family device lan s r e l = ap (λ x. ran x l) e ∙ ran-opened (openPort family device lan) s l
+
+-- one transfer is begun, in the run's first step, whether it fails or not
+pub script-count : (port : Port) (s : List ℕ) (l : List Answer) → transfersIn (script port s) l ≡ 1
+unfolding script attempt _>>=_ transfersIn
+script-count port s l =
+    ap suc (transfers-none _ l (bind-noteless _ dropped (attempting-noteless Pulses (layoutOf (port .family)) (device s) _ (transfer-noteless loud (layoutOf (port .family)) (device s) (commands s) none)) dropped-noteless))
+
+-- a script has at most 64 commands
+abbrev pub SCRIPT-STEPS : ℕ
+SCRIPT-STEPS = ATTEMPT-STEPS (COMMAND-STEPS * 64)
+
+pub script-steps : SCRIPT-STEPS ≡ 1183518
+script-steps = attempt-steps 64
+
+script-length : (s : List ℕ) → judged s ≡ 0 → length (commands s) ≤ 64
+script-length s h = omega (arith, commands-length s, fits-length s (accepted s h .0) .1)
+
+pub script-ends : (port : Port) (s : List ℕ) → judged s ≡ 0 → Ends (script port s) SCRIPT-STEPS
+unfolding script dropped
+script-ends port s h =
+    ends-more _ (ATTEMPT-STEPS (COMMAND-STEPS * length (commands s)) + 0) SCRIPT-STEPS
+    (ends-bind _ _ (ATTEMPT-STEPS (COMMAND-STEPS * length (commands s))) 0 (commands-ends loud Pulses (layoutOf (port .family)) (device s) (commands s) none) (λ r. ret-ends _ 0))
+    (omega (arith, script-length s h))
+
+pub script-finishes : (port : Port) (s : List ℕ) (l : List Answer) → judged s ≡ 0 → SCRIPT-STEPS ≤ length l → Awaited (script port s) l
+    → (v : R (Unit {0})) × ((run (script port s) l) .stand ≡ ended v)
+script-finishes port s l h n w = run-ends (script port s) SCRIPT-STEPS l (script-ends port s h) n w
+
+-- a state that was handed out, with the script and any answer of the kind that its access awaits, is not refused
+pub script-accepts : (x : Access) (port : Port) (t : Attempt) (s : List ℕ) (a : Answer) → standsScript (Ask x (Going port t)) s
+    → judged s ≡ 0 → fits x a ≡ true → stepScript (Going port t) s a ≡ yes (tally 1 (restScript port s t a))
+unfolding standsScript stepScript steppedScript question
+script-accepts x port t s a h j e = judged-yes s _ j ∙ (rw (h .1, h .2, ← h .0, e))
+
+pub script-read-accepts : (b : ℕ) (x : Access) (port : Port) (t : Attempt) (s : List ℕ) (a : Answer) → standsScript (Read b x (Going port t)) s
+    → judged s ≡ 0 → fits x a ≡ true → stepScript (Going port t) s a ≡ yes (tally 1 (restScript port s t a))
+unfolding standsScript stepScript steppedScript question
+script-read-accepts b x port t s a h j e = judged-yes s _ j ∙ (rw (h .1, h .2, ← h .0, e))

@@ -1,0 +1,58 @@
+-- `told` meets its contract.
+use Rattle.hardware.specs.Asked.{yes}
+use Rattle.hardware.specs.Prog.{_>>=_, erase, followed, going-tally, tally}
+use Rattle.transfer.proofs.Laws.{told-tally}
+use Rattle.transfer.specs.Attempt.{attemptNext, awaiting, validAttemptNext}
+use Rattle.transfer.specs.Calls.{dropped, restScript, saidScript, standsScript}
+use borrow.Author.Needs.{needs}
+use mathlib.Core.Path.{ap}
+use Rattle.transfer.proofs.calls.told.Statement.{statement}
+use Rattle.transfer.proofs.calls.told.Tie as tie
+
+layout-of-requires : tie.Need-layout-of-requires
+layout-of-requires c κs = search needs
+
+enum-known-n : tie.Need-enum-known-n
+enum-known-n c = search needs
+
+access-requires : tie.Need-access-requires
+access-requires c κs = search needs
+
+enum-known-n-2 : tie.Need-enum-known-n-2
+enum-known-n-2 c = search needs
+
+access-requires-2 : tie.Need-access-requires-2
+access-requires-2 c κs = search needs
+
+enum-known-n-3 : tie.Need-enum-known-n-3
+enum-known-n-3 c = search needs
+
+outcome-of-requires : tie.Need-outcome-of-requires
+outcome-of-requires c κs = search needs
+
+returns : tie.Need-returns
+unfolding saidScript restScript attemptNext awaiting standsScript validAttemptNext
+returns c = (λ s. rw (c .before .before .n .given .1, (rw (c .before .before .before .before .layout-of .ensures) at (c .access .ensures))) (ap yes (going-tally 1 _ _ _)), λ s p h. ((rw (c .before .before .before .before .layout-of .ensures) at (c .access .ensures)), p, rw (c .before .before .n .given .1) at h))
+
+returns-2 : tie.Need-returns-2
+unfolding saidScript restScript attemptNext awaiting standsScript validAttemptNext
+returns-2 c = (λ s. rw (c .before .before .n2 .given .1, (rw (c .before .before .before .before .layout-of .ensures) at (c .access2 .ensures))) (ap yes (told-tally 1 _ _ _ _)), λ s p h. ((rw (c .before .before .before .before .layout-of .ensures) at (c .access2 .ensures)), p, rw (c .before .before .n2 .given .1) at h))
+
+returns-3 : tie.Need-returns-3
+unfolding saidScript attemptNext followed _>>=_ erase dropped tally standsScript
+returns-3 c = (λ s. rw (c .before .before .n3 .given .1, c .outcome-of .ensures), λ s p h. tt)
+
+pub told-spec : {M : Type 1} → statement M
+told-spec =
+    tie.close
+    (tie.spec
+    layout-of-requires
+    enum-known-n
+    access-requires
+    enum-known-n-2
+    access-requires-2
+    enum-known-n-3
+    outcome-of-requires
+    returns
+    returns-2
+    returns-3)

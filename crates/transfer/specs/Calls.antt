@@ -1,0 +1,83 @@
+-- What the call of a script yields: a refusal by its number, or what is left of the call. Its result has the count of
+-- transfers beside it.
+use Prim.Native.Nat.{ℕ}
+use mathlib.Core.Path.{_≡_}
+use mathlib.Core.Bool.{true}
+use mathlib.Core.List.{List}
+use lib.Dec.{eqb}
+use Rattle.hardware.specs.declared.Answer.{Answer}
+use Rattle.hardware.specs.declared.Port.{Port}
+use Rattle.hardware.specs.Asked.{Asked, yes, no, question, andThen, openPort, validPort, fits}
+use Rattle.hardware.specs.Numbers.{refusalNumber}
+use Rattle.hardware.specs.Prog.{Prog, ret, ask, give, R, Ok, Err, _>>=_, Counted, tally}
+use Rattle.hardware.specs.Registers.{outcome}
+use Rattle.bus.specs.declared.Taken.{Taken}
+use Rattle.bus.specs.Bus.{none}
+use Rattle.bus.specs.Layout.{layoutOf}
+use Rattle.script.specs.Script.{commands, device, judged}
+use Rattle.transfer.specs.declared.attempt.Attempt.{Attempt}
+use Rattle.transfer.specs.declared.attempt.Sequence.the-variants.{Pulses}
+use Rattle.transfer.specs.declared.calls.ScriptCall.{ScriptCall}
+use Rattle.transfer.specs.declared.calls.ScriptCall.the-variants.{Going, Over}
+use Rattle.transfer.specs.declared.calls.ScriptTold.{ScriptTold}
+use Rattle.transfer.specs.declared.calls.ScriptTold.the-variants.{Ask, Read, End, Refused}
+use Rattle.transfer.specs.Transfer.{loud, transfer}
+use Rattle.transfer.specs.Attempt.{attempt, accessAttempt, restAttempt, validAttempt}
+
+-- the result of a script has no bytes, they were handed out
+unfoldable pub without : R Taken → R (Unit {0})
+without (Ok t) = Ok tt
+without (Err e) = Err e
+
+unfoldable pub dropped : R Taken → Prog (R (Unit {0}))
+dropped r = ret (without r)
+
+-- a script runs once: `attempt` over the `Bus` calls of its commands, for the device of its first address
+unfoldable pub script : Port → List ℕ → Prog (R (Unit {0}))
+script port s =
+    attempt Pulses (layoutOf (port .family)) (device s) (transfer loud (layoutOf (port .family)) (device s) (commands s) none) >>= dropped
+
+-- what is left of it once the answer to a state's access is there
+unfoldable pub restScript : Port → List ℕ → Attempt → Answer → Prog (R (Unit {0}))
+restScript port s t a = restAttempt loud Pulses (layoutOf (port .family)) (device s) s t a >>= dropped
+
+-- the questions 5, 6 and 7 about the script, and what comes after
+unfoldable pub judgedThen : {A : Type 0} → List ℕ → Asked A → Asked A
+judgedThen s k = question (eqb (judged s) 0) (judged s) k
+
+-- 1 and 2, then 5 to 7
+unfoldable pub openScript : ℕ → ℕ → ℕ → List ℕ → Asked (Prog (Counted (R (Unit {0}))))
+openScript family device lan s = andThen (openPort family device lan) (λ port. judgedThen s (yes (tally 0 (script port s))))
+
+-- 10, 11, 12. The finished state is well formed
+unfoldable pub steppedScript : ScriptCall → List ℕ → Answer → Asked (Prog (Counted (R (Unit {0}))))
+steppedScript (Going port t) s a =
+    question (validPort port) 10
+    (question (validAttempt (layoutOf (port .family)) s t) 10
+    (question (fits (accessAttempt (layoutOf (port .family)) t) a) 12 (yes (tally 1 (restScript port s t a)))))
+steppedScript Over s a = no 11
+
+-- a step: 5 to 7 again, of the script that is lent now
+unfoldable pub stepScript : ScriptCall → List ℕ → Answer → Asked (Prog (Counted (R (Unit {0}))))
+stepScript c s a = judgedThen s (steppedScript c s a)
+
+-- what was told, where the script s is lent on
+unfoldable pub saidScript : ScriptTold → List ℕ → Asked (Prog (Counted (R (Unit {0}))))
+saidScript (Ask x (Going port t)) s = yes (ask x (λ a. tally 1 (restScript port s t a)))
+saidScript (Ask x Over) s = no 0
+saidScript (Read b x (Going port t)) s = yes (give b (ask x (λ a. tally 1 (restScript port s t a))))
+saidScript (Read b x Over) s = no 0
+saidScript (End o n Over) s = yes (ret (record { transfers = n; result = outcome o }))
+saidScript (End o n (Going port t)) s = no 0
+saidScript (Refused q) s = no (refusalNumber q)
+
+-- a state to go on from comes with the access it awaits, and passes question 10 with the script s
+unfoldable pub standsScript : ScriptTold → List ℕ → Type 0
+standsScript (Ask x (Going port t)) s =
+    (x ≡ accessAttempt (layoutOf (port .family)) t) × (validPort port ≡ true) × (validAttempt (layoutOf (port .family)) s t ≡ true)
+standsScript (Ask x Over) s = ⊥
+standsScript (Read b x (Going port t)) s =
+    (x ≡ accessAttempt (layoutOf (port .family)) t) × (validPort port ≡ true) × (validAttempt (layoutOf (port .family)) s t ≡ true)
+standsScript (Read b x Over) s = ⊥
+standsScript (End o n c) s = Unit {0}
+standsScript (Refused q) s = Unit {0}

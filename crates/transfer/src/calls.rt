@@ -1,0 +1,115 @@
+// The stepwise call of a script: one attempt, without lock or handshake. The script is lent at the opening and at every
+// step.
+use crate::attempt::Attempt;
+use crate::attempt::AttemptNext;
+use crate::attempt::Got;
+use crate::attempt::Sequence;
+use hardware::Access;
+use hardware::Answer;
+use hardware::Opening;
+use hardware::Outcome;
+use hardware::Port;
+use hardware::Refusal;
+use script::cursor::Judged;
+ghost use Prim.Native.Nat.{ℕ};
+ghost use mathlib.Core.Path.{_≡_};
+ghost use mathlib.Core.Bool.{true};
+ghost use mathlib.Core.List.{List};
+ghost use Rattle.hardware.specs.Asked.{yes, validPort};
+ghost use Rattle.hardware.specs.Prog.{tally, followed};
+ghost use Rattle.hardware.specs.Registers.{outcome};
+ghost use Rattle.bus.specs.Layout.{layoutOf};
+ghost use Rattle.script.specs.Script.{device, onCommand};
+ghost use Rattle.transfer.specs.declared.attempt.Sequence.the-variants.{Pulses};
+ghost use Rattle.transfer.specs.Transfer.{loud};
+ghost use Rattle.transfer.specs.Attempt.{got, attemptNext, validAttemptNext};
+ghost use Rattle.transfer.specs.Calls.{without, dropped, openScript, steppedScript, stepScript, saidScript, standsScript};
+
+pub enum ScriptCall {
+    Going(Port, Attempt),
+    Over,
+}
+
+// Read: a byte that was read is handed out with the next access. End: the result, and the count of transfers.
+pub enum ScriptTold {
+    Ask(Access, ScriptCall),
+    Read(u8, Access, ScriptCall),
+    End(Outcome, u32, ScriptCall),
+    Refused(Refusal),
+}
+
+fn outcome_of(g: Got) -> Outcome
+    ensures { λ r. ⌜ outcome r ≡ without (got g) ⌝ }
+{
+    match g {
+        Got::Ok(_) => Outcome::Ok,
+        Got::Err(e) => Outcome::Err(e),
+    }
+}
+
+fn told(port: Port, n: AttemptNext) -> ScriptTold
+    ensures { λ r. ⌜ ((s : List ℕ) → saidScript r s ≡ yes (tally 1 (followed (attemptNext loud Pulses (layoutOf (port .family)) (device s) s n) dropped))) ⌝ }
+    ensures { λ r. ⌜ ((s : List ℕ) → validPort port ≡ true → validAttemptNext (layoutOf (port .family)) s n ≡ true → standsScript r s) ⌝ }
+{
+    let family = port.family;
+    let l = bus::layout_of(family);
+    match n {
+        AttemptNext::Going(t) => ScriptTold::Ask(
+            crate::attempt::access(l, t),
+            ScriptCall::Going(port, t),
+        ),
+        AttemptNext::Read(b, t) => ScriptTold::Read(
+            b,
+            crate::attempt::access(l, t),
+            ScriptCall::Going(port, t),
+        ),
+        AttemptNext::End(g) => ScriptTold::End(outcome_of(g), 1, ScriptCall::Over),
+    }
+}
+
+pub fn script_open(family: u32, device: u16, lan: u32, script: &[u8]) -> ScriptTold
+    ensures { λ r. ⌜ saidScript r (now (script .entry)) ≡ openScript family device lan (now (script .entry)) ⌝ }
+    ensures { λ r. ⌜ standsScript r (now (script .entry)) ⌝ }
+{
+    match hardware::open_port(family, device, lan) {
+        Opening::Port(p) => match script::cursor::judge(script) {
+            Judged::Accepted => told(p, AttemptNext::Going(Attempt::New)),
+            Judged::Refused(q) => ScriptTold::Refused(q),
+        },
+        Opening::Refused(q) => ScriptTold::Refused(q),
+    }
+}
+
+fn script_on(port: Port, t: Attempt, script: &[u8], a: Answer) -> ScriptTold
+    ensures { λ r. ⌜ saidScript r (now (script .entry)) ≡ steppedScript (ScriptCall.Going port t) (now (script .entry)) a ⌝ }
+    ensures { λ r. ⌜ (onCommand (now (script .entry)) 0 ≡ true → standsScript r (now (script .entry))) ⌝ }
+{
+    if hardware::valid_port(port) {
+        let family = port.family;
+        let l = bus::layout_of(family);
+        if crate::attempt::valid(l, script, t) {
+            if hardware::awaited(crate::attempt::access(l, t), a) {
+                let device = script::cursor::device(script);
+                return told(
+                    port,
+                    crate::attempt::step(Sequence::Pulses, l, device, script, t, a),
+                );
+            }
+            return ScriptTold::Refused(Refusal::Kind);
+        }
+    }
+    ScriptTold::Refused(Refusal::State)
+}
+
+pub fn script_step(s: ScriptCall, script: &[u8], a: Answer) -> ScriptTold
+    ensures { λ r. ⌜ saidScript r (now (script .entry)) ≡ stepScript s (now (script .entry)) a ⌝ }
+    ensures { λ r. ⌜ standsScript r (now (script .entry)) ⌝ }
+{
+    match script::cursor::judge(script) {
+        Judged::Accepted => match s {
+            ScriptCall::Going(port, t) => script_on(port, t, script, a),
+            ScriptCall::Over => ScriptTold::Refused(Refusal::Finished),
+        },
+        Judged::Refused(q) => ScriptTold::Refused(q),
+    }
+}

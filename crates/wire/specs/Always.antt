@@ -1,0 +1,119 @@
+-- What holds of a whole call on the lines, whatever the other registers answer.
+use Prim.Native.Nat.{ℕ}
+use mathlib.Core.Path.{_≡_}
+use mathlib.Core.Bool.{Bool, true, false}
+use mathlib.Core.List.{List, [], _∷_, _++_}
+use lib.Dec.{eqb}
+use Rattle.hardware.specs.declared.Access.{Access}
+use Rattle.hardware.specs.declared.Access.the-variants.{Read, Write, Wait}
+use Rattle.hardware.specs.declared.Answer.{Answer}
+use Rattle.hardware.specs.declared.Answer.the-variants.{Value, Done}
+use Rattle.hardware.specs.Prog.{Prog, ret, ask, note, give, Note, Attempt, Acquired, Released, Lapsed, Ok}
+use Rattle.bus.specs.declared.Layout.{Layout}
+use Rattle.bus.specs.declared.Taken.{Taken}
+use Rattle.bus.specs.Bus.{Held, Bus}
+use Rattle.wire.specs.Lines.{Pulls, drawn, OneMoves, Edge, START, STOP, Bit, master, levels, edge, inputs, Rests, Known}
+
+-- The other side: its state, the lines that it then pulls, what an edge or a note of the call makes of it. Beside it
+-- stands what a register other than I2CCTL may answer
+pub record Side : Type 1 where
+  pub State : Type 0
+  pub pulls : State → Pulls
+  pub takes : Edge → State → State
+  pub notes : Note → State → State
+  pub may : ℕ → ℕ → Type 0
+
+-- Nobody pulls more or less than p, and every edge is written down, the newest last
+abbrev pub listener : Pulls → Side
+listener p =
+    record {
+      State = List Edge;
+      pulls = λ es. p;
+      takes = λ e es. es ++ (e ∷ []);
+      notes = λ n es. es;
+      may = λ r v. Unit {0};
+    }
+
+abbrev pub nobody : Pulls
+nobody = drawn false false
+
+-- I2CCTL as last written, and the other side
+pub record World (o : Side) : Type 0 where
+  pub word : ℕ
+  pub other : o .State
+
+unfoldable pub takesAll : (o : Side) → List Edge → o .State → o .State
+takesAll o [] s = s
+takesAll o (e ∷ es) s = takesAll o es (o .takes e s)
+
+-- the other side takes what it sees of a write by which the master's pulls m become n
+unfoldable pub turn : (o : Side) → Pulls → Pulls → o .State → o .State
+turn o m n s = takesAll o (edge (levels m (o .pulls s)) (levels n (o .pulls s))) s
+
+unfoldable pub wrote : (l : Layout) (o : Side) → ℕ → World o → World o
+wrote l o v w = record { word = v; other = turn o (master l (w .word)) (master l v) (w .other) }
+
+unfoldable pub reading : (l : Layout) (o : Side) → World o → ℕ
+reading l o w = inputs l (levels (master l (w .word)) (o .pulls (w .other))) (w .word)
+
+abbrev pub Either : Bool → Type 0 → Type 0 → Type 0
+Either true X Y = X
+Either false X Y = Y
+
+-- I2CCTL is written and read at the lines, and no write moves both; every other access gets an answer of its kind, a
+-- read any value that it may get
+unfoldable pub Answered : (l : Layout) (o : Side) → Access → (Answer → World o → Type 0) → World o → Type 0
+Answered l o (Read r) K w = Either (eqb r (l .reg)) (K (Value (reading l o w)) w) ((v : ℕ) → o .may r v → K (Value v) w)
+Answered l o (Write r v) K w = Either (eqb r (l .reg)) (OneMoves (master l (w .word)) (master l v) × K Done (wrote l o v w)) (K Done w)
+Answered l o (Wait n) K w = K Done w
+
+-- where a lock or a grant runs out there is nothing to show
+abbrev pub Kept : Note → Type 0 → Type 0
+Kept Attempt X = X
+Kept Acquired X = X
+Kept Released X = X
+Kept Lapsed X = Unit {0}
+
+abbrev pub noted : (o : Side) → Note → World o → World o
+noted o n w = record { word = w .word; other = o .notes n (w .other) }
+
+-- the call ends, and then Q holds of its result, I2CCTL and the other side
+unfoldable pub Always : (l : Layout) (o : Side) {A : Type 0} → Prog A → World o → (A → World o → Type 0) → Type 0
+Always l o (ret a) w Q = Q a w
+Always l o (ask x f) w Q = Answered l o x (λ a w′. Always l o (f a) w′ Q) w
+Always l o (note n p) w Q = Kept n (Always l o p (noted o n w) Q)
+Always l o (give b p) w Q = Always l o p w Q
+
+-- what is claimed of the end of a program of line calls
+abbrev pub Claim : Side → Type 1
+Claim o = Held → World o → Type 0
+
+-- So it goes with k, whatever word the driver holds and whatever I2CCTL holds, as long as the master pulls SDA (a) and
+-- SCL (b) or doesn't, and the other side is in state s
+pub record From (l : Layout) (o : Side) (a b : Bool) (s : o .State) (k : Bus) (Q : Claim o) : Type 0 where
+  pub goes : (ctl w : ℕ) → Known l (drawn a b) ctl w → Always l o (k ctl) (record { word = w; other = s }) Q
+
+-- the same before a start, which looks at I2CCTL first and so goes by no word that the driver holds
+pub record FromRest (l : Layout) (o : Side) (a b : Bool) (s : o .State) (k : Bus) (Q : Claim o) : Type 0 where
+  pub goes : (ctl w : ℕ) → Rests l (drawn a b) w → Always l o (k ctl) (record { word = w; other = s }) Q
+
+-- what a start shows before its START, by the master's pulls at its beginning: SCL rises with SDA released, or SDA is
+-- released while SCL is high
+unfoldable pub startLead : Bool → Bool → List Edge
+startLead a true = Bit true ∷ []
+startLead true false = STOP ∷ []
+startLead false false = []
+
+-- what a stop shows before its STOP: SCL rises with SDA pulled, or SDA is pulled while SCL is high
+unfoldable pub stopLead : Bool → Bool → List Edge
+stopLead a true = Bit false ∷ []
+stopLead true false = []
+stopLead false false = START ∷ []
+
+-- a call ended well with the bytes t, the listener wrote down the edges es and no others, and the master's pulls are m
+abbrev pub Ended : (l : Layout) (p : Pulls) → Taken → List Edge → Pulls → Held → World (listener p) → Type 0
+Ended l p t es m h w = (h .out ≡ Ok t) × (w .other ≡ es) × Rests l m (w .word)
+
+-- so the call ends, alone on the lines with somebody who pulls p all the time, where I2CCTL was w
+unfoldable pub Shows : (l : Layout) (p : Pulls) → Prog Held → ℕ → Taken → List Edge → Pulls → Type 0
+Shows l p call w t es m = Always l (listener p) call (record { word = w; other = [] }) (Ended l p t es m)

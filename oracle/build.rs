@@ -1,5 +1,6 @@
-//! Wraps the original files, unchanged, as inline modules of one generated
-//! file, each followed by its probe (functions that call the private ones).
+//! Wraps the original files as inline modules of one generated file, each
+//! followed by its probe (functions that call the private ones). The copy of
+//! `i2c` gets one line more, which counts the runs of `attempt`.
 
 use std::{
     env, fs,
@@ -8,6 +9,10 @@ use std::{
 
 /// The original's modules; `probe/<name>.rs` is appended where it exists.
 const MODULES: [&str; 4] = ["sync", "hostif", "i2c", "sfp"];
+
+/// The first line of `attempt`'s body, and the line put before it.
+const HEAD: &str = "    let mut bus = Bus::new(io, port.family)?;\n";
+const COUNT: &str = "    probe_count();\n";
 
 fn sources(manifest: &Path) -> PathBuf {
     match env::var_os("ORACLE_SRC") {
@@ -22,6 +27,11 @@ fn text(path: &Path) -> String {
     })
 }
 
+fn counting(source: &str) -> String {
+    assert_eq!(source.matches(HEAD).count(), 1, "`attempt` begins as it did");
+    source.replace(HEAD, &format!("{COUNT}{HEAD}"))
+}
+
 fn main() {
     let manifest = PathBuf::from(env::var_os("CARGO_MANIFEST_DIR").expect("set by cargo"));
     let folder = sources(&manifest);
@@ -32,10 +42,11 @@ fn main() {
     for name in MODULES {
         let source = folder.join(format!("{name}.rs"));
         println!("cargo:rerun-if-changed={}", source.display());
+        let module = text(&source);
+        let module = if name == "i2c" { counting(&module) } else { module };
         let probe = manifest.join(format!("probe/{name}.rs"));
         let probe = if probe.exists() { text(&probe) } else { String::new() };
-        all +=
-            &format!("#[allow(dead_code, clippy::all)]\npub mod {name} {{\n{}\n{probe}\n}}\n", text(&source));
+        all += &format!("#[allow(dead_code, clippy::all)]\npub mod {name} {{\n{module}\n{probe}\n}}\n");
     }
     let out = PathBuf::from(env::var_os("OUT_DIR").expect("set by cargo"));
     fs::write(out.join("original.rs"), all).expect("OUT_DIR takes files");

@@ -4,6 +4,7 @@
 use std::fmt;
 
 use crate::driver::Registers;
+use crate::lines::{Lines, Playing};
 
 /// `fail_at` and `ones_at` of a case without such an access; no run gets so far.
 pub const NEVER: u32 = u32::MAX;
@@ -97,6 +98,7 @@ pub struct Failed;
 pub struct Player {
     stream: Stream,
     rules: Vec<(Rule, u32)>,
+    lines: Option<Playing>,
     fail_at: u32,
     ones_at: u32,
     limit: u32,
@@ -110,6 +112,7 @@ impl Player {
         Player {
             stream: Stream::new(seed),
             rules: rules.iter().map(|r| (*r, 0)).collect(),
+            lines: None,
             fail_at,
             ones_at,
             limit: u32::MAX,
@@ -117,6 +120,12 @@ impl Player {
             sum: Fnv::new(),
             log: None,
         }
+    }
+
+    /// After the other rules, so that one of them for the register goes before.
+    pub fn with_lines(mut self, lines: Option<Lines>) -> Self {
+        self.lines = lines.map(Playing::new);
+        self
     }
 
     pub fn limited(mut self, limit: u32) -> Self {
@@ -161,14 +170,19 @@ impl Player {
     /// The stream and the rule's count go on whatever becomes of the read.
     fn value(&mut self, register: u32) -> u32 {
         let value = self.stream.next();
-        match self.rules.iter_mut().find(|(rule, _)| rule.register == register) {
-            None => value,
-            Some((rule, count)) => {
-                let bent = rule.bend(*count, value);
-                *count += 1;
-                bent
-            }
+        if let Some((rule, count)) = self.rules.iter_mut().find(|(rule, _)| rule.register == register) {
+            let bent = rule.bend(*count, value);
+            *count += 1;
+            return bent;
         }
+        match self.lines_of(register) {
+            None => value,
+            Some(lines) => lines.read(value),
+        }
+    }
+
+    fn lines_of(&mut self, register: u32) -> Option<&mut Playing> {
+        self.lines.as_mut().filter(|playing| playing.lines.layout.register == register)
     }
 
     fn note(&mut self, access: Access) {
@@ -192,6 +206,9 @@ impl Registers for Player {
 
     fn write(&mut self, offset: u32, value: u32) -> Result<(), Failed> {
         let number = self.count(&[2, offset, value]);
+        if let Some(lines) = self.lines_of(offset) {
+            lines.written(value);
+        }
         let answer = if self.fails(number) { Err(Failed) } else { Ok(()) };
         self.note(Access::Write(offset, value, answer));
         answer

@@ -2,9 +2,11 @@
 //! outcome as numbers, and the line that holds both.
 
 use crate::answers::{Failed, Fnv, Player, Rule, Stream};
-use crate::driver::{hostif, sync, Error, Family, Port};
+use crate::driver::{hostif, i2c, sync, Error, Family, Port};
+use crate::lines::{Lines, MARK};
+use crate::script::script;
 
-// Function numbers. 10 and up are kept for `i2c`, 20 and up for `sfp`.
+// Function numbers. 10 and up are `i2c`'s; 20 and up are kept for `sfp`.
 pub const LOCK: u32 = 0;
 pub const UNLOCK: u32 = 1;
 pub const ACQUIRE: u32 = 2;
@@ -13,6 +15,24 @@ pub const COMMAND: u32 = 4;
 pub const TOKEN: u32 = 5;
 pub const REGS: u32 = 6;
 pub const BITS: u32 = 7;
+pub const PHY: u32 = 8;
+pub const QSFP_SETUP: u32 = 10;
+pub const READ_BYTE: u32 = 11;
+pub const WRITE_BYTE: u32 = 12;
+pub const READ_COMBINED: u32 = 13;
+pub const WRITE_COMBINED: u32 = 14;
+pub const SCRIPT: u32 = 15;
+pub const ONES_ADD: u32 = 16;
+pub const PLAIN: u32 = 17;
+
+/// Whether `list` and `fresh` give cases of `SCRIPT`. The switch: the port has no such call.
+pub const SCRIPTS: bool = false;
+
+/// The functions that `PLAIN` chooses from.
+pub const X550EM: u32 = 0;
+pub const MASK: u32 = 1;
+pub const ATTEMPTS: u32 = 2;
+pub const QSFP: u32 = 3;
 
 pub const FAMILIES: [Family; 5] = [Family::F82599, Family::X540, Family::X550, Family::X552, Family::X553];
 pub const BLOCK_WORDS: u32 = 64;
@@ -29,6 +49,8 @@ pub struct Case {
     pub fail_at: u32,
     pub ones_at: u32,
     pub rules: Vec<Rule>,
+    /// Stands after the other rules on the line and counts as one of them.
+    pub lines: Option<Lines>,
 }
 
 /// What a run did: the count and sum of its accesses, and its result as a
@@ -49,8 +71,13 @@ impl Case {
         Port { family: self.family(), device: self.device as u16, lan: self.lan as u8 }
     }
 
+    /// Whether `list` and `fresh` give the case.
+    pub fn given(&self) -> bool {
+        SCRIPTS || self.function != SCRIPT
+    }
+
     pub fn player(&self) -> Player {
-        Player::new(self.seed, &self.rules, self.fail_at, self.ones_at)
+        Player::new(self.seed, &self.rules, self.fail_at, self.ones_at).with_lines(self.lines)
     }
 
     pub fn run(&self) -> Outcome {
@@ -65,6 +92,8 @@ impl Case {
     fn call(&self, io: &mut Player) -> [u32; 4] {
         let [a1, a2, _] = self.args;
         match self.function {
+            READ_BYTE | WRITE_BYTE | READ_COMBINED | WRITE_COMBINED => self.transfer(io),
+            SCRIPT => self.script(io, a1, a2),
             LOCK => numbers(sync::probe_lock(io, self.family()), |()| [0; 3]),
             UNLOCK => numbers(sync::probe_unlock(io, self.family()), |()| [0; 3]),
             ACQUIRE => numbers(sync::acquire(io, self.port(), a1), |()| [0; 3]),
@@ -79,6 +108,10 @@ impl Case {
                 let (sw, fw, hw) = sync::probe_bits(self.family(), a1);
                 [0, sw, fw, hw]
             }
+            PHY => [0, sync::phy(self.lan as u8), 0, 0],
+            QSFP_SETUP => numbers(i2c::qsfp_setup(io), |()| [0; 3]),
+            ONES_ADD => [0, i2c::probe_ones_add(a1 as u8, a2 as u8).into(), 0, 0],
+            PLAIN => [0, self.plain(a1), 0, 0],
             other => panic!("no function {other}"),
         }
     }
@@ -94,14 +127,64 @@ impl Case {
         result
     }
 
+    /// The third value is the count of transfers, failures included.
+    fn transfer(&self, io: &mut Player) -> [u32; 4] {
+        let port = self.port();
+        let [a1, a2, a3] = self.args;
+        let (device, low, high, lock) = (a1 as u8, a2 as u16, (a2 >> 16) as u16, a3 == 1);
+        i2c::probe_transfers();
+        let mut result = match self.function {
+            READ_BYTE => {
+                let byte = i2c::read_byte(io, port, device, low as u8, high.into(), lock);
+                numbers(byte, |byte| [byte.into(), 0, 0])
+            }
+            WRITE_BYTE => {
+                let done = i2c::write_byte(io, port, device, low as u8, high as u8, lock);
+                numbers(done, |()| [0; 3])
+            }
+            READ_COMBINED => {
+                let value = i2c::read_combined(io, port, device, low, lock);
+                numbers(value, |value| [value.into(), 0, 0])
+            }
+            _ => numbers(i2c::write_combined(io, port, device, low, high, lock), |()| [0; 3]),
+        };
+        result[3] = i2c::probe_transfers();
+        result
+    }
+
+    /// The second value is the sum over the bytes handed out, the third their
+    /// number times 256 and the count of transfers, failures included.
+    fn script(&self, io: &mut Player, seed: u32, shape: u32) -> [u32; 4] {
+        let script = script(seed, shape).expect("a shape of a script");
+        let mut bytes = Vec::new();
+        i2c::probe_transfers();
+        let done = i2c::probe_script(io, self.port(), &script, &mut bytes);
+        let mut result = numbers(done, |()| [0; 3]);
+        let words: Vec<u32> = bytes.into_iter().map(u32::from).collect();
+        result[2] = Fnv::over(&words);
+        result[3] = 256 * words.len() as u32 + i2c::probe_transfers();
+        result
+    }
+
+    fn plain(&self, function: u32) -> u32 {
+        match function {
+            X550EM => i2c::probe_x550em(self.family()).into(),
+            MASK => i2c::probe_mask(self.port()),
+            ATTEMPTS => i2c::attempts(self.port()) as u32,
+            _ => i2c::probe_qsfp(self.port()).into(),
+        }
+    }
+
     /// The part of the line that says what to run.
     pub fn input(&self) -> Vec<u32> {
         let mut out = vec![self.function, self.family, self.device, self.lan];
         out.extend(self.args);
-        out.extend([self.seed, self.fail_at, self.ones_at, self.rules.len() as u32]);
+        let count = self.rules.len() + self.lines.iter().count();
+        out.extend([self.seed, self.fail_at, self.ones_at, count as u32]);
         for r in &self.rules {
             out.extend([r.register, r.period, r.hold, r.first.0, r.first.1, r.then.0, r.then.1]);
         }
+        out.extend(self.lines.iter().flat_map(Lines::words));
         out
     }
 
@@ -127,20 +210,38 @@ impl Case {
     }
 
     fn check(&self) -> Result<(), String> {
-        let [a1, _, _] = self.args;
+        let [a1, a2, a3] = self.args;
+        let (low, high) = (a2 & 0xffff, a2 >> 16);
         let known = match self.function {
             COMMAND => (1..=BLOCK_WORDS).contains(&a1),
             TOKEN => a1 <= 1,
-            _ => self.function <= BITS,
+            READ_BYTE | WRITE_BYTE => device(a1) && low <= 0xff && high <= 0xff && a3 <= 1,
+            READ_COMBINED => device(a1) && high == 0 && a3 <= 1,
+            WRITE_COMBINED => device(a1) && a3 <= 1,
+            SCRIPT => script(a1, a2).is_some(),
+            ONES_ADD => a1 <= 0xff && a2 <= 0xff,
+            PLAIN => a1 <= QSFP,
+            _ => self.function <= PHY || self.function == QSFP_SETUP,
         };
         if !known {
-            return Err(format!("function {} does not take {a1}", self.function));
+            return Err(format!("function {} does not take {a1} {a2} {a3}", self.function));
         }
         if self.family >= FAMILIES.len() as u32 || self.lan > 1 || self.device > 0xffff {
             return Err("not a port".into());
         }
         Ok(())
     }
+}
+
+/// The arguments of a transfer: the offset or register is `low`, the
+/// attempts or the value `high`.
+pub fn packed(device: u32, low: u32, high: u32, lock: bool) -> [u32; 3] {
+    [device, low | high << 16, lock.into()]
+}
+
+/// An address of the I2C bus.
+fn device(number: u32) -> bool {
+    number <= 0xff && number & 1 == 0
 }
 
 /// The numbers of a line that are still to be read.
@@ -151,14 +252,22 @@ impl Numbers {
         self.0.next().ok_or_else(|| "too few numbers".into())
     }
 
-    fn rule(&mut self) -> Result<Rule, String> {
-        Ok(Rule {
-            register: self.word()?,
-            period: self.word()?,
-            hold: self.word()?,
-            first: (self.word()?, self.word()?),
-            then: (self.word()?, self.word()?),
-        })
+    /// A rule of either kind; that of the lines must be the last.
+    fn rule(&mut self, case: &mut Case) -> Result<(), String> {
+        let mut words = [0; 7];
+        for word in &mut words {
+            *word = self.word()?;
+        }
+        if case.lines.is_some() {
+            return Err("a rule after that of the lines".into());
+        }
+        if words[0] >= MARK {
+            case.lines = Some(Lines::from_words(words).ok_or("no lines at this register")?);
+            return Ok(());
+        }
+        let [register, period, hold, and1, or1, and2, or2] = words;
+        case.rules.push(Rule { register, period, hold, first: (and1, or1), then: (and2, or2) });
+        Ok(())
     }
 
     fn case(&mut self) -> Result<Case, String> {
@@ -172,13 +281,14 @@ impl Numbers {
             fail_at: self.word()?,
             ones_at: self.word()?,
             rules: Vec::new(),
+            lines: None,
         };
         let count = self.word()? as usize;
         if count > MAX_RULES {
             return Err(format!("{count} rules"));
         }
         for _ in 0..count {
-            case.rules.push(self.rule()?);
+            self.rule(&mut case)?;
         }
         Ok(case)
     }

@@ -5,6 +5,8 @@ use crate::case::*;
 use crate::driver::{sync, Family};
 use crate::rules::*;
 
+mod transfers;
+
 /// A case with more accesses is drawn again.
 const LONGEST: u32 = 400_000;
 
@@ -17,7 +19,10 @@ impl Fresh {
 
     pub fn next(&mut self) -> Case {
         loop {
-            let case = self.0.case();
+            let case = if self.0.percent(50) { self.0.transfer() } else { self.0.case() };
+            if !case.given() {
+                continue;
+            }
             let mut player = case.player().limited(LONGEST);
             let accesses = case.run_with(&mut player).accesses;
             if player.overrun() {
@@ -86,6 +91,7 @@ impl Choice {
             fail_at: NEVER,
             ones_at: NEVER,
             rules: Vec::new(),
+            lines: None,
         };
         if !matches!(function, REGS | BITS) {
             case.rules = self.rules(&case);
@@ -209,10 +215,11 @@ impl Choice {
 
     /// A failing access and a read of all ones, where the call has them.
     fn faults(&mut self, mut case: Case, accesses: u32) -> Case {
-        if self.percent(40) {
+        let (failing, ones) = if case.function < QSFP_SETUP { (40, 25) } else { (18, 15) };
+        if self.percent(failing) {
             case.fail_at = self.below(accesses + 1);
         }
-        if self.percent(25) {
+        if self.percent(ones) {
             case.ones_at = self.below(accesses + 1);
         }
         case

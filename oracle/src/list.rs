@@ -9,6 +9,8 @@ use crate::driver::sync::{self, EEP, I2C0, I2C1, PHY0, PHY1, SHARED_I2C, SW_MNG}
 use crate::driver::Family;
 use crate::rules::*;
 
+mod transfers;
+
 /// The firmware's token in a mask.
 const WITH_TOKEN: u32 = sync::TOKEN;
 /// Tries at SMBI, SWESMBI and REGSMP.
@@ -42,6 +44,7 @@ pub fn cases() -> Vec<Case> {
     token_limits(&mut list);
     rule_order(&mut list);
     random(&mut list);
+    transfers::add(&mut list);
     list.cases
 }
 
@@ -72,6 +75,7 @@ impl List {
             fail_at: NEVER,
             ones_at: NEVER,
             rules,
+            lines: None,
         }
     }
 

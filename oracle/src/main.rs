@@ -5,16 +5,19 @@ mod answers;
 mod case;
 mod driver;
 mod fresh;
+mod lines;
 mod list;
 mod rules;
+mod script;
 
+use std::collections::BTreeMap;
 use std::io::{self, BufWriter, Write};
 use std::process::ExitCode;
 
 use case::Case;
 use fresh::Fresh;
 
-const USAGE: &str = "usage: oracle list | fresh SEED COUNT | replay FILE | trace FILE LINE";
+const USAGE: &str = "usage: oracle list | fresh SEED COUNT | replay FILE | trace FILE LINE | count FILE";
 /// Differing lines that `replay` shows.
 const SHOWN: usize = 10;
 
@@ -22,10 +25,11 @@ fn main() -> ExitCode {
     let words: Vec<String> = std::env::args().skip(1).collect();
     let words: Vec<&str> = words.iter().map(String::as_str).collect();
     let done = match words[..] {
-        ["list"] => print(list::cases().into_iter()),
+        ["list"] => print(list::cases().into_iter().filter(Case::given)),
         ["fresh", seed, count] => fresh(seed, count),
         ["replay", file] => replay(file),
         ["trace", file, line] => trace(file, line),
+        ["count", file] => count(file),
         _ => Err(USAGE.into()),
     };
     match done {
@@ -96,4 +100,32 @@ fn trace(file: &str, line: &str) -> Result<(), String> {
     let [code, v1, v2, v3] = outcome.result;
     writeln!(out, "ends with {code}: {v1:x} {v2:x} {v3:x}").map_err(|e| e.to_string())?;
     out.flush().map_err(|e| e.to_string())
+}
+
+/// By function: the lines, their accesses, the most in one, and how often
+/// each code is the result (0 is success).
+fn count(file: &str) -> Result<(), String> {
+    #[derive(Default)]
+    struct Counts {
+        lines: u32,
+        accesses: u64,
+        most: u32,
+        codes: BTreeMap<u32, u32>,
+    }
+    let mut all: BTreeMap<u32, Counts> = BTreeMap::new();
+    for (i, line) in text(file)?.lines().enumerate() {
+        let (case, outcome) = Case::parse(line).map_err(|e| format!("line {}: {e}", i + 1))?;
+        let counts = all.entry(case.function).or_default();
+        counts.lines += 1;
+        counts.accesses += u64::from(outcome.accesses);
+        counts.most = counts.most.max(outcome.accesses);
+        *counts.codes.entry(outcome.result[0]).or_default() += 1;
+    }
+    for (function, counts) in all {
+        let Counts { lines, accesses, most, codes } = counts;
+        let codes: Vec<String> = codes.iter().map(|(code, count)| format!("{code}: {count}")).collect();
+        let codes = codes.join(", ");
+        println!("function {function}: {lines} lines, {accesses} accesses, at most {most}; {codes}");
+    }
+    Ok(())
 }

@@ -1,7 +1,8 @@
 //! Rules that lead a call down a chosen path, for the list and fresh cases.
 
 use crate::answers::Rule;
-use crate::driver::{sync, Family};
+use crate::driver::{i2c, sync, Family, Port};
+use crate::lines::{Layout, LAYOUT_82599, LAYOUT_X552};
 
 pub const SMBI: u32 = 1 << 0;
 pub const SWESMBI: u32 = 1 << 1;
@@ -133,4 +134,20 @@ pub fn tries(family: Family) -> u32 {
     } else {
         1000
     }
+}
+
+/// ESDP with the QSFP grant.
+pub const GRANT: Bend = (0, 1 << 1);
+
+pub fn layout(family: Family) -> Layout {
+    if i2c::probe_x550em(family) {
+        LAYOUT_X552
+    } else {
+        LAYOUT_82599
+    }
+}
+
+/// The semaphore that a transfer with lock takes.
+pub fn transfer_mask(family: Family, lan: u32) -> u32 {
+    i2c::probe_mask(Port { family, device: 0, lan: lan as u8 })
 }

@@ -1,7 +1,11 @@
 // Runs the worked examples and prints what comes out.
+mod host;
+mod scripts;
+mod sends;
+
 use hardware::Family;
 
-const STDOUT: i32 = 1;
+pub const STDOUT: i32 = 1;
 
 fn print_bits(mask: u32, family: Family) {
     let m = sync::regs::bits(family, mask);
@@ -20,4 +24,13 @@ fn main() {
     print_bits(0x1806, Family::X552);
     io::write_all(STDOUT, b"bits, X540, mask ");
     print_bits(0x0001, Family::X540);
+    scripts::print_read(0x1234);
+    scripts::print_read(0x7FFF);
+    scripts::print_read(0x0080);
+    scripts::print_write(0x1234, 0xABCD);
+    scripts::print_buffers();
+    scripts::print_lengths();
+    scripts::print_forms();
+    sends::print_send(10);
+    sends::print_send(11);
 }

@@ -6,7 +6,6 @@ use acquire::calls::AcquireTold;
 use acquire::calls::ReleaseTold;
 use hardware::Byte;
 use hardware::Error;
-use hardware::FamilyOpening;
 use hardware::Flag;
 use hardware::Outcome;
 use hostif::calls::CommandTold;
@@ -15,7 +14,7 @@ use sync::calls::LockTold;
 use sync::calls::UnlockTold;
 
 // More accesses than any case makes.
-const BUDGET: u32 = 30_000_000;
+pub const BUDGET: u32 = 30_000_000;
 
 // What a run did: its accesses, and its result. A call that is refused or too long is not ended.
 pub struct Ran {
@@ -38,7 +37,7 @@ pub(crate) fn same(a: Ran, b: Ran) -> bool {
         && a.v3 == b.v3
 }
 
-fn unended(h: Host) -> Ran {
+pub(crate) fn unended(h: Host) -> Ran {
     Ran {
         ended: false,
         accesses: h.accesses,
@@ -50,7 +49,7 @@ fn unended(h: Host) -> Ran {
     }
 }
 
-fn good(h: Host, v1: u32, v2: u32, v3: u32) -> Ran {
+pub(crate) fn good(h: Host, v1: u32, v2: u32, v3: u32) -> Ran {
     Ran {
         ended: true,
         accesses: h.accesses,
@@ -62,7 +61,7 @@ fn good(h: Host, v1: u32, v2: u32, v3: u32) -> Ran {
     }
 }
 
-fn failed(h: Host, e: Error) -> Ran {
+pub(crate) fn failed(h: Host, e: Error) -> Ran {
     Ran {
         ended: true,
         accesses: h.accesses,
@@ -74,7 +73,7 @@ fn failed(h: Host, e: Error) -> Ran {
     }
 }
 
-fn of_outcome(h: Host, o: Outcome) -> Ran {
+pub(crate) fn of_outcome(h: Host, o: Outcome) -> Ran {
     match o {
         Outcome::Ok => good(h, 0, 0, 0),
         Outcome::Err(e) => failed(h, e),
@@ -235,24 +234,4 @@ pub(crate) fn command(h: Host, family: u32, device: u16, lan: u32, words: u32, s
     let n = words as usize;
     let mut block = [0u32; 64];
     command_in(h, family, device, lan, &mut block[..n], seed)
-}
-
-pub(crate) fn regs(h: Host, family: u32) -> Ran {
-    match hardware::open_family(family) {
-        FamilyOpening::Family(f) => {
-            let r = sync::regs::regs(f);
-            good(h, r.swsm, r.sw_fw_sync, 0)
-        }
-        FamilyOpening::Refused(_) => unended(h),
-    }
-}
-
-pub(crate) fn bits(h: Host, family: u32, mask: u32) -> Ran {
-    match hardware::open_family(family) {
-        FamilyOpening::Family(f) => {
-            let m = sync::regs::bits(f, mask);
-            good(h, m.sw, m.fw, m.hw)
-        }
-        FamilyOpening::Refused(_) => unended(h),
-    }
 }

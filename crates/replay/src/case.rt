@@ -4,6 +4,9 @@ use crate::calls::Ran;
 use crate::host;
 use crate::host::Host;
 use crate::parse;
+use crate::plain;
+use crate::transfers;
+use crate::transfers::Asked;
 ghost use Prim.Native.Nat.{_≤_};
 
 fn host_of(words: &[u32; 45]) -> Host {
@@ -18,14 +21,65 @@ fn device(d: u32) -> u16 {
     0
 }
 
+// Whether the number names a call.
+fn known(call: u32) -> bool {
+    match call {
+        0..=8 | 10..=14 | 16 | 17 => true,
+        _ => false,
+    }
+}
+
 // Whether the numbers, so many of them, are a case.
 pub(crate) fn is_case(words: &[u32; 45], count: usize) -> bool {
-    if words[0] < 8 {
+    if known(words[0]) {
         if words[2] < 65536 {
-            return parse::whole(words, count);
+            if parse::whole(words, count) {
+                return parse::ordered(words);
+            }
         }
     }
     false
+}
+
+fn byte(v: u32) -> u8 {
+    (v % 256) as u8
+}
+
+// The lower half.
+fn low(v: u32) -> u16 {
+    (v % 65536) as u16
+}
+
+// The upper half.
+fn high(v: u32) -> u16 {
+    (v / 65536) as u16
+}
+
+fn asked(words: &[u32; 45]) -> Asked {
+    Asked {
+        family: words[1],
+        device: device(words[2]),
+        lan: words[3],
+        address: byte(words[4]),
+        low: low(words[5]),
+        high: high(words[5]),
+        lock: words[6] == 1,
+    }
+}
+
+// The calls of the module's bus.
+fn transfer(words: &[u32; 45]) -> Ran {
+    let h = host_of(words);
+    let q = asked(words);
+    if 255 < words[4] {
+        return calls::unended(h);
+    }
+    match words[0] {
+        11 => transfers::read_byte(h, q),
+        12 => transfers::write_byte(h, q),
+        13 => transfers::read_combined(h, q),
+        _ => transfers::write_combined(h, q),
+    }
 }
 
 fn call(words: &[u32; 45]) -> Ran {
@@ -41,8 +95,13 @@ fn call(words: &[u32; 45]) -> Ran {
         3 => calls::release(h, family, device, lan, a),
         4 => calls::command(h, family, device, lan, a, words[5]),
         5 => calls::token(h, family, device, lan, a == 1),
-        6 => calls::regs(h, family),
-        _ => calls::bits(h, family, a),
+        6 => plain::regs(h, family),
+        7 => plain::bits(h, family, a),
+        8 => plain::phy(h, lan),
+        10 => transfers::qsfp_setup(h),
+        16 => plain::ones_add(h, a, words[5]),
+        17 => plain::port(h, family, device, lan, a),
+        _ => transfer(words),
     }
 }
 

@@ -73,7 +73,10 @@ fn done(h: Host) -> Answer {
 }
 
 fn write(h: Host, register: u32, v: u32) -> Played {
-    let host = counted(fed(fed(fed(h, 2), register), v));
+    let mut host = counted(fed(fed(fed(h, 2), register), v));
+    let before = h.rules;
+    let after = rules::written(before, register, v);
+    host.rules = after;
     let answer = done(h);
     Played { host, answer }
 }

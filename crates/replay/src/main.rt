@@ -3,9 +3,12 @@
 mod calls;
 mod case;
 mod host;
+mod lines;
 mod parse;
+mod plain;
 mod rng;
 mod rules;
+mod transfers;
 
 use parse::Line;
 

@@ -1,4 +1,6 @@
 // The lines of the list, byte by byte.
+use crate::lines;
+use crate::lines::Lines;
 use crate::rules;
 use crate::rules::Rule;
 use crate::rules::Rules;
@@ -89,6 +91,34 @@ pub(crate) fn whole(words: &[u32; 45], count: usize) -> bool {
     }
 }
 
+// Whether the rule at i is not of the lines.
+fn common(words: &[u32; 45], i: usize) -> bool
+    requires { ⌜ i ≤ 38 ⌝ }
+{
+    words[i] < lines::MARK
+}
+
+// Whether the rule at i may be the last: of either kind.
+fn either(words: &[u32; 45], i: usize) -> bool
+    requires { ⌜ i ≤ 38 ⌝ }
+{
+    if words[i] < lines::MARK {
+        return true;
+    }
+    lines::is_ctl(words[i] - lines::MARK)
+}
+
+// Whether only the last rule, if any, is of the lines.
+pub(crate) fn ordered(words: &[u32; 45]) -> bool {
+    match words[10] {
+        0 => true,
+        1 => either(words, 11),
+        2 => common(words, 11) && either(words, 18),
+        3 => common(words, 11) && common(words, 18) && either(words, 25),
+        _ => { common(words, 11) && common(words, 18) && common(words, 25) && either(words, 32) }
+    }
+}
+
 fn rule_at(words: &[u32; 45], i: usize) -> Rule
     requires { ⌜ i ≤ 38 ⌝ }
 {
@@ -105,23 +135,50 @@ fn rule_at(words: &[u32; 45], i: usize) -> Rule
     }
 }
 
+fn lines_at(words: &[u32; 45], i: usize) -> Lines
+    requires { ⌜ i ≤ 38 ⌝ }
+{
+    let mut l = lines::unused();
+    l.used = true;
+    l.register = words[i] % lines::MARK;
+    l.period = words[i + 1];
+    l.at = words[i + 2];
+    l.run = words[i + 3];
+    l.and1 = words[i + 4];
+    l.or1 = words[i + 5];
+    l.stretch = words[i + 6] % 65536;
+    l.late = words[i + 6] / 65536;
+    l
+}
+
+// The rules with that at i as number k.
+fn with(rules: Rules, words: &[u32; 45], k: usize, i: usize) -> Rules
+    requires { ⌜ (k ≤ 3) × (i ≤ 38) ⌝ }
+{
+    let mut next = rules;
+    if words[i] < lines::MARK {
+        let r = rule_at(words, i);
+        next.list[k] = r;
+        return next;
+    }
+    let l = lines_at(words, i);
+    next.lines = l;
+    next
+}
+
 pub(crate) fn rules_of(words: &[u32; 45]) -> Rules {
     let mut all = rules::none();
     if 0 < words[10] {
-        let r = rule_at(words, 11);
-        all.list[0] = r;
+        all = with(all, words, 0, 11);
     }
     if 1 < words[10] {
-        let r = rule_at(words, 18);
-        all.list[1] = r;
+        all = with(all, words, 1, 18);
     }
     if 2 < words[10] {
-        let r = rule_at(words, 25);
-        all.list[2] = r;
+        all = with(all, words, 2, 25);
     }
     if 3 < words[10] {
-        let r = rule_at(words, 32);
-        all.list[3] = r;
+        all = with(all, words, 3, 32);
     }
     all
 }

@@ -1,4 +1,6 @@
 // The rules that bend a read's value.
+use crate::lines;
+use crate::lines::Lines;
 ghost use Prim.Native.Nat.{_≤_};
 
 // One rule, with the reads of its register so far.
@@ -14,8 +16,10 @@ pub struct Rule {
     pub reads: u32,
 }
 
+// The rule of the lines comes after the others.
 pub struct Rules {
     pub list: [Rule; 4],
+    pub lines: Lines,
 }
 
 // A read's value, and the rules after it.
@@ -40,7 +44,11 @@ pub(crate) fn unused() -> Rule {
 
 pub(crate) fn none() -> Rules {
     let rule = unused();
-    Rules { list: [rule; 4] }
+    let lines = lines::unused();
+    Rules {
+        list: [rule; 4],
+        lines,
+    }
 }
 
 fn names(rule: Rule, register: u32) -> bool {
@@ -95,5 +103,29 @@ pub(crate) fn apply(rules: Rules, register: u32, v: u32) -> Bent {
         all.list[i] = next;
         return Bent { rules: all, value };
     }
+    on_lines(rules, register, v)
+}
+
+fn on_lines(rules: Rules, register: u32, v: u32) -> Bent {
+    let l = rules.lines;
+    if lines::names(l, register) {
+        let mut all = rules;
+        let value = lines::value(l, v);
+        let next = lines::counted(l);
+        all.lines = next;
+        return Bent { rules: all, value };
+    }
     Bent { rules, value: v }
+}
+
+// The rules after a write, which only the lines follow.
+pub(crate) fn written(rules: Rules, register: u32, v: u32) -> Rules {
+    let l = rules.lines;
+    if lines::names(l, register) {
+        let mut all = rules;
+        let next = lines::written(l, v);
+        all.lines = next;
+        return all;
+    }
+    rules
 }

@@ -1,0 +1,138 @@
+// The calls of the module's bus, each run to its end.
+use crate::calls;
+use crate::calls::Ran;
+use crate::host;
+use crate::host::Host;
+use hardware::Word;
+use i2c::calls::SetupTold;
+use i2c::calls::TransferTold;
+
+// A transfer as its numbers name it: low is the offset or register, high the attempts or the value.
+pub struct Asked {
+    pub family: u32,
+    pub device: u16,
+    pub lan: u32,
+    pub address: u8,
+    pub low: u16,
+    pub high: u16,
+    pub lock: bool,
+}
+
+// The transfers made go with every result.
+fn of_word(h: Host, w: Word, made: u32) -> Ran {
+    match w {
+        Word::Ok(v) => calls::good(h, v, 0, made),
+        Word::Err(e) => {
+            let mut ran = calls::failed(h, e);
+            ran.v3 = made;
+            ran
+        }
+    }
+}
+
+fn run(h: Host, first: TransferTold) -> Ran {
+    let mut host = h;
+    let mut told = first;
+    let mut left = calls::BUDGET;
+    while 0 < left {
+        match told {
+            TransferTold::Ask(x, s) => {
+                let p = host::answer(host, x);
+                let a = p.answer;
+                host = p.host;
+                told = i2c::calls::transfer_step(s, a);
+            }
+            TransferTold::End(w, made) => return of_word(host, w, made),
+            TransferTold::Refused(_) => return calls::unended(host),
+        }
+        left -= 1;
+    }
+    calls::unended(host)
+}
+
+// A number below 256.
+fn byte(v: u16) -> u8 {
+    (v % 256) as u8
+}
+
+pub(crate) fn read_byte(h: Host, q: Asked) -> Ran {
+    if 255 < q.low {
+        return calls::unended(h);
+    }
+    let attempts = q.high as u32;
+    run(
+        h,
+        i2c::calls::read_byte_open(
+            q.family,
+            q.device,
+            q.lan,
+            q.address,
+            byte(q.low),
+            attempts,
+            q.lock,
+        ),
+    )
+}
+
+pub(crate) fn write_byte(h: Host, q: Asked) -> Ran {
+    if 255 < q.low {
+        return calls::unended(h);
+    }
+    if 255 < q.high {
+        return calls::unended(h);
+    }
+    run(
+        h,
+        i2c::calls::write_byte_open(
+            q.family,
+            q.device,
+            q.lan,
+            q.address,
+            byte(q.low),
+            byte(q.high),
+            q.lock,
+        ),
+    )
+}
+
+pub(crate) fn read_combined(h: Host, q: Asked) -> Ran {
+    run(
+        h,
+        i2c::calls::read_combined_open(q.family, q.device, q.lan, q.address, q.low, q.lock),
+    )
+}
+
+pub(crate) fn write_combined(h: Host, q: Asked) -> Ran {
+    run(
+        h,
+        i2c::calls::write_combined_open(
+            q.family,
+            q.device,
+            q.lan,
+            q.address,
+            q.low,
+            q.high,
+            q.lock,
+        ),
+    )
+}
+
+pub(crate) fn qsfp_setup(h: Host) -> Ran {
+    let mut host = h;
+    let mut told = i2c::calls::qsfp_setup_open();
+    let mut left = calls::BUDGET;
+    while 0 < left {
+        match told {
+            SetupTold::Ask(x, s) => {
+                let p = host::answer(host, x);
+                let a = p.answer;
+                host = p.host;
+                told = i2c::calls::qsfp_setup_step(s, a);
+            }
+            SetupTold::End(o, _) => return calls::of_outcome(host, o),
+            SetupTold::Refused(_) => return calls::unended(host),
+        }
+        left -= 1;
+    }
+    calls::unended(host)
+}

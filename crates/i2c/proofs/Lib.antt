@@ -1,2 +1,7 @@
 pub mod Laws
+pub mod Ends
 pub mod Runs
+pub mod Quiet
+pub mod Pairs
+pub mod Paired
+pub mod Counts

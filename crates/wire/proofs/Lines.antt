@@ -16,10 +16,10 @@ use Rattle.wire.specs.Lines.{Pulls, drawn, OneMoves, master, levels, edg
 use Rattle.wire.specs.Always.{Side, World, takesAll, turn, wrote, reading, Either, Answered, Always, Claim, From, FromRest}
 use Rattle.wire.proofs.Words as Words
 
-first : (X Y : Type 0) (b : Bool) → b ≡ true → X → Either b X Y
+pub first : (X Y : Type 0) (b : Bool) → b ≡ true → X → Either b X Y
 first X Y b e x = subst⁻¹ (λ (t : Bool). Either t X Y) e x
 
-second : (X Y : Type 0) (b : Bool) → b ≡ false → Y → Either b X Y
+pub second : (X Y : Type 0) (b : Bool) → b ≡ false → Y → Either b X Y
 second X Y b e y = subst⁻¹ (λ (t : Bool). Either t X Y) e y
 
 pub edge-none : (c d : Bool) → sclEdge c c d ++ sdaEdge c d d ≡ []

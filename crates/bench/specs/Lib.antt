@@ -1,0 +1,5 @@
+pub mod Receiver
+pub mod Bench
+pub mod Edges
+pub mod Register
+pub mod View

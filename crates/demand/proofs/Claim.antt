@@ -1,0 +1,175 @@
+-- The claim: a whole call of `identify` with the bench module, for every port, every start that 01 allows and every list
+-- of answers that meets the premises and is long enough.
+use Prim.Native.Nat.{ℕ, _+_, _<_, _≤_, suc}
+use mathlib.Core.Path.{_≡_, refl, ap, _∙_, sym, subst, subst⁻¹}
+use mathlib.Core.Bool.{Bool, true, false, not, _||_, false≢true}
+use mathlib.Core.List.{List, [], _∷_, _++_}
+use mathlib.Core.Logic.{_⊎_, inl, inr, ⊎-elim}
+use native.Mathlib.Omega.{arith}
+use lib.Dec.{eqb}
+use lib.ListN.{length}
+use Rattle.hardware.specs.declared.Answer.{Answer}
+use Rattle.hardware.specs.declared.Port.{Port}
+use Rattle.hardware.specs.Prog.{Prog, R, Ok, Err, pick, Counted, tally}
+use Rattle.bus.specs.declared.Layout.{Layout}
+use Rattle.bus.specs.Layout.{layoutOf}
+use Rattle.wire.specs.Lines.{drawn, master, pullsSda, pullsScl, Rests}
+use Rattle.wire.specs.Always.{World, nobody, Always}
+use Rattle.wire.proofs.Edges.{rests}
+use Rattle.bench.specs.declared.Bench.{Bench}
+use Rattle.bench.specs.declared.receiver.Stage.{Stage}
+use Rattle.bench.specs.declared.receiver.Stage.the-variants.{Idle, AckWrite}
+use Rattle.bench.specs.Receiver.{fall, fallAt}
+use Rattle.bench.specs.Bench.{pullsLow, benchPulls}
+use Rattle.sfp.specs.declared.Kind.{Kind}
+use Rattle.sfp.specs.declared.Kind.the-variants.{DaCu, DaActiveLimiting, SrLr, Cu1g, Sx1g, Lx1g, Bx10g, Bx1g, Unknown, NotPresent}
+use Rattle.sfp.specs.declared.Module.{Module}
+use Rattle.sfp.specs.Classes.{Bytes, has, SFP, PASSIVE-DA, ACTIVE-DA, LIMITING, SR, LR, BASE-T, SX, LX, BX10, asksRate, asksReach, bx10g, asksActive, kindOf, isCable, multispeedOf, Class, classOf, requests}
+use Rattle.sfp.specs.Identify.{absent, other, Codes, recorded, identify}
+use Rattle.sfp.proofs.Ends.{IDENTIFY-STEPS, identify-ends}
+use Rattle.demand.specs.Claim.{Met, machine, Outcome, ended, short, Story, benched, Each, Premise, atStart, byteOf, Says, extra, Facts, Absent, InAckWrite, Claimed, Holds, Claim, Starts, Premises}
+use Rattle.demand.proofs.Receiver.{idle-free}
+use Rattle.demand.proofs.Clearing.{ack-pulls}
+use Rattle.demand.proofs.Attempts.{Stuck, stuck}
+use Rattle.demand.proofs.Requests.{world, After}
+use Rattle.demand.proofs.Identify as Identify
+use Rattle.demand.proofs.Benched.{Ending, Steady, Sound, always-benched, Over, ends-benched, told, tally-benched}
+
+-- no class is NotPresent
+abbrev present : Kind → Bool
+present DaCu = true
+present DaActiveLimiting = true
+present SrLr = true
+present Cu1g = true
+present Sx1g = true
+present Lx1g = true
+present Bx10g = true
+present Bx1g = true
+present Unknown = true
+present NotPresent = false
+
+pick-present : (b : Bool) (x y : Kind) → present x ≡ true → present y ≡ true → present (pick b x y) ≡ true
+unfolding pick
+pick-present true x y e f = e
+pick-present false x y e f = f
+
+kind-present : (at : Bytes) → present (kindOf at) ≡ true
+unfolding kindOf
+kind-present at =
+    pick-present _ _ _ refl (pick-present _ _ _ (pick-present _ _ _ refl refl)
+    (pick-present _ _ _ refl (pick-present _ _ _ refl (pick-present _ _ _ refl (pick-present _ _ _ refl (pick-present _ _ _ refl (pick-present _ _ _ refl refl)))))))
+
+class-present : (at : Bytes) → present (classOf at .kind) ≡ true
+unfolding classOf pick
+class-present at = by (eqb (at 0) SFP)
+  where
+    by : (b : Bool) → present ((pick {A = Class} b (record { kind = kindOf at; multispeed = multispeedOf at }) (record { kind = Unknown; multispeed = false })) .kind) ≡ true
+    by true = kind-present at
+    by false = refl
+
+-- so the four facts and NotPresent shut each other out
+never-both : (at : Bytes) (r : R Module) → Says r (classOf at) → Absent r → ⊥
+unfolding Says Absent
+never-both at (Ok m) s a = false≢true (ap present (sym a) ∙ ap present (s .0) ∙ class-present at)
+never-both at (Err e) s a = s
+
+-- the bytes of a record
+abbrev codesOf : Bytes → Codes
+codesOf at = record { g1 = at 6; g10 = at 3; cable = at 8 }
+
+found-says : (at : Bytes) → Says (Ok (pick (eqb (at 0) SFP) (recorded (at 0) (codesOf at) (kindOf at)) (other (at 0)))) (classOf at)
+unfolding Says classOf pick recorded multispeedOf
+found-says at = by (eqb (at 0) SFP)
+  where
+    by : (b : Bool) → Says (Ok (pick b (recorded (at 0) (codesOf at) (kindOf at)) (other (at 0)))) (pick b (record { kind = kindOf at; multispeed = multispeedOf at }) (record { kind = Unknown; multispeed = false }))
+    by true = (refl, refl)
+    by false = (refl, refl)
+
+-- the requests, counted in the order of the call
+counted : (at : Bytes) (e : ℕ)
+    → pick (eqb (at 0) SFP) (pick (asksActive at) 1 0 + (pick (asksReach at) 2 0 + (pick (asksRate at) 1 0 + 3))) 4 + suc e ≡ requests at + e
+unfolding requests pick
+counted at e = by (eqb (at 0) SFP) (pick (asksActive at) 1 0) (pick (asksReach at) 2 0) (pick (asksRate at) 1 0)
+  where
+    by : (b : Bool) (x y z : ℕ) → pick b (x + (y + (z + 3))) 4 + suc e ≡ pick b (4 + z + y + x) 5 + e
+    by true x y z = omega arith
+    by false x y z = omega arith
+
+-- a module that is stuck otherwise is not in AckWrite
+stuck-not : (b : Bench) → Stuck (b .receiver) → InAckWrite b → ⊥
+unfolding fall fallAt
+stuck-not b s e = rw e at (s .sends)
+
+free-not : (b : Bench) → pullsLow b ≡ false → InAckWrite b → ⊥
+free-not b e i = false≢true (sym e ∙ ack-pulls (record { bench = b; made = 0 }) i)
+
+module _ (port : Port) (b : Bench) (small : (n : ℕ) → byteOf (b .a0) n < 256) where
+  abbrev pub start : Met
+  start = record { bench = b; made = 0 }
+
+  -- the end of the call, by the start
+  pub record End (r : R Module) (w : World machine) : Type 0 where
+    pub facts : (InAckWrite b → ⊥) → Facts (layoutOf (port .family)) b r w
+    pub absent : InAckWrite b → Absent r × (w .other .made ≡ 11)
+
+  well : (e j : ℕ) → extra b ≡ e → (n : Met) (w : ℕ) → After (layoutOf (port .family)) start j n w → j ≡ requests (byteOf (b .a0)) + e
+      → Facts (layoutOf (port .family)) b (Ok (pick (eqb (byteOf (b .a0) 0) SFP) (recorded (byteOf (b .a0) 0) (codesOf (byteOf (b .a0))) (kindOf (byteOf (b .a0)))) (other (byteOf (b .a0) 0)))) (world w n)
+  well e j x n w a c =
+      record {
+        class = found-says (byteOf (b .a0));
+        a0 = a .a0;
+        a2 = a .a2;
+        idle = a .idle;
+        master-released = a .rests .lines;
+        module-released = ap (λ t. drawn t false) (idle-free (n .bench .receiver) n (a .idle));
+        transfers = omega (arith, a .made, c, x);
+      }
+
+  -- it holds of the call, whatever the other answers are
+  pub always-identified : (word : ℕ) (x y : Bool) → Rests (layoutOf (port .family)) (drawn x y) word
+      → Always (layoutOf (port .family)) machine (identify port) (atStart word b) End
+  unfolding Always Absent pick
+  always-identified word x y r = by (pullsLow b) refl
+    where
+      free : pullsLow b ≡ false → Always (layoutOf (port .family)) machine (identify port) (atStart word b) End
+      free e =
+          Identify.identify-reads port start small End word x y r e
+          (λ n w a. record { facts = λ _. well 0 _ (rw e) n w a (counted (byteOf (b .a0)) 0); absent = λ i. absurd (free-not b e i) })
+
+      held : pullsLow b ≡ true → Always (layoutOf (port .family)) machine (identify port) (atStart word b) End
+      held e =
+          ⊎-elim
+          (λ i. Identify.identify-fails port start small End word x y r i (λ n v made. record { facts = λ no. absurd (no i); absent = λ _. (refl, omega (arith, made)) }))
+          (λ s.
+          Identify.identify-clears port start small End word x y r e s
+          (λ n w a. record { facts = λ _. well 1 _ (rw e) n w a (counted (byteOf (b .a0)) 1); absent = λ i. absurd (stuck-not b s i) }))
+          (stuck start e)
+
+      by : (t : Bool) → pullsLow b ≡ t → Always (layoutOf (port .family)) machine (identify port) (atStart word b) End
+      by true e = held e
+      by false e = free e
+
+  -- from both outcomes to the claim
+  both : (o : Outcome (R Module)) (p : Outcome (Counted (R Module))) → Ending End o → Over o → p ≡ told 0 o → Holds (layoutOf (port .family)) b o p
+  unfolding Holds Ending Over told
+  both (ended r w) p h k e =
+      rw e (refl, record { count = refl; facts = h .facts; only = λ f i. never-both (byteOf (b .a0)) r (f .class) (h .absent i .0); absent = h .absent })
+  both short p h k e = absurd k
+
+-- Demand 3, of the definition of `identify`
+pub identified : (port : Port) (b : Bench) (word : ℕ) (answers : List Answer) → Starts port b word → Premises port b word answers
+    → IDENTIFY-STEPS (port .family) ≤ length answers → Claim port b word answers
+unfolding Starts Premises Claim
+identified port b word answers s m n =
+    both port b (s .0) _ _
+    (always-benched (layoutOf (port .family)) (End port b (s .0)) (identify port) (atStart word b) answers (always-identified port b (s .0) word _ _ (rests (layoutOf (port .family)) word (s .1))) m .ending)
+    (ends-benched (layoutOf (port .family)) (identify port) (IDENTIFY-STEPS (port .family)) (identify-ends port) (atStart word b) answers n m)
+    (tally-benched (layoutOf (port .family)) 0 (identify port) (atStart word b) answers)
+
+-- `identify` never moves both lines by one write
+pub never-both-lines : (port : Port) (b : Bench) (word : ℕ) (answers : List Answer) → Starts port b word → Premises port b word answers
+    → Each (Steady (layoutOf (port .family))) (benched (layoutOf (port .family)) (identify port) (atStart word b) answers .events)
+unfolding Starts Premises
+never-both-lines port b word answers s m =
+    always-benched (layoutOf (port .family)) (End port b (s .0)) (identify port) (atStart word b) answers
+    (always-identified port b (s .0) word _ _ (rests (layoutOf (port .family)) word (s .1))) m .steady

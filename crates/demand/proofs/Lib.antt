@@ -1,0 +1,16 @@
+pub mod Bits
+pub mod Receiver
+pub mod Bytes
+pub mod ReadByte
+pub mod Clearing
+pub mod Attempts
+pub mod Fine
+pub mod Locks
+pub mod Handshake
+pub mod Requests
+pub mod Luck
+pub mod LuckyCalls
+pub mod Identify
+pub mod Benched
+pub mod Claim
+pub mod Possible

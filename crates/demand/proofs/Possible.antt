@@ -1,0 +1,86 @@
+-- The premises of the claim can be met: for every port and every start there is a list of answers, as long as one likes.
+use Prim.Native.Nat.{ℕ, _+_, _≤_, suc, zero}
+use mathlib.Core.Path.{_≡_, refl, ap}
+use mathlib.Core.Bool.{Bool, true, false}
+use mathlib.Core.List.{List, [], _∷_, _++_}
+use native.Mathlib.Omega.{arith}
+use lib.Dec.{T, eqb}
+use lib.ListN.{length, length-append}
+use Rattle.hardware.specs.declared.Access.{Access}
+use Rattle.hardware.specs.declared.Access.the-variants.{Read, Write, Wait}
+use Rattle.hardware.specs.declared.Answer.{Answer}
+use Rattle.hardware.specs.declared.Answer.the-variants.{Value, Done, Failed}
+use Rattle.hardware.specs.declared.Port.{Port}
+use Rattle.hardware.specs.Prog.{Prog, ret, ask, note, give, Note, Attempt, Acquired, Released, Lapsed, pick}
+use Rattle.bus.specs.declared.Layout.{Layout}
+use Rattle.bus.specs.Layout.{layoutOf}
+use Rattle.wire.specs.Always.{World, wrote, reading, noted}
+use Rattle.bench.specs.declared.Bench.{Bench}
+use Rattle.sfp.specs.Identify.{identify}
+use Rattle.sfp.proofs.Ends.{IDENTIFY-STEPS}
+use Rattle.demand.specs.Fine.{names, Chosen, Unlapsed, Lucky}
+use Rattle.demand.specs.Luck.{lucky}
+use Rattle.demand.specs.Claim.{machine, Event, answered, moved, noticed, Story, saw, elsewhere, visit, benched, Each, Works, Comes, Premise, atStart, Starts, Premises}
+use Rattle.demand.proofs.Luck.{lucky-stays}
+use Rattle.demand.proofs.LuckyCalls.{identify-lucky}
+
+-- the lucky answers to all accesses but I2CCTL's, which are the machine's
+unfoldable pub playedAt : Layout → Access → (Answer → World machine → List Answer) → World machine → List Answer
+playedAt l (Read r) k w = pick (eqb r (l .reg)) (k (Value (reading l machine w)) w) (lucky (Read r) ∷ k (lucky (Read r)) w)
+playedAt l (Write r v) k w = pick (eqb r (l .reg)) (k Done (wrote l machine v w)) (lucky (Write r v) ∷ k (lucky (Write r v)) w)
+playedAt l (Wait n) k w = lucky (Wait n) ∷ k (lucky (Wait n)) w
+
+unfoldable pub played : {A : Type 0} → Layout → Prog A → World machine → List Answer
+played l (ret a) w = []
+played l (ask x f) w = playedAt l x (λ a w′. played l (f a) w′) w
+played l (note n p) w = played l p (noted machine n w)
+played l (give b p) w = played l p w
+
+-- each of them works
+lucky-works : (x : Access) → Works x (lucky x)
+unfolding lucky
+lucky-works (Read r) = lucky-stays r _ refl
+lucky-works (Write r v) = tt
+lucky-works (Wait n) = tt
+
+module _ (l : Layout) {A : Type 0} (Q : A → Type 0) (rest : List Answer) where
+  lucky-at : (x : Access) (b : Bool) (f : Answer → Prog A) (w : World machine) → names (l .reg) x ≡ b
+      → ((a : Answer) (w′ : World machine) → Lucky (l .reg) lucky (f a) Q → Each Premise (benched l (f a) w′ (played l (f a) w′ ++ rest) .events))
+      → Lucky (l .reg) lucky (ask x f) Q → Each Premise (benched l (ask x f) w (played l (ask x f) w ++ rest) .events)
+  unfolding benched visit played playedAt names pick Lucky elsewhere Each Premise
+  lucky-at (Read r) true f w e h k = rw e (h (Value (reading l machine w)) w ((rw e at k) (Value (reading l machine w))))
+  lucky-at (Read r) false f w e h k = rw e (lucky-works (Read r), h (lucky (Read r)) w (rw e at k))
+  lucky-at (Write r v) true f w e h k = rw e (tt, h Done (wrote l machine v w) ((rw e at k) Done))
+  lucky-at (Write r v) false f w e h k = rw e (lucky-works (Write r v), h (lucky (Write r v)) w (rw e at k))
+  lucky-at (Wait n) b f w e h k = (lucky-works (Wait n), h (lucky (Wait n)) w k)
+
+  pub lucky-premises : (p : Prog A) (w : World machine) → Lucky (l .reg) lucky p Q → Each Premise (benched l p w (played l p w ++ rest) .events)
+  unfolding benched played Lucky Each Premise
+  lucky-premises (ret a) w k = tt
+  lucky-premises (ask x f) w k = lucky-at x (names (l .reg) x) f w refl (λ a w′. lucky-premises (f a) w′) k
+  lucky-premises (note Attempt p) w k = (tt, lucky-premises p (noted machine Attempt w) k)
+  lucky-premises (note Acquired p) w k = (tt, lucky-premises p (noted machine Acquired w) k)
+  lucky-premises (note Released p) w k = (tt, lucky-premises p (noted machine Released w) k)
+  lucky-premises (note Lapsed p) w k = absurd k
+  lucky-premises (give b p) w k = lucky-premises p w k
+
+-- so many more answers, which no run looks at
+abbrev dones : ℕ → List Answer
+dones zero = []
+dones (suc n) = Done ∷ dones n
+
+dones-length : (n : ℕ) → length (dones n) ≡ n
+dones-length zero = refl
+dones-length (suc n) = ap suc (dones-length n)
+
+-- For every port and every start, AckWrite included, a list of answers that meets the premises and is long enough
+pub possible : (port : Port) (b : Bench) (word : ℕ) → (answers : List Answer) × Premises port b word answers × (IDENTIFY-STEPS (port .family) ≤ length answers)
+unfolding Premises
+possible port b word = (
+  played (layoutOf (port .family)) (identify port) (atStart word b) ++ dones (IDENTIFY-STEPS (port .family)),
+  lucky-premises (layoutOf (port .family)) (λ _. Unit {0}) (dones (IDENTIFY-STEPS (port .family))) (identify port) (atStart word b) (identify-lucky port),
+  long (played (layoutOf (port .family)) (identify port) (atStart word b)) (IDENTIFY-STEPS (port .family)),
+)
+  where
+    long : (s : List Answer) (n : ℕ) → n ≤ length (s ++ dones n)
+    long s n = omega (arith, length-append s (dones n), dones-length n)

@@ -1,0 +1,275 @@
+-- What edges make of the module, by the receiver's stage.
+use Prim.Native.Nat.{ℕ, _+_, _-_, _<_, _≤_, suc}
+use mathlib.Core.Path.{_≡_, refl, ap, _∙_, subst⁻¹}
+use mathlib.Core.Bool.{Bool, true, false, not}
+use lib.Dec.{eqb, ltb}
+use native.Mathlib.Omega.{arith}
+use borrow.Author.Tests.{lt-ltb, le-ltb}
+use Rattle.hardware.specs.Prog.{pick}
+use Rattle.bus.specs.Bus.{bitOf}
+use Rattle.wire.specs.Lines.{Edge, START, STOP, Fall, Bit}
+use Rattle.wire.specs.Always.{Side}
+use Rattle.bench.specs.declared.Bench.{Bench}
+use Rattle.bench.specs.declared.Page.{Page}
+use Rattle.bench.specs.declared.receiver.Act.{Act}
+use Rattle.bench.specs.declared.receiver.Act.the-variants.{Nothing, Offset, Store, Next}
+use Rattle.bench.specs.declared.receiver.Chosen.{Chosen}
+use Rattle.bench.specs.declared.receiver.Chosen.the-variants.{A0, A2}
+use Rattle.bench.specs.declared.receiver.Receiver.{Receiver}
+use Rattle.bench.specs.declared.receiver.Stage.{Stage}
+use Rattle.bench.specs.declared.receiver.Stage.the-variants.{Idle, Address, Receive, AckRead, AckWrite, Send, Listen}
+use Rattle.bench.specs.Receiver.{at, fresh, started, stopped, taken, takes, notes, riseAt, rise, chose, addressed, byteTaken, fallAt, fall, asksAt, asks, edged, asksOn, pullsAt, pulls}
+use Rattle.bench.specs.Bench.{onward, under, acted, pageOf, withPage, takesEdge, pullsLow}
+use Rattle.demand.specs.Claim.{Met, machine}
+
+-- the same pages and count with another receiver
+abbrev pub with : Receiver → Met → Met
+with r m = record { bench = record { receiver = r; a0 = m .bench .a0; a2 = m .bench .a2 }; made = m .made }
+
+with-none : (page : Chosen) (r : Receiver) (b : Bench) → withPage page Nothing r b ≡ record { receiver = r; a0 = b .a0; a2 = b .a2 }
+unfolding withPage acted
+with-none A0 r b = refl
+with-none A2 r b = refl
+
+-- an edge that asks nothing of the page
+pub plain : (e : Edge) (m : Met) → asksOn e (m .bench .receiver) ≡ Nothing → machine .takes e m ≡ with (edged e (m .bench .receiver)) m
+unfolding takesEdge
+plain e m h =
+    ap (λ act. record { bench = withPage (m .bench .receiver .page) act (edged e (m .bench .receiver)) (m .bench); made = m .made }) h
+    ∙ ap (λ b. record { bench = b; made = m .made }) (with-none (m .bench .receiver .page) _ (m .bench))
+
+-- START takes every receiver to Address with 0 bits, and SCL's fall leaves it there
+pub start-takes : (m : Met) → machine .takes START m ≡ with (started (m .bench .receiver)) m
+unfolding asksOn edged
+start-takes m = plain START m refl
+
+pub stop-takes : (m : Met) → machine .takes STOP m ≡ with (stopped (m .bench .receiver)) m
+unfolding asksOn edged
+stop-takes m = plain STOP m refl
+
+pub rise-takes : (sda : Bool) (m : Met) → machine .takes (Bit sda) m ≡ with (rise sda (m .bench .receiver)) m
+unfolding asksOn edged
+rise-takes sda m = plain (Bit sda) m refl
+
+pub fall-takes : (m : Met) → asks (m .bench .receiver) ≡ Nothing → machine .takes Fall m ≡ with (fall (m .bench .receiver)) m
+unfolding asksOn edged
+fall-takes m h = plain Fall m h
+
+-- where the receiver does not ask the page for anything, the module's pull is the stage's
+pub pulls-at : (r : Receiver) (m : Met) → machine .pulls (with r m) .sda ≡ pullsAt (r .stage) (under (pageOf (r .page) (with r m .bench)))
+unfolding pullsLow pulls
+pulls-at r m = refl
+
+-- SCL's rise changes nothing of what is pulled
+rise-pulls-at : (s : Stage) (sda : Bool) (r : Receiver) (byte : ℕ) → r .stage ≡ s → pullsAt (riseAt s sda r .stage) byte ≡ pullsAt s byte
+unfolding riseAt pullsAt pick
+rise-pulls-at Idle sda r byte e = ap (λ s. pullsAt s byte) e
+rise-pulls-at (Address n) sda r byte e = by (ltb n 8)
+  where
+    by : (b : Bool) → pullsAt (pick b (takes (Address (suc n)) sda r) r .stage) byte ≡ false
+    by true = refl
+    by false = ap (λ s. pullsAt s byte) e
+rise-pulls-at (Receive n) sda r byte e = by (ltb n 8)
+  where
+    by : (b : Bool) → pullsAt (pick b (takes (Receive (suc n)) sda r) r .stage) byte ≡ false
+    by true = refl
+    by false = ap (λ s. pullsAt s byte) e
+rise-pulls-at AckRead sda r byte e = ap (λ s. pullsAt s byte) e
+rise-pulls-at AckWrite sda r byte e = ap (λ s. pullsAt s byte) e
+rise-pulls-at (Send n) sda r byte e = ap (λ s. pullsAt s byte) e
+rise-pulls-at Listen sda r byte e = ap (λ s. pullsAt s byte) e
+
+rise-page-at : (s : Stage) (sda : Bool) (r : Receiver) → riseAt s sda r .page ≡ r .page
+unfolding riseAt pick
+rise-page-at Idle sda r = refl
+rise-page-at (Address n) sda r = by (ltb n 8)
+  where
+    by : (b : Bool) → pick b (takes (Address (suc n)) sda r) r .page ≡ r .page
+    by true = refl
+    by false = refl
+rise-page-at (Receive n) sda r = by (ltb n 8)
+  where
+    by : (b : Bool) → pick b (takes (Receive (suc n)) sda r) r .page ≡ r .page
+    by true = refl
+    by false = refl
+rise-page-at AckRead sda r = refl
+rise-page-at AckWrite sda r = refl
+rise-page-at (Send n) sda r = refl
+rise-page-at Listen sda r = refl
+
+-- the pages are the same with any receiver
+pub page-with : (page : Chosen) (r : Receiver) (m : Met) → pageOf page (with r m .bench) ≡ pageOf page (m .bench)
+unfolding pageOf
+page-with A0 r m = refl
+page-with A2 r m = refl
+
+pub rise-pulls : (sda : Bool) (m : Met) → machine .pulls (machine .takes (Bit sda) m) .sda ≡ machine .pulls m .sda
+unfolding pullsLow pulls rise
+rise-pulls sda m =
+    ap (λ n. machine .pulls n .sda) (rise-takes sda m)
+    ∙ rise-pulls-at (m .bench .receiver .stage) sda (m .bench .receiver) _ refl
+    ∙ ap (λ page. pullsAt (m .bench .receiver .stage) (under page))
+    (ap (λ page. pageOf page (with (rise sda (m .bench .receiver)) m .bench)) (rise-page-at (m .bench .receiver .stage) sda (m .bench .receiver)) ∙ page-with (m .bench .receiver .page) _ m)
+
+-- the stages that take bits
+pub record Taking (S : ℕ → Stage) : Type 0 where
+  pub rises : (n : ℕ) (sda : Bool) (r : Receiver) → n < 8 → riseAt (S n) sda r ≡ takes (S (suc n)) sda r
+  pub stays : (n : ℕ) (r : Receiver) → n < 8 → fallAt (S n) r ≡ r
+  pub asks : (n : ℕ) (r : Receiver) → n < 8 → asksAt (S n) r ≡ Nothing
+  pub free : (n byte : ℕ) → pullsAt (S n) byte ≡ false
+
+pub address-taking : Taking Address
+unfolding riseAt fallAt asksAt pullsAt pick
+address-taking =
+    record {
+      rises = λ n sda r h. rw (lt-ltb n 8 h);
+      stays = λ n r h. rw (lt-ltb n 8 h);
+      asks = λ n r h. refl;
+      free = λ n byte. refl;
+    }
+
+pub receive-taking : Taking Receive
+unfolding riseAt fallAt asksAt pullsAt pick
+receive-taking =
+    record {
+      rises = λ n sda r h. rw (lt-ltb n 8 h);
+      stays = λ n r h. rw (lt-ltb n 8 h);
+      asks = λ n r h. rw (lt-ltb n 8 h);
+      free = λ n byte. refl;
+    }
+
+-- in such a stage, with n bits
+abbrev pub taking : (ℕ → Stage) → ℕ → ℕ → Receiver → Receiver
+taking S n bits r = record { stage = S n; bits = bits; page = r .page; first = r .first; noted = r .noted }
+
+module _ (S : ℕ → Stage) (t : Taking S) (r : Receiver) (m : Met) where
+  pub taking-rises : (n bits : ℕ) (sda : Bool) → n < 8 → machine .takes (Bit sda) (with (taking S n bits r) m) ≡ with (taking S (suc n) (taken bits sda) r) m
+  unfolding rise
+  taking-rises n bits sda h = rise-takes sda (with (taking S n bits r) m) ∙ ap (λ q. with q m) (t .rises n sda (taking S n bits r) h)
+
+  pub taking-stays : (n bits : ℕ) → n < 8 → machine .takes Fall (with (taking S n bits r) m) ≡ with (taking S n bits r) m
+  unfolding fall asks
+  taking-stays n bits h = fall-takes (with (taking S n bits r) m) (t .asks n (taking S n bits r) h) ∙ ap (λ q. with q m) (t .stays n (taking S n bits r) h)
+
+  pub taking-free : (n bits : ℕ) → machine .pulls (with (taking S n bits r) m) .sda ≡ false
+  unfolding pullsLow pulls
+  taking-free n bits = t .free n _
+
+-- stages in which the receiver acknowledges
+abbrev pub Acks : Stage → Type 0
+Acks Idle = ⊥
+Acks (Address n) = ⊥
+Acks (Receive n) = ⊥
+Acks AckRead = Unit {0}
+Acks AckWrite = Unit {0}
+Acks (Send n) = ⊥
+Acks Listen = ⊥
+
+acks-pull-at : (s : Stage) (byte : ℕ) → Acks s → pullsAt s byte ≡ true
+unfolding pullsAt
+acks-pull-at Idle byte h = absurd h
+acks-pull-at (Address n) byte h = absurd h
+acks-pull-at (Receive n) byte h = absurd h
+acks-pull-at AckRead byte h = refl
+acks-pull-at AckWrite byte h = refl
+acks-pull-at (Send n) byte h = absurd h
+acks-pull-at Listen byte h = absurd h
+
+acks-rise-at : (s : Stage) (sda : Bool) (r : Receiver) → Acks s → riseAt s sda r ≡ r
+unfolding riseAt
+acks-rise-at Idle sda r h = refl
+acks-rise-at (Address n) sda r h = absurd h
+acks-rise-at (Receive n) sda r h = absurd h
+acks-rise-at AckRead sda r h = refl
+acks-rise-at AckWrite sda r h = refl
+acks-rise-at (Send n) sda r h = refl
+acks-rise-at Listen sda r h = absurd h
+
+pub acks-pull : (m : Met) → Acks (m .bench .receiver .stage) → machine .pulls m .sda ≡ true
+unfolding pullsLow pulls
+acks-pull m h = acks-pull-at (m .bench .receiver .stage) _ h
+
+pub acks-rise : (sda : Bool) (m : Met) → Acks (m .bench .receiver .stage) → machine .takes (Bit sda) m ≡ m
+unfolding rise
+acks-rise sda m h = rise-takes sda m ∙ ap (λ r. with r m) (acks-rise-at (m .bench .receiver .stage) sda (m .bench .receiver) h)
+
+-- after START, SCL's fall leaves Address with 0 bits
+pub begun : (r : Receiver) (m : Met) → machine .takes Fall (machine .takes START (with r m)) ≡ with (taking Address 0 0 r) m
+unfolding started
+begun r m = ap (machine .takes Fall) (start-takes (with r m)) ∙ taking-stays Address address-taking r m 0 0 (omega arith)
+
+pub idle-free : (r : Receiver) (m : Met) → r .stage ≡ Idle → machine .pulls (with r m) .sda ≡ false
+unfolding pullsLow pulls pullsAt
+idle-free r m e = rw e
+
+-- a byte of page A0 is being sent, its bit n on SDA
+abbrev pub sending : ℕ → Receiver → Receiver
+sending n r = record { stage = Send n; bits = r .bits; page = A0; first = r .first; noted = r .noted }
+
+abbrev pub listening : Receiver → Receiver
+listening r = record { stage = Listen; bits = r .bits; page = A0; first = r .first; noted = r .noted }
+
+-- the offset of page A0 is set, or moves on
+abbrev pub aimed : ℕ → Met → Met
+aimed n m = record { bench = record { receiver = m .bench .receiver; a0 = record { offset = n; bytes = m .bench .a0 .bytes }; a2 = m .bench .a2 }; made = m .made }
+
+pub send-bit : (n : ℕ) (r : Receiver) (m : Met) → machine .pulls (with (sending n r) m) .sda ≡ not (bitOf (under (m .bench .a0)) (7 - n))
+unfolding pullsLow pulls pullsAt pageOf
+send-bit n r m = refl
+
+pub send-rise : (n : ℕ) (sda : Bool) (r : Receiver) (m : Met) → machine .takes (Bit sda) (with (sending n r) m) ≡ with (sending n r) m
+unfolding rise riseAt
+send-rise n sda r m = rise-takes sda (with (sending n r) m)
+
+pub send-next : (n : ℕ) (r : Receiver) (m : Met) → n < 7 → machine .takes Fall (with (sending n r) m) ≡ with (sending (suc n) r) m
+unfolding asks asksAt fall fallAt pick
+send-next n r m h = fall-takes (with (sending n r) m) (rw (lt-ltb n 7 h)) ∙ ap (λ q. with q m) (rw (lt-ltb n 7 h))
+
+pub send-last : (n : ℕ) (r : Receiver) (m : Met) → 7 ≤ n → machine .takes Fall (with (sending n r) m) ≡ with (listening r) (aimed (onward (m .bench .a0 .offset)) m)
+unfolding takesEdge edged asksOn asks asksAt fall fallAt pick withPage acted
+send-last n r m h = rw (le-ltb n 7 h)
+
+-- STOP leaves an idle receiver, which pulls nothing
+pub stop-free : (m : Met) → machine .pulls (machine .takes STOP m) .sda ≡ false
+unfolding stopped
+stop-free m = ap (λ s. machine .pulls s .sda) (stop-takes m) ∙ idle-free (stopped (m .bench .receiver)) m refl
+
+-- a receiver that listens hears a bit that is not acknowledged, and is idle
+pub listen-ends : (r : Receiver) (m : Met) → machine .takes Fall (machine .takes (Bit true) (with (listening r) m)) ≡ with (at Idle (record { stage = Idle; bits = r .bits; page = A0; first = r .first; noted = true })) m
+unfolding rise riseAt asks asksAt fall fallAt pick
+listen-ends r m = ap (machine .takes Fall) (rise-takes true (with (listening r) m)) ∙ fall-takes _ refl
+
+pub listen-free : (r : Receiver) (m : Met) → machine .pulls (with (listening r) m) .sda ≡ false
+unfolding pullsLow pulls pullsAt
+listen-free r m = refl
+
+-- the address of page A0, to write or to read, and the offset, taken whole
+pub addressed-write : (r : Receiver) (m : Met) → machine .takes Fall (with (taking Address 8 0xa0 r) m) ≡ with (chose AckWrite A0 (taking Address 8 0xa0 r)) m
+unfolding asks asksAt fall fallAt addressed pick
+addressed-write r m = fall-takes (with (taking Address 8 0xa0 r) m) refl
+
+pub addressed-read : (r : Receiver) (m : Met) → machine .takes Fall (with (taking Address 8 0xa1 r) m) ≡ with (chose AckRead A0 (taking Address 8 0xa1 r)) m
+unfolding asks asksAt fall fallAt addressed pick
+addressed-read r m = fall-takes (with (taking Address 8 0xa1 r) m) refl
+
+-- the receiver of page A0 before an offset
+abbrev pub expecting : Receiver → Receiver
+expecting r = record { stage = r .stage; bits = r .bits; page = A0; first = true; noted = r .noted }
+
+pub offset-taken : (n : ℕ) (r : Receiver) (m : Met) → machine .takes Fall (with (taking Receive 8 n (expecting r)) m) ≡ with (byteTaken (taking Receive 8 n (expecting r))) (aimed n m)
+unfolding takesEdge edged asksOn asks asksAt fall fallAt pick withPage acted
+offset-taken n r m = refl
+
+-- SCL's fall after an acknowledgement
+pub ack-write-ends : (r : Receiver) (m : Met) → r .stage ≡ AckWrite → machine .takes Fall (with r m) ≡ with (taking Receive 0 0 r) m
+unfolding asks asksAt fall fallAt
+ack-write-ends r m e = fall-takes (with r m) (rw e) ∙ ap (λ q. with q m) (rw e)
+
+pub ack-read-ends : (r : Receiver) (m : Met) → machine .takes Fall (with (chose AckRead A0 r) m) ≡ with (sending 0 (chose AckRead A0 r)) m
+unfolding asks asksAt fall fallAt
+ack-read-ends r m = fall-takes (with (chose AckRead A0 r) m) refl
+
+-- in an idle receiver nothing happens but START
+pub idle-rise : (sda : Bool) (r : Receiver) (m : Met) → machine .takes (Bit sda) (with (at Idle r) m) ≡ with (at Idle r) m
+unfolding rise riseAt
+idle-rise sda r m = rise-takes sda (with (at Idle r) m)

@@ -1,0 +1,303 @@
+-- How many answers of the awaited kinds bring the four transfers and `qsfp_setup` to their end, for every port and
+-- request. The numbers are accesses.
+use Prim.Native.Nat.{ℕ, _+_, _*_, _≤_, suc, zero}
+use mathlib.Core.Path.{_≡_, refl}
+use mathlib.Core.Bool.{Bool, true, false}
+use native.Mathlib.Nat.{suc-mul, mul-le-mul-right}
+use native.Mathlib.Omega.{arith}
+use lib.Dec.{eqb}
+use Rattle.hardware.specs.declared.Family.{Family}
+use Rattle.hardware.specs.declared.Family.the-variants.{F82599, X540, X550, X552, X553}
+use Rattle.hardware.specs.declared.Port.{Port}
+use Rattle.hardware.specs.Prog.{Prog, R, Ok, pick}
+use Rattle.hardware.specs.Registers.{noneOf}
+use Rattle.hardware.specs.Change.{change}
+use Rattle.hardware.specs.Runs.{Ends}
+use Rattle.hardware.proofs.Ends.{ends-more, ends-bind, ends-try, ends-pick, ret-ends, note-ends, read-ends, delay-ends, change-ends}
+use Rattle.sync.specs.Regs.{PHY0, PHY1, TOKEN, tries, phy}
+use Rattle.sync.proofs.Ends.{ACQUIRE-BITS-STEPS, RELEASE-BITS-STEPS, acquire-bits-ends, release-bits-ends}
+use Rattle.acquire.specs.Acquire.{hwOf, withBits, acquiredAll, acquire, giveBits, release}
+use Rattle.bus.specs.declared.Layout.{Layout}
+use Rattle.bus.specs.declared.Taken.{Taken}
+use Rattle.bus.specs.Layout.{layoutOf, x550em}
+use Rattle.bus.proofs.Ends.{EndsBus, bus-more, done-ends, START-STEPS, SEND-STEPS, IN-BYTE-STEPS, OUT-BIT-STEPS, STOP-STEPS, start-ends, send-ends, in-byte-ends, out-bit-ends, stop-ends}
+use Rattle.transfer.specs.declared.attempt.Sequence.the-variants.{Pulses}
+use Rattle.transfer.proofs.Ends.{ATTEMPT-STEPS, attempt-ends}
+use Rattle.i2c.specs.declared.once.Request.{Request}
+use Rattle.i2c.specs.declared.once.Request.the-variants.{ReadByte, WriteByte, ReadCombined, WriteCombined}
+use Rattle.i2c.specs.I2c.{SHARED-I2C, mask, isWrite, deviceOf, body, givesValue, once, whenLock, readJudged, readTries, writeTries, givenUp, writes, moves, granting, granted, givenBus, onGrant, withBus, handshaken, transferred, setupBus}
+use Rattle.i2c.specs.Calls.{triesOf}
+
+-- a byte read, and the acknowledgement or none behind it
+abbrev pub TAKE-STEPS : ℕ
+TAKE-STEPS = IN-BYTE-STEPS + OUT-BIT-STEPS
+
+-- the starts, the bytes sent, the bytes read and the stop of a request's script
+abbrev pub BODY-STEPS : Request → ℕ
+BODY-STEPS (ReadByte device offset) = 2 * START-STEPS + 3 * SEND-STEPS + TAKE-STEPS + STOP-STEPS
+BODY-STEPS (WriteByte device offset value) = START-STEPS + 3 * SEND-STEPS + STOP-STEPS
+BODY-STEPS (ReadCombined device reg) = 2 * START-STEPS + 5 * SEND-STEPS + 3 * TAKE-STEPS + STOP-STEPS
+BODY-STEPS (WriteCombined device reg value) = START-STEPS + 6 * SEND-STEPS + STOP-STEPS
+
+-- one attempt, its clearing included
+abbrev pub ONCE-STEPS : Request → ℕ
+ONCE-STEPS r = ATTEMPT-STEPS (BODY-STEPS r)
+
+pub read-byte-steps : (device offset : ℕ) → ONCE-STEPS (ReadByte device offset) ≡ 102570
+read-byte-steps device offset = refl
+
+pub write-byte-steps : (device offset value : ℕ) → ONCE-STEPS (WriteByte device offset value) ≡ 82471
+write-byte-steps device offset value = refl
+
+pub read-combined-steps : (device reg : ℕ) → ONCE-STEPS (ReadCombined device reg) ≡ 174968
+read-combined-steps device reg = refl
+
+pub write-combined-steps : (device reg value : ℕ) → ONCE-STEPS (WriteCombined device reg value) ≡ 136819
+write-combined-steps device reg value = refl
+
+-- the lock, where it is taken: no mask of a transfer has the token
+abbrev pub TAKING-STEPS : Family → Bool → ℕ
+TAKING-STEPS family true = ACQUIRE-BITS-STEPS (tries family)
+TAKING-STEPS family false = 0
+
+abbrev pub GIVING-STEPS : Bool → ℕ
+GIVING-STEPS true = RELEASE-BITS-STEPS
+GIVING-STEPS false = 0
+
+-- a read's attempt under its lock, and the wait after it
+abbrev pub READ-STEPS : Family → Request → Bool → ℕ
+READ-STEPS family r lock = TAKING-STEPS family lock + (ONCE-STEPS r + (GIVING-STEPS lock + 1))
+
+-- a write's two attempts under one lock
+abbrev pub WRITE-STEPS : Family → Request → Bool → ℕ
+WRITE-STEPS family r lock = TAKING-STEPS family lock + (2 * ONCE-STEPS r + GIVING-STEPS lock)
+
+abbrev pub MOVES-STEPS : Family → Request → Bool → ℕ → ℕ
+MOVES-STEPS family (ReadByte device offset) lock tries = tries * READ-STEPS family (ReadByte device offset) lock
+MOVES-STEPS family (WriteByte device offset value) lock tries = WRITE-STEPS family (WriteByte device offset value) lock
+MOVES-STEPS family (ReadCombined device reg) lock tries = tries * READ-STEPS family (ReadCombined device reg) lock
+MOVES-STEPS family (WriteCombined device reg value) lock tries = WRITE-STEPS family (WriteCombined device reg value) lock
+
+-- the bus asked for, a read and a wait for each look, and the request taken back
+abbrev pub HANDSHAKE-STEPS : ℕ
+HANDSHAKE-STEPS = 3 + (2 * 200 + 3)
+
+-- the handshake, where there is one, and the attempts
+abbrev pub TRANSFER-STEPS : Family → Request → Bool → ℕ → ℕ
+TRANSFER-STEPS family r lock tries = HANDSHAKE-STEPS + MOVES-STEPS family r lock tries
+
+-- in decimals; X550, X552 and X553 have the same numbers, and so have 82599 and X540
+
+pub taking-steps : (TAKING-STEPS F82599 true ≡ 2402003) × (TAKING-STEPS X550 true ≡ 12010003)
+taking-steps = (refl, refl)
+
+pub giving-steps : GIVING-STEPS true ≡ 12014
+giving-steps = refl
+
+pub handshake-steps : HANDSHAKE-STEPS ≡ 406
+handshake-steps = refl
+
+pub read-byte-total : (device offset : ℕ)
+    → (TRANSFER-STEPS F82599 (ReadByte device offset) true 255 ≡ 641730346) × (TRANSFER-STEPS X550 (ReadByte device offset) true 255 ≡ 3091770346)
+read-byte-total device offset = (refl, refl)
+
+pub write-byte-total : (device offset value n : ℕ)
+    → (TRANSFER-STEPS F82599 (WriteByte device offset value) true n ≡ 2579365) × (TRANSFER-STEPS X550 (WriteByte device offset value) true n ≡ 12187365)
+write-byte-total device offset value n = (refl, refl)
+
+pub read-combined-total : (device reg : ℕ)
+    → (TRANSFER-STEPS F82599 (ReadCombined device reg) true 4 ≡ 10356350) × (TRANSFER-STEPS X550 (ReadCombined device reg) true 4 ≡ 48788350)
+read-combined-total device reg = (refl, refl)
+
+pub write-combined-total : (device reg value n : ℕ)
+    → (TRANSFER-STEPS F82599 (WriteCombined device reg value) true n ≡ 2688061) × (TRANSFER-STEPS X550 (WriteCombined device reg value) true n ≡ 12296061)
+write-combined-total device reg value n = (refl, refl)
+
+-- no accepted call takes more than `read_byte` with 255 attempts under the lock
+abbrev pub MOST-STEPS : ℕ
+MOST-STEPS = 3091770346
+
+taking-most : (family : Family) (lock : Bool) → TAKING-STEPS family lock ≤ 12010003
+taking-most family false = omega arith
+taking-most F82599 true = omega arith
+taking-most X540 true = omega arith
+taking-most X550 true = omega arith
+taking-most X552 true = omega arith
+taking-most X553 true = omega arith
+
+giving-most : (lock : Bool) → GIVING-STEPS lock ≤ 12014
+giving-most true = omega arith
+giving-most false = omega arith
+
+many : (n s : ℕ) → n ≤ 255 → s ≤ 12124588 → HANDSHAKE-STEPS + n * s ≤ MOST-STEPS
+many n s h g = omega (arith, mul-le-mul-right s h)
+
+pub transfer-most : (family : Family) (r : Request) (lock : Bool) (attempts : ℕ) → attempts ≤ 255
+    → TRANSFER-STEPS family r lock (triesOf r attempts) ≤ MOST-STEPS
+unfolding triesOf
+transfer-most family (ReadByte d o) lock attempts h =
+    many attempts (READ-STEPS family (ReadByte d o) lock) h (omega (arith, taking-most family lock, giving-most lock))
+transfer-most family (WriteByte d o v) lock attempts h = omega (arith, taking-most family lock, giving-most lock)
+transfer-most family (ReadCombined d reg) lock attempts h = omega (arith, taking-most family lock, giving-most lock)
+transfer-most family (WriteCombined d reg v) lock attempts h = omega (arith, taking-most family lock, giving-most lock)
+
+body-ends : (l : Layout) (r : Request) → EndsBus (body l r) (BODY-STEPS r)
+unfolding body
+body-ends l (ReadByte d o) =
+    bus-more _ _ (BODY-STEPS (ReadByte d o))
+    (start-ends l _ _ (send-ends l d d _ _ (send-ends l d o _ _
+    (start-ends l _ _ (send-ends l d _ _ _
+    (in-byte-ends l _ (OUT-BIT-STEPS + (STOP-STEPS + 0)) (λ v. out-bit-ends l true _ _ (stop-ends l _ 0 (done-ends _ 0)))))))))
+    (omega arith)
+body-ends l (WriteByte d o v) =
+    bus-more _ _ (BODY-STEPS (WriteByte d o v))
+    (start-ends l _ _ (send-ends l d d _ _ (send-ends l d o _ _ (send-ends l d v _ _ (stop-ends l _ 0 (done-ends _ 0))))))
+    (omega arith)
+body-ends l (ReadCombined d reg) =
+    let a : ℕ = OUT-BIT-STEPS + (STOP-STEPS + 0) in
+    let b : ℕ = OUT-BIT-STEPS + (IN-BYTE-STEPS + a) in
+    let c : ℕ = OUT-BIT-STEPS + (IN-BYTE-STEPS + b) in
+    bus-more _ _ (BODY-STEPS (ReadCombined d reg))
+    (start-ends l _ _ (send-ends l d d _ _ (send-ends l d _ _ _ (send-ends l d _ _ _ (send-ends l d _ _ _
+    (start-ends l _ _ (send-ends l d _ _ _
+    (in-byte-ends l _ c (λ hi. out-bit-ends l false _ _
+    (in-byte-ends l _ b (λ lo. out-bit-ends l false _ _
+    (in-byte-ends l _ a (λ sum. out-bit-ends l true _ _ (stop-ends l _ 0 (done-ends _ 0)))))))))))))))
+    (omega arith)
+body-ends l (WriteCombined d reg v) =
+    bus-more _ _ (BODY-STEPS (WriteCombined d reg v))
+    (start-ends l _ _ (send-ends l d d _ _ (send-ends l d _ _ _ (send-ends l d _ _ _ (send-ends l d _ _ _ (send-ends l d _ _ _
+    (send-ends l d _ _ _ (stop-ends l _ 0 (done-ends _ 0)))))))))
+    (omega arith)
+
+pub once-ends : (port : Port) (r : Request) → Ends (once port r) (ONCE-STEPS r)
+unfolding once
+once-ends port r = attempt-ends Pulses (layoutOf (port .family)) (deviceOf r) _ (BODY-STEPS r) (body-ends (layoutOf (port .family)) r)
+
+no-token : (shared second : Bool) → noneOf (pick shared SHARED-I2C (pick second PHY1 PHY0)) TOKEN ≡ true
+unfolding noneOf pick
+no-token true second = refl
+no-token false true = refl
+no-token false false = refl
+
+-- no mask of a transfer has the token
+pub mask-plain : (port : Port) → noneOf (mask port) TOKEN ≡ true
+unfolding mask phy
+mask-plain port = no-token (x550em (port .family)) (eqb (port .lan) 1)
+
+take-ends : (port : Port) → Ends (acquire port (mask port)) (ACQUIRE-BITS-STEPS (tries (port .family)))
+unfolding acquire acquiredAll pick
+take-ends port =
+    rw (mask-plain port)
+    (ends-more _ (ACQUIRE-BITS-STEPS (tries (port .family)) + 0) (ACQUIRE-BITS-STEPS (tries (port .family)))
+    (ends-try _ _ (ACQUIRE-BITS-STEPS (tries (port .family))) 0 (acquire-bits-ends port _) (λ _. note-ends _ _ 0 (ret-ends _ 0)))
+    (omega arith))
+
+bits-ends : (port : Port) (hw : ℕ) (t : R (Unit {0})) → Ends (giveBits port hw t) RELEASE-BITS-STEPS
+unfolding giveBits withBits
+bits-ends port hw t =
+    ends-try _ _ RELEASE-BITS-STEPS 0 (ends-pick _ _ _ RELEASE-BITS-STEPS (ret-ends _ _) (release-bits-ends port hw)) (λ _. ret-ends _ 0)
+
+give-ends : (port : Port) → Ends (release port (mask port)) RELEASE-BITS-STEPS
+unfolding release pick
+give-ends port = note-ends _ _ _ (rw (mask-plain port) (bits-ends port (hwOf (mask port)) (Ok tt)))
+
+taken-ends : (port : Port) (lock : Bool) (k : Prog (R Taken)) (n : ℕ) → Ends k n
+    → Ends (whenLock lock (acquire port (mask port)) k) (TAKING-STEPS (port .family) lock + n)
+unfolding whenLock pick
+taken-ends port true k n e = ends-try _ _ (ACQUIRE-BITS-STEPS (tries (port .family))) n (take-ends port) (λ _. e)
+taken-ends port false k n e = ends-more _ n (0 + n) e (omega arith)
+
+given-ends : (port : Port) (lock : Bool) (k : Prog (R Taken)) (n : ℕ) → Ends k n
+    → Ends (whenLock lock (release port (mask port)) k) (GIVING-STEPS lock + n)
+unfolding whenLock pick
+given-ends port true k n e = ends-try _ _ RELEASE-BITS-STEPS n (give-ends port) (λ _. e)
+given-ends port false k n e = ends-more _ n (0 + n) e (omega arith)
+
+-- n: the answers for the attempts that are left
+judged-ends : (r : Request) (lock : Bool) (again : Unit {0} → Prog (R Taken)) (n : ℕ) → Ends (again tt) n → (result : R Taken)
+    → Ends (readJudged r lock again result) (1 + n)
+unfolding readJudged
+judged-ends r lock again n e result =
+    ends-pick _ _ _ (1 + n)
+    (ends-pick _ _ _ (1 + n) (ends-try _ _ 1 n (delay-ends _) (λ _. e)) (ends-more _ n (1 + n) e (omega arith)))
+    (ret-ends _ _)
+
+one-more : (n t o g s : ℕ) → s ≡ t + (o + (g + 1)) → t + (o + (g + (1 + n * s))) ≤ suc n * s
+one-more n t o g s e = rw suc-mul (omega arith)
+
+pub read-tries-ends : (port : Port) (r : Request) (lock : Bool) (n : ℕ) → Ends (readTries port r lock n) (n * READ-STEPS (port .family) r lock)
+unfolding readTries
+read-tries-ends port r lock zero = ret-ends _ _
+read-tries-ends port r lock (suc n) =
+    let t : ℕ = TAKING-STEPS (port .family) lock in
+    let o : ℕ = ONCE-STEPS r in
+    let g : ℕ = GIVING-STEPS lock in
+    let s : ℕ = READ-STEPS (port .family) r lock in
+    ends-more _ (t + (o + (g + (1 + n * s)))) (suc n * s)
+    (taken-ends port lock _ (o + (g + (1 + n * s)))
+    (ends-bind _ _ o (g + (1 + n * s)) (once-ends port r)
+    (λ result. given-ends port lock _ (1 + n * s) (judged-ends r lock _ (n * s) (read-tries-ends port r lock n) result))))
+    (one-more n t o g s refl)
+
+pub write-tries-ends : (port : Port) (r : Request) (n : ℕ) (result : R Taken) → Ends (writeTries port r n result) (n * ONCE-STEPS r)
+unfolding writeTries
+write-tries-ends port r zero result = ret-ends _ _
+write-tries-ends port r (suc n) before =
+    let o : ℕ = ONCE-STEPS r in
+    ends-more _ (o + n * o) (suc n * o)
+    (ends-bind _ _ o (n * o) (once-ends port r) (λ result. ends-pick _ _ _ (n * o) (write-tries-ends port r n result) (ret-ends _ _)))
+    (rw suc-mul (omega arith))
+
+pub writes-ends : (port : Port) (r : Request) (lock : Bool) → Ends (writes port r lock) (WRITE-STEPS (port .family) r lock)
+unfolding writes givenUp
+writes-ends port r lock =
+    taken-ends port lock _ (2 * ONCE-STEPS r + GIVING-STEPS lock)
+    (ends-bind _ _ (2 * ONCE-STEPS r) (GIVING-STEPS lock) (write-tries-ends port r 2 _)
+    (λ result. ends-more _ (GIVING-STEPS lock + 0) (GIVING-STEPS lock) (given-ends port lock _ 0 (ret-ends _ 0)) (omega arith)))
+
+pub moves-ends : (port : Port) (r : Request) (lock : Bool) (n : ℕ) → Ends (moves port r lock n) (MOVES-STEPS (port .family) r lock n)
+unfolding moves isWrite pick
+moves-ends port (ReadByte d o) lock n = read-tries-ends port (ReadByte d o) lock n
+moves-ends port (WriteByte d o v) lock n = writes-ends port (WriteByte d o v) lock
+moves-ends port (ReadCombined d reg) lock n = read-tries-ends port (ReadCombined d reg) lock n
+moves-ends port (WriteCombined d reg v) lock n = writes-ends port (WriteCombined d reg v) lock
+
+pub granted-ends : (n : ℕ) → Ends (granted n) (2 * n)
+unfolding granted granting
+granted-ends zero = note-ends _ _ _ (ret-ends _ _)
+granted-ends (suc n) =
+    ends-more _ (1 + (1 + 2 * n)) (2 * suc n)
+    (ends-try _ _ 1 (1 + 2 * n) (read-ends _)
+    (λ v. ends-pick _ _ _ (1 + 2 * n) (ends-try _ _ 1 (2 * n) (delay-ends _) (λ _. granted-ends n)) (ret-ends _ _)))
+    (omega arith)
+
+with-bus-ends : (port : Port) (device : ℕ) (f : Prog (R Taken)) (n : ℕ) → Ends f n → Ends (withBus port device f) (HANDSHAKE-STEPS + n)
+unfolding withBus onGrant givenBus
+with-bus-ends port device f n e =
+    ends-pick _ _ _ (HANDSHAKE-STEPS + n)
+    (ends-more _ (3 + (2 * 200 + (n + 3))) (HANDSHAKE-STEPS + n)
+    (ends-try _ _ 3 (2 * 200 + (n + 3)) (change-ends _)
+    (λ _. ends-try _ _ (2 * 200) (n + 3) (granted-ends 200)
+    (λ got. ends-bind _ _ n 3 (ends-pick got f _ n e (ret-ends _ n)) (λ result. ends-try _ _ 3 0 (change-ends _) (λ _. ret-ends _ 0)))))
+    (omega arith))
+    (ends-more _ n (HANDSHAKE-STEPS + n) e (omega arith))
+
+pub handshaken-ends : (port : Port) (r : Request) (f : Prog (R Taken)) (n : ℕ) → Ends f n → Ends (handshaken port r f) (HANDSHAKE-STEPS + n)
+unfolding handshaken
+handshaken-ends port (ReadByte d o) f n e = with-bus-ends port d f n e
+handshaken-ends port (WriteByte d o v) f n e = with-bus-ends port d f n e
+handshaken-ends port (ReadCombined d reg) f n e = ends-more _ n (HANDSHAKE-STEPS + n) e (omega arith)
+handshaken-ends port (WriteCombined d reg v) f n e = ends-more _ n (HANDSHAKE-STEPS + n) e (omega arith)
+
+pub transferred-ends : (port : Port) (r : Request) (lock : Bool) (n : ℕ) → Ends (transferred port r lock n) (TRANSFER-STEPS (port .family) r lock n)
+unfolding transferred givesValue
+transferred-ends port r lock n =
+    ends-more _ (TRANSFER-STEPS (port .family) r lock n + 0) (TRANSFER-STEPS (port .family) r lock n)
+    (ends-bind _ _ (TRANSFER-STEPS (port .family) r lock n) 0
+    (handshaken-ends port r _ (MOVES-STEPS (port .family) r lock n) (moves-ends port r lock n)) (λ result. ret-ends _ 0))
+    (omega arith)
+
+-- `qsfp_setup` is one change
+pub setup-ends : Ends (change setupBus) 3
+setup-ends = change-ends setupBus

@@ -1,0 +1,99 @@
+-- How many answers of the awaited kinds bring `identify` to its end, for every port.
+use Prim.Native.Nat.{ℕ, _+_, _*_, _≤_, suc, zero}
+use mathlib.Core.Path.{_≡_, refl}
+use mathlib.Core.Bool.{Bool, true, false}
+use native.Mathlib.Nat.{mul-le-mul-right, suc-mul}
+use native.Mathlib.Omega.{arith}
+use Rattle.hardware.specs.declared.Family.{Family}
+use Rattle.hardware.specs.declared.Family.the-variants.{F82599, X550}
+use Rattle.hardware.specs.declared.Port.{Port}
+use Rattle.hardware.specs.Prog.{Prog, ret, R, Ok, Err, pick}
+use Rattle.hardware.specs.Runs.{Ends}
+use Rattle.hardware.proofs.Ends.{ends-more, ends-bind, ends-pick, ret-ends}
+use Rattle.bus.specs.Layout.{x550em}
+use Rattle.i2c.specs.declared.once.Request.the-variants.{ReadByte}
+use Rattle.i2c.specs.I2c.{attempts}
+use Rattle.i2c.proofs.Ends.{READ-STEPS, TRANSFER-STEPS, transferred-ends}
+use Rattle.sfp.specs.declared.Kind.{Kind}
+use Rattle.sfp.specs.declared.Module.{Module}
+use Rattle.sfp.specs.Identify.{EEPROM, orAbsent, byte, identifierOf, Codes, reachOf, bx10gOf, fibreOf, kindBy, recorded, classify, known, identified, identify}
+
+-- a byte requested with eleven attempts, the most that `identify` allows
+abbrev pub BYTE-STEPS : Family → ℕ
+BYTE-STEPS family = TRANSFER-STEPS family (ReadByte EEPROM 0) true 11
+
+-- byte 0 five times; 6, 3 and 8; 12, 14 and 15; 60
+abbrev pub IDENTIFY-STEPS : Family → ℕ
+IDENTIFY-STEPS family = 12 * BYTE-STEPS family
+
+pub identify-steps : (IDENTIFY-STEPS F82599 ≡ 332194488) × (IDENTIFY-STEPS X550 ≡ 1600450488)
+identify-steps = (refl, refl)
+
+module _ (port : Port) where
+  few : (tries : ℕ) → tries ≤ 11 → TRANSFER-STEPS (port .family) (ReadByte EEPROM 0) true tries ≤ BYTE-STEPS (port .family)
+  few tries h = omega (arith, mul-le-mul-right (READ-STEPS (port .family) (ReadByte EEPROM 0) true) h)
+
+  attempts-few : attempts port ≤ 11
+  unfolding attempts pick
+  attempts-few = by (x550em (port .family))
+    where
+      by : (b : Bool) → pick b 4 11 ≤ 11
+      by true = omega arith
+      by false = omega arith
+
+  absent-ends : (k : ℕ → Prog (R Module)) (n : ℕ) → ((v : ℕ) → Ends (k v) n) → (r : R ℕ) → Ends (orAbsent k r) n
+  unfolding orAbsent
+  absent-ends k n e (Ok v) = e v
+  absent-ends k n e (Err error) = ends-pick _ _ _ n (ret-ends _ n) (ret-ends _ n)
+
+  byte-ends : (offset tries : ℕ) (k : ℕ → Prog (R Module)) (n : ℕ) → tries ≤ 11 → ((v : ℕ) → Ends (k v) n) → Ends (byte port offset tries k) (BYTE-STEPS (port .family) + n)
+  unfolding byte
+  byte-ends offset tries k n h e =
+      ends-bind _ _ (BYTE-STEPS (port .family)) n
+      (ends-more _ _ (BYTE-STEPS (port .family)) (transferred-ends port (ReadByte EEPROM offset) true tries) (few tries h)) (absent-ends k n e)
+
+  -- the identifier, so many times
+  identifier-ends : (left identifier : ℕ) (k : ℕ → Prog (R Module)) (n : ℕ) → ((v : ℕ) → Ends (k v) n)
+      → Ends (identifierOf port left identifier k) (left * BYTE-STEPS (port .family) + n)
+  unfolding identifierOf
+  identifier-ends zero identifier k n e = ends-more _ n _ (e identifier) (omega arith)
+  identifier-ends (suc left) identifier k n e =
+      ends-more _ _ _
+      (byte-ends 0 11 _ (left * BYTE-STEPS (port .family) + n) (omega arith) (λ v. ends-pick _ _ _ _ (ends-more _ n _ (e v) (omega arith)) (identifier-ends left v k n e)))
+      (many left (BYTE-STEPS (port .family)))
+    where
+      many : (a b : ℕ) → b + (a * b + n) ≤ suc a * b + n
+      many a b = omega (arith, suc-mul a b)
+
+  reach-ends : (k : Bool → Prog (R Module)) (n : ℕ) → ((b : Bool) → Ends (k b) n) → Ends (reachOf port k) (2 * BYTE-STEPS (port .family) + n)
+  unfolding reachOf
+  reach-ends k n e =
+      ends-more _ _ _ (byte-ends 14 _ _ _ attempts-few (λ km. byte-ends 15 _ _ n attempts-few (λ hm. e _))) (omega arith)
+
+  bx-ends : (c : Codes) (k : Bool → Prog (R Module)) (n : ℕ) → ((b : Bool) → Ends (k b) n) → Ends (bx10gOf port c k) (3 * BYTE-STEPS (port .family) + n)
+  unfolding bx10gOf
+  bx-ends c k n e =
+      ends-pick _ _ _ _
+      (ends-more _ _ _ (byte-ends 12 _ _ (2 * BYTE-STEPS (port .family) + n) attempts-few (λ rate. ends-pick _ _ _ _ (reach-ends k n e) (ends-more _ n _ (e false) (omega arith)))) (omega arith))
+      (ends-more _ n _ (e false) (omega arith))
+
+  kind-ends : (c : Codes) (bx : Bool) (k : Kind → Prog (R Module)) (n : ℕ) → ((kind : Kind) → Ends (k kind) n) → Ends (kindBy port c bx k) (BYTE-STEPS (port .family) + n)
+  unfolding kindBy
+  kind-ends c bx k n e =
+      ends-pick _ _ _ _ (ends-more _ n _ (e _) (omega arith))
+      (ends-pick _ _ _ _ (byte-ends 60 _ _ n attempts-few (λ v. e _)) (ends-more _ n _ (e _) (omega arith)))
+
+  known-ends : (identifier : ℕ) → Ends (known port identifier) (7 * BYTE-STEPS (port .family))
+  unfolding known classify
+  known-ends identifier =
+      ends-more _ _ _
+      (byte-ends 6 _ _ _ attempts-few (λ g1. byte-ends 3 _ _ _ attempts-few (λ g10. byte-ends 8 _ _ _ attempts-few (λ cable.
+      bx-ends _ _ _ (λ bx. kind-ends _ bx _ 0 (λ kind. ret-ends _ 0))))))
+      (omega arith)
+
+  pub identify-ends : Ends (identify port) (IDENTIFY-STEPS (port .family))
+  unfolding identify identified
+  identify-ends =
+      ends-more _ _ _
+      (identifier-ends 5 0 _ (7 * BYTE-STEPS (port .family)) (λ identifier. ends-pick _ _ _ _ (known-ends identifier) (ret-ends _ _)))
+      (omega arith)

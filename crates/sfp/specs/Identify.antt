@@ -1,0 +1,95 @@
+-- `identify` of `sfp.rs`.
+use Prim.Native.Nat.{ℕ, suc, zero}
+use mathlib.Core.Bool.{Bool, true, false, _&&_, _||_}
+use lib.Dec.{eqb, leb, ltb}
+use Rattle.hardware.specs.declared.Port.{Port}
+use Rattle.hardware.specs.Prog.{Prog, ret, R, Ok, Err, _>>=_, pick}
+use Rattle.hardware.specs.Registers.{noneOf}
+use Rattle.bus.specs.Bus.{isI2c}
+use Rattle.i2c.specs.declared.once.Request.the-variants.{ReadByte}
+use Rattle.i2c.specs.I2c.{attempts, transferred}
+use Rattle.sfp.specs.declared.Kind.{Kind}
+use Rattle.sfp.specs.declared.Kind.the-variants.{DaCu, DaActiveLimiting, SrLr, Cu1g, Sx1g, Lx1g, Bx10g, Bx1g, Unknown, NotPresent}
+use Rattle.sfp.specs.declared.Module.{Module}
+use Rattle.sfp.specs.Classes.{has, SFP, SR, LR, SX, LX, BASE-T, BX10, PASSIVE-DA, ACTIVE-DA, LIMITING, isCable}
+
+abbrev pub EEPROM : ℕ
+EEPROM = 0xa0
+
+abbrev pub absent : Module
+absent = record { kind = NotPresent; multispeed = false; identifier = 0; comp10g = 0; comp1g = 0; cable = 0 }
+
+-- another identifier than an SFP's
+abbrev pub other : ℕ → Module
+other identifier = record { kind = Unknown; multispeed = false; identifier = identifier; comp10g = 0; comp1g = 0; cable = 0 }
+
+-- the Rust's `or_absent!` over `byte`: no module where the byte ends in I2c
+unfoldable pub orAbsent : (ℕ → Prog (R Module)) → R ℕ → Prog (R Module)
+orAbsent k (Ok v) = k v
+orAbsent k (Err e) = pick (isI2c e) (ret (Ok absent)) (ret (Err e))
+
+unfoldable pub byte : Port → ℕ → ℕ → (ℕ → Prog (R Module)) → Prog (R Module)
+byte port offset tries k = transferred port (ReadByte EEPROM offset) true tries >>= orAbsent k
+
+-- byte 0 until it is an SFP's identifier
+unfoldable pub identifierOf : Port → ℕ → ℕ → (ℕ → Prog (R Module)) → Prog (R Module)
+identifierOf port zero identifier k = k identifier
+identifierOf port (suc left) identifier k = byte port 0 11 (λ v. pick (eqb v SFP) (k v) (identifierOf port left v k))
+
+-- bytes 6, 3 and 8, as `m` holds them
+pub record Codes : Type 0 where
+  pub g1 : ℕ
+  pub g10 : ℕ
+  pub cable : ℕ
+
+-- step 4: 10G-BX, by the nominal rate and the reach on single-mode fibre
+unfoldable pub reachOf : Port → (Bool → Prog (R Module)) → Prog (R Module)
+reachOf port k = byte port 14 (attempts port) (λ km. byte port 15 (attempts port) (λ hm. k (ltb 0 km || leb 10 hm)))
+
+unfoldable pub bx10gOf : Port → Codes → (Bool → Prog (R Module)) → Prog (R Module)
+bx10gOf port c k =
+    pick (eqb (c .g10) 0 && (noneOf (c .g1) 0x0b && noneOf (c .cable) 0x0c))
+    (byte port 12 (attempts port) (λ rate. pick (eqb rate 0x67) (reachOf port k) (k false)))
+    (k false)
+
+-- step 5 below the cables: the first row that fits
+unfoldable pub fibreOf : Codes → Bool → Kind
+fibreOf c bx =
+    pick (has (c .g10) 0x30) SrLr
+    (pick (has (c .g1) BASE-T) Cu1g
+    (pick (has (c .g1) SX) Sx1g
+    (pick (has (c .g1) LX) Lx1g
+    (pick bx Bx10g
+    (pick (has (c .g1) BX10) Bx1g Unknown)))))
+
+unfoldable pub kindBy : Port → Codes → Bool → (Kind → Prog (R Module)) → Prog (R Module)
+kindBy port c bx k =
+    pick (has (c .cable) PASSIVE-DA) (k DaCu)
+    (pick (has (c .cable) ACTIVE-DA) (byte port 60 (attempts port) (λ v. k (pick (has v LIMITING) DaActiveLimiting Unknown)))
+    (k (fibreOf c bx)))
+
+-- step 7
+unfoldable pub recorded : ℕ → Codes → Kind → Module
+recorded identifier c kind =
+    record {
+      kind = kind;
+      multispeed = has (c .g1) SX && has (c .g10) SR || (has (c .g1) LX && has (c .g10) LR || isCable kind);
+      identifier = identifier;
+      comp10g = c .g10;
+      comp1g = c .g1;
+      cable = c .cable;
+    }
+
+unfoldable pub classify : Port → ℕ → Codes → Prog (R Module)
+classify port identifier c = bx10gOf port c (λ bx. kindBy port c bx (λ kind. ret (Ok (recorded identifier c kind))))
+
+unfoldable pub known : Port → ℕ → Prog (R Module)
+known port identifier =
+    byte port 6 (attempts port) (λ g1. byte port 3 (attempts port) (λ g10. byte port 8 (attempts port) (λ cable.
+    classify port identifier (record { g1 = g1; g10 = g10; cable = cable }))))
+
+unfoldable pub identified : Port → ℕ → Prog (R Module)
+identified port identifier = pick (eqb identifier SFP) (known port identifier) (ret (Ok (other identifier)))
+
+unfoldable pub identify : Port → Prog (R Module)
+identify port = identifierOf port 5 0 (identified port)

@@ -1,0 +1,25 @@
+// SFP+ modules: their classes by SFF-8472, and what the driver records of one.
+
+// The kinds of `sfp.rs`. Unknown: another identifier than an SFP's, or no rule fits. NotPresent: nothing answered.
+pub enum Kind {
+    DaCu,
+    DaActiveLimiting,
+    SrLr,
+    Cu1g,
+    Sx1g,
+    Lx1g,
+    Bx10g,
+    Bx1g,
+    Unknown,
+    NotPresent,
+}
+
+// The record of a module. Bytes 3, 6 and 8 of an SFP are comp10g, comp1g and cable.
+pub struct Module {
+    pub kind: Kind,
+    pub multispeed: bool,
+    pub identifier: u8,
+    pub comp10g: u8,
+    pub comp1g: u8,
+    pub cable: u8,
+}

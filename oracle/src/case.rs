@@ -25,9 +25,6 @@ pub const SCRIPT: u32 = 15;
 pub const ONES_ADD: u32 = 16;
 pub const PLAIN: u32 = 17;
 
-/// Whether `list` and `fresh` give cases of `SCRIPT`. The switch: the port has no such call.
-pub const SCRIPTS: bool = false;
-
 /// The functions that `PLAIN` chooses from.
 pub const X550EM: u32 = 0;
 pub const MASK: u32 = 1;
@@ -69,11 +66,6 @@ impl Case {
 
     fn port(&self) -> Port {
         Port { family: self.family(), device: self.device as u16, lan: self.lan as u8 }
-    }
-
-    /// Whether `list` and `fresh` give the case.
-    pub fn given(&self) -> bool {
-        SCRIPTS || self.function != SCRIPT
     }
 
     pub fn player(&self) -> Player {

@@ -14,15 +14,12 @@ pub struct Fresh(Choice);
 
 impl Fresh {
     pub fn new(seed: u64) -> Self {
-        Fresh(Choice(seed))
+        Fresh(Choice::new(seed))
     }
 
     pub fn next(&mut self) -> Case {
         loop {
             let case = if self.0.percent(50) { self.0.transfer() } else { self.0.case() };
-            if !case.given() {
-                continue;
-            }
             let mut player = case.player().limited(LONGEST);
             let accesses = case.run_with(&mut player).accesses;
             if player.overrun() {
@@ -39,10 +36,14 @@ impl Fresh {
 }
 
 /// SplitMix64, for choices only; the answers have their own stream.
-struct Choice(u64);
+pub struct Choice(u64);
 
 impl Choice {
-    fn word(&mut self) -> u32 {
+    pub fn new(seed: u64) -> Self {
+        Choice(seed)
+    }
+
+    pub fn word(&mut self) -> u32 {
         self.0 = self.0.wrapping_add(0x9e37_79b9_7f4a_7c15);
         let mut z = self.0;
         z = (z ^ z >> 30).wrapping_mul(0xbf58_476d_1ce4_e5b9);
@@ -51,15 +52,15 @@ impl Choice {
     }
 
     /// A number below `end`.
-    fn below(&mut self, end: u32) -> u32 {
+    pub fn below(&mut self, end: u32) -> u32 {
         ((u64::from(self.word()) * u64::from(end)) >> 32) as u32
     }
 
-    fn percent(&mut self, chance: u32) -> bool {
+    pub fn percent(&mut self, chance: u32) -> bool {
         self.below(100) < chance
     }
 
-    fn one<T: Copy>(&mut self, of: &[T]) -> T {
+    pub fn one<T: Copy>(&mut self, of: &[T]) -> T {
         of[self.below(of.len() as u32) as usize]
     }
 

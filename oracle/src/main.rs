@@ -2,6 +2,7 @@
 //! did, for a port to compare itself with. See README.md for the line format.
 
 mod answers;
+mod bench;
 mod case;
 mod driver;
 mod fresh;
@@ -17,7 +18,8 @@ use std::process::ExitCode;
 use case::Case;
 use fresh::Fresh;
 
-const USAGE: &str = "usage: oracle list | fresh SEED COUNT | replay FILE | trace FILE LINE | count FILE";
+const USAGE: &str =
+    "usage: oracle list | fresh SEED COUNT | replay FILE | trace FILE LINE | count FILE | bench SEED COUNT";
 /// Differing lines that `replay` shows.
 const SHOWN: usize = 10;
 
@@ -25,11 +27,12 @@ fn main() -> ExitCode {
     let words: Vec<String> = std::env::args().skip(1).collect();
     let words: Vec<&str> = words.iter().map(String::as_str).collect();
     let done = match words[..] {
-        ["list"] => print(list::cases().into_iter().filter(Case::given)),
+        ["list"] => print(list::cases().into_iter()),
         ["fresh", seed, count] => fresh(seed, count),
         ["replay", file] => replay(file),
         ["trace", file, line] => trace(file, line),
         ["count", file] => count(file),
+        ["bench", seed, count] => bench(seed, count),
         _ => Err(USAGE.into()),
     };
     match done {
@@ -49,9 +52,14 @@ fn print(cases: impl Iterator<Item = Case>) -> Result<(), String> {
     out.flush().map_err(|e| e.to_string())
 }
 
+fn numbers(seed: &str, count: &str) -> Result<(u64, usize), String> {
+    let seed = seed.parse().map_err(|_| "SEED is a number below 2^64")?;
+    let count = count.parse().map_err(|_| "COUNT is a number")?;
+    Ok((seed, count))
+}
+
 fn fresh(seed: &str, count: &str) -> Result<(), String> {
-    let seed: u64 = seed.parse().map_err(|_| "SEED is a number below 2^64")?;
-    let count: usize = count.parse().map_err(|_| "COUNT is a number")?;
+    let (seed, count) = numbers(seed, count)?;
     let mut fresh = Fresh::new(seed);
     print((0..count).map(|_| fresh.next()))
 }
@@ -128,4 +136,16 @@ fn count(file: &str) -> Result<(), String> {
         println!("function {function}: {lines} lines, {accesses} accesses, at most {most}; {codes}");
     }
     Ok(())
+}
+
+/// The original's `identify` with the bench module, against the claim.
+fn bench(seed: &str, count: &str) -> Result<(), String> {
+    let (seed, count) = numbers(seed, count)?;
+    let tally = bench::starts(seed, count);
+    println!("{tally}");
+    if tally.disagree == 0 {
+        Ok(())
+    } else {
+        Err("the original does not do what is claimed".into())
+    }
 }

@@ -110,7 +110,7 @@ unfoldable pub Over : {A : Type 0} → Outcome A → Type 0
 Over (ended a w) = Unit {0}
 Over short = ⊥
 
-works-fits : (x : Access) (a : Answer) → Works x a → T (fits x a)
+pub works-fits : (x : Access) (a : Answer) → Works x a → T (fits x a)
 unfolding fits
 works-fits (Read r) (Value v) m = tt
 works-fits (Read r) Done m = absurd m
@@ -170,7 +170,7 @@ wrote-recount : (l : Layout) (v j : ℕ) (w : World machine) → wrote l machine
 unfolding wrote turn
 wrote-recount l v j w = ap (λ s. record { word = v; other = s }) (takes-recount _ j (w .other))
 
-wrote-made : (l : Layout) (v : ℕ) (w : World machine) → wrote l machine v w .other .made ≡ w .other .made
+pub wrote-made : (l : Layout) (v : ℕ) (w : World machine) → wrote l machine v w .other .made ≡ w .other .made
 unfolding wrote turn
 wrote-made l v w = takes-made _ (w .other)
 

@@ -25,7 +25,8 @@ use Rattle.sfp.specs.declared.Kind.{Kind}
 use Rattle.sfp.specs.declared.Kind.the-variants.{DaCu, DaActiveLimiting, SrLr, Cu1g, Sx1g, Lx1g, Bx10g, Bx1g, Unknown, NotPresent}
 use Rattle.sfp.specs.declared.Module.{Module}
 use Rattle.sfp.specs.Classes.{Bytes, has, SFP, PASSIVE-DA, ACTIVE-DA, LIMITING, SR, LR, BASE-T, SX, LX, BX10, asksRate, asksReach, bx10g, asksActive, kindOf, isCable, multispeedOf, Class, classOf, requests}
-use Rattle.sfp.specs.Identify.{absent, other, Codes, recorded, identify}
+use Rattle.sfp.specs.declared.Codes.{Codes}
+use Rattle.sfp.specs.Identify.{absent, other, recorded, identify}
 use Rattle.sfp.proofs.Ends.{IDENTIFY-STEPS, identify-ends}
 use Rattle.demand.specs.Claim.{Met, machine, Outcome, ended, short, Story, benched, Each, Premise, atStart, byteOf, Says, extra, Facts, Absent, InAckWrite, Claimed, Holds, Claim, Starts, Premises}
 use Rattle.demand.proofs.Receiver.{idle-free}

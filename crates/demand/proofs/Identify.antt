@@ -1,9 +1,8 @@
 -- The whole of `identify` against the module, by the module's state at its beginning.
-use Prim.Native.Nat.{ℕ, _+_, _*_, _/_, _%_, _<_, suc, zero}
-use mathlib.Core.Path.{_≡_, refl, ap, ap₂, _∙_, sym, subst}
+use Prim.Native.Nat.{ℕ, _+_, _<_, suc, zero}
+use mathlib.Core.Path.{_≡_, refl, subst}
 use mathlib.Core.Bool.{Bool, true, false, not, _&&_, _||_}
 use native.Mathlib.Omega.{arith}
-use lib.Bits.{bitAnd, and-high}
 use lib.Dec.{eqb, leb, ltb, lit<}
 use Rattle.hardware.specs.declared.Port.{Port}
 use Rattle.hardware.specs.Prog.{Prog, ret, R, Ok, pick}
@@ -17,31 +16,13 @@ use Rattle.i2c.specs.I2c.{attempts}
 use Rattle.sfp.specs.declared.Kind.{Kind}
 use Rattle.sfp.specs.declared.Kind.the-variants.{DaCu, DaActiveLimiting, Unknown}
 use Rattle.sfp.specs.declared.Module.{Module}
-use Rattle.sfp.specs.Classes.{Bytes, has, SFP, SR, LR, PASSIVE-DA, ACTIVE-DA, LIMITING, asksRate, asksReach, bx10g, asksActive, kindOf, isCable, multispeedOf, Class, classOf, requests}
-use Rattle.sfp.specs.Identify.{absent, other, byte, identifierOf, Codes, reachOf, bx10gOf, fibreOf, kindBy, recorded, classify, known, identified, identify}
+use Rattle.sfp.specs.Classes.{has, SFP, PASSIVE-DA, ACTIVE-DA, LIMITING, asksRate, asksReach, bx10g, asksActive, kindOf}
+use Rattle.sfp.specs.declared.Codes.{Codes}
+use Rattle.sfp.specs.Identify.{absent, other, byte, identifierOf, reachOf, bx10gOf, fibreOf, kindBy, recorded, classify, known, identified, identify}
+use Rattle.sfp.proofs.Laws.{kind-by-codes}
 use Rattle.demand.specs.Claim.{Met, machine}
 use Rattle.demand.proofs.Attempts.{Stuck}
 use Rattle.demand.proofs.Requests.{world, bytes, After, request-read, request-clears, request-fails, request-next}
-
--- SR or LR: one look at both bits, or one at each
-pub either-bit : (v : ℕ) → has v 0x30 ≡ (has v SR || has v LR)
-unfolding has noneOf
-either-bit v =
-    ap (λ n. not (eqb n 0)) (and-high v 2 4) ∙ by (v / 16 % 4) (omega arith)
-    ∙ ap₂ (λ x y. not (eqb x 0) || not (eqb y 0)) (ap (λ n. n * 16) low ∙ sym (and-high v 1 4)) (ap (λ n. n * 32) high ∙ sym (and-high v 1 5))
-  where
-    low : v / 16 % 4 % 2 ≡ v / 16 % 2
-    low = omega arith
-
-    high : v / 16 % 4 / 2 ≡ v / 32 % 2
-    high = omega arith
-
-    by : (x : ℕ) → x < 4 → not (eqb (x * 16) 0) ≡ (not (eqb (x % 2 * 16) 0) || not (eqb (x / 2 * 32) 0))
-    by zero h = refl
-    by (suc zero) h = refl
-    by (suc (suc zero)) h = refl
-    by (suc (suc (suc zero))) h = refl
-    by (suc (suc (suc (suc x)))) h = absurd (omega (arith, h))
 
 attempts-some : (port : Port) → attempts port ≡ suc (pick (x550em (port .family)) 3 10)
 unfolding attempts pick
@@ -103,11 +84,6 @@ module _ (port : Port) (m : Met) (small : (i : ℕ) → bytes m i < 256) (Q : R 
   kind-by j k false true e f h = rw (e, f) (next 60 (lit< tt) j _ (counts _ (omega arith) h))
   kind-by j k false false e f h = rw (e, f) (counts _ (omega arith) h)
 
-  kinds : pick (has (bytes m 8) PASSIVE-DA) DaCu (pick (has (bytes m 8) ACTIVE-DA) (pick (has (bytes m 60) LIMITING) DaActiveLimiting Unknown) (fibreOf codes (bx10g (bytes m))))
-      ≡ kindOf (bytes m)
-  unfolding kindOf fibreOf
-  kinds = rw (either-bit (bytes m 3))
-
   active : (not (has (bytes m 8) PASSIVE-DA) && has (bytes m 8) ACTIVE-DA) ≡ asksActive (bytes m)
   unfolding asksActive has
   active = by (noneOf (bytes m 8) PASSIVE-DA)
@@ -119,7 +95,7 @@ module _ (port : Port) (m : Met) (small : (i : ℕ) → bytes m i < 256) (Q : R 
   kind-law : (j : ℕ) (k : Kind → Prog (R Module)) → Onward (pick (asksActive (bytes m)) 1 0 + j) (k (kindOf (bytes m)))
       → Onward j (kindBy port codes (bx10g (bytes m)) k)
   kind-law j k h =
-      kind-by j k (has (bytes m 8) PASSIVE-DA) (has (bytes m 8) ACTIVE-DA) refl refl (rw (kinds, active) h)
+      kind-by j k (has (bytes m 8) PASSIVE-DA) (has (bytes m 8) ACTIVE-DA) refl refl (rw (kind-by-codes (bytes m), active) h)
 
   -- the record of a module whose byte 0 is an SFP's
   abbrev sfpRecord : Module

@@ -14,3 +14,4 @@ pub mod Identify
 pub mod Benched
 pub mod Claim
 pub mod Possible
+pub mod Ran

@@ -23,7 +23,8 @@ use Rattle.i2c.specs.declared.once.Request.the-variants.{ReadByte, WriteByte, R
 use Rattle.i2c.specs.I2c.{mask, deviceOf, scriptOf, body, once, whenLock, readJudged, readTries, writeTries, givenUp, writes, moves, askBus, giveBus, granting, granted, givenBus, onGrant, withBus, handshaken, givesValue, transferred}
 use Rattle.i2c.proofs.Laws.{body-is}
 use Rattle.sfp.specs.declared.Module.{Module}
-use Rattle.sfp.specs.Identify.{EEPROM, orAbsent, byte, identifierOf, Codes, reachOf, bx10gOf, kindBy, classify, recorded, known, identified, identify}
+use Rattle.sfp.specs.declared.Codes.{Codes}
+use Rattle.sfp.specs.Identify.{EEPROM, orAbsent, byte, identifierOf, reachOf, bx10gOf, kindBy, classify, recorded, known, identified, identify}
 use Rattle.demand.specs.Fine.{Lucky}
 use Rattle.demand.specs.Luck.{luckyAt, lucky}
 use Rattle.demand.proofs.Locks.{aside}

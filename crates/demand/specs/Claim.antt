@@ -150,6 +150,10 @@ pub record Claimed (l : Layout) (b : Bench) (c : Counted (R Module)) (w : World 
   pub only : Facts l b (c .result) w → InAckWrite b → ⊥
   pub absent : InAckWrite b → Absent (c .result) × (w .other .made ≡ 11)
 
+-- the call that the claim is about
+abbrev pub call : Port → Prog (R Module)
+call port = identify port
+
 -- ... of two runs over the same answers: the Rust's, whose notes tell the transfers made, and the library's, whose result
 -- tells them (`tally`); both come to their end
 unfoldable pub Holds : Layout → Bench → Outcome (R Module) → Outcome (Counted (R Module)) → Type 0
@@ -160,8 +164,8 @@ Holds l b short o = ⊥
 unfoldable pub Claim : Port → Bench → ℕ → List Answer → Type 0
 Claim port b word answers =
     Holds (layoutOf (port .family)) b
-    (benched (layoutOf (port .family)) (identify port) (atStart word b) answers .outcome)
-    (benched (layoutOf (port .family)) (tally 0 (identify port)) (atStart word b) answers .outcome)
+    (benched (layoutOf (port .family)) (call port) (atStart word b) answers .outcome)
+    (benched (layoutOf (port .family)) (tally 0 (call port)) (atStart word b) answers .outcome)
 
 -- "The control register starts as 01 allows": on the X552 layout BB_EN is set or both enables are off (`ready`)
 unfoldable pub Starts : Port → Bench → ℕ → Type 0
@@ -169,4 +173,4 @@ Starts port b word = ((n : ℕ) → byteOf (b .a0) n < 256) × (ready (layoutOf 
 
 -- the answers meet the premises
 unfoldable pub Premises : Port → Bench → ℕ → List Answer → Type 0
-Premises port b word answers = Each Premise (benched (layoutOf (port .family)) (identify port) (atStart word b) answers .events)
+Premises port b word answers = Each Premise (benched (layoutOf (port .family)) (call port) (atStart word b) answers .events)

@@ -1,3 +1,4 @@
 pub mod Claim
 pub mod Fine
 pub mod Luck
+pub mod Ran

@@ -1,5 +1,7 @@
 -- The examples that the papers mark as proved, joined in one table and proved together.
+use Prim.Native.Nat.{ℕ}
 use mathlib.Core.Path.{_≡_, refl}
+use mathlib.Core.Bool.{Bool, true, false, _||_}
 use mathlib.Core.List.{[], _∷_}
 use Rattle.hardware.specs.declared.Family.the-variants.{X540, X552}
 use Rattle.hardware.specs.Asked.{is}
@@ -8,6 +10,17 @@ use Rattle.hardware.specs.Registers.{noneOf}
 use Rattle.sync.specs.Regs.{bits, bits82599, bitsX540}
 use Rattle.script.specs.Sum.{readBytes, writeBytes}
 use Rattle.script.proofs.Checksum.{examples}
+use Rattle.sfp.specs.declared.Kind.{Kind}
+use Rattle.sfp.specs.declared.Kind.the-variants.{DaCu, SrLr, Bx10g, Bx1g, Unknown}
+use Rattle.sfp.specs.Bytes.{sfpBytes}
+use Rattle.sfp.specs.Classes.{Bytes, Class, SFP, has, asksRate, asksReach, bx10g, kindOf, isCable, multispeedOf, classOf}
+
+-- an SFP with these bytes 3, 6, 8, 12, 14, 15 and 60
+abbrev pub sfp : ℕ → ℕ → ℕ → ℕ → ℕ → ℕ → ℕ → Bytes
+sfp b3 b6 b8 b12 b14 b15 b60 = sfpBytes (record { b0 = SFP; b3 = b3; b6 = b6; b8 = b8; b12 = b12; b14 = b14; b15 = b15; b60 = b60 })
+
+abbrev pub class : Kind → Bool → Class
+class kind multispeed = record { kind = kind; multispeed = multispeed }
 
 pub record Starred : Type 0 where
   pub shared-i2c : bits X552 0x1806 ≡ record { sw = 0x1806; fw = 0x60c0; hw = 0 }
@@ -16,9 +29,20 @@ pub record Starred : Type 0 where
   pub read-7FFF : readBytes 0x7FFF ≡ 0xFF ∷ 0xFF ∷ 0x00 ∷ []
   pub read-0080 : readBytes 0x0080 ≡ 0x01 ∷ 0x80 ∷ 0x7E ∷ []
   pub write-ABCD : writeBytes 0x1234 0xABCD ≡ 0x24 ∷ 0x34 ∷ 0xAB ∷ 0xCD ∷ 0x2E ∷ []
+  pub reach-0A : (b60 : ℕ) → classOf (sfp 0x00 0x00 0x00 0x67 0x00 0x0A b60) ≡ class Bx10g false
+  pub reach-09 : (b60 : ℕ) → classOf (sfp 0x00 0x00 0x00 0x67 0x00 0x09 b60) ≡ class Unknown false
+  pub rate-66 : (b14 b15 b60 : ℕ) → classOf (sfp 0x00 0x40 0x00 0x66 b14 b15 b60) ≡ class Bx1g false
+  pub cable-0C : (b3 b6 b12 b14 b15 b60 : ℕ) → classOf (sfp b3 b6 0x0C b12 b14 b15 b60) ≡ class DaCu true
+  pub sr-sx : (b12 b14 b15 b60 : ℕ) → classOf (sfp 0x10 0x01 0x00 b12 b14 b15 b60) ≡ class SrLr true
+  pub lr-sx : (b12 b14 b15 b60 : ℕ) → classOf (sfp 0x20 0x01 0x00 b12 b14 b15 b60) ≡ class SrLr false
+
+or-true : (x y : Bool) → (x || (y || true)) ≡ true
+or-true true y = refl
+or-true false true = refl
+or-true false false = refl
 
 pub starred : Starred
-unfolding bits bits82599 bitsX540 is pick noneOf
+unfolding bits bits82599 bitsX540 is pick noneOf sfpBytes has asksRate asksReach bx10g kindOf isCable multispeedOf classOf
 starred =
     record {
       shared-i2c = refl;
@@ -27,4 +51,10 @@ starred =
       read-7FFF = examples .1;
       read-0080 = examples .2;
       write-ABCD = examples .3;
+      reach-0A = λ b60. refl;
+      reach-09 = λ b60. refl;
+      rate-66 = λ b14 b15 b60. refl;
+      cable-0C = λ b3 b6 b12 b14 b15 b60. rw or-true;
+      sr-sx = λ b12 b14 b15 b60. refl;
+      lr-sx = λ b12 b14 b15 b60. refl;
     }

@@ -1,4 +1,5 @@
 // Runs the worked examples and prints what comes out.
+mod classes;
 mod host;
 mod scripts;
 mod sends;
@@ -28,6 +29,7 @@ fn main() {
     scripts::print_read(0x7FFF);
     scripts::print_read(0x0080);
     scripts::print_write(0x1234, 0xABCD);
+    classes::print_classes();
     scripts::print_buffers();
     scripts::print_lengths();
     scripts::print_forms();

@@ -5,6 +5,7 @@ use crate::host;
 use crate::host::Host;
 use crate::parse;
 use crate::plain;
+use crate::scripts;
 use crate::transfers;
 use crate::transfers::Asked;
 ghost use Prim.Native.Nat.{_≤_};
@@ -24,7 +25,7 @@ fn device(d: u32) -> u16 {
 // Whether the number names a call.
 fn known(call: u32) -> bool {
     match call {
-        0..=8 | 10..=14 | 16 | 17 => true,
+        0..=8 | 10..=17 => true,
         _ => false,
     }
 }
@@ -99,6 +100,7 @@ fn call(words: &[u32; 45]) -> Ran {
         7 => plain::bits(h, family, a),
         8 => plain::phy(h, lan),
         10 => transfers::qsfp_setup(h),
+        15 => scripts::script(h, family, device, lan, a, words[5]),
         16 => plain::ones_add(h, a, words[5]),
         17 => plain::port(h, family, device, lan, a),
         _ => transfer(words),

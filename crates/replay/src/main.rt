@@ -5,9 +5,11 @@ mod case;
 mod host;
 mod lines;
 mod parse;
+mod phrases;
 mod plain;
 mod rng;
 mod rules;
+mod scripts;
 mod transfers;
 
 use parse::Line;

@@ -16,7 +16,8 @@ use Rattle.i2c.specs.I2c.{attempts}
 use Rattle.i2c.proofs.Ends.{READ-STEPS, TRANSFER-STEPS, transferred-ends}
 use Rattle.sfp.specs.declared.Kind.{Kind}
 use Rattle.sfp.specs.declared.Module.{Module}
-use Rattle.sfp.specs.Identify.{EEPROM, orAbsent, byte, identifierOf, Codes, reachOf, bx10gOf, fibreOf, kindBy, recorded, classify, known, identified, identify}
+use Rattle.sfp.specs.declared.Codes.{Codes}
+use Rattle.sfp.specs.Identify.{EEPROM, orAbsent, byte, identifierOf, reachOf, bx10gOf, fibreOf, kindBy, recorded, classify, known, identified, identify}
 
 -- a byte requested with eleven attempts, the most that `identify` allows
 abbrev pub BYTE-STEPS : Family → ℕ
@@ -33,7 +34,7 @@ module _ (port : Port) where
   few : (tries : ℕ) → tries ≤ 11 → TRANSFER-STEPS (port .family) (ReadByte EEPROM 0) true tries ≤ BYTE-STEPS (port .family)
   few tries h = omega (arith, mul-le-mul-right (READ-STEPS (port .family) (ReadByte EEPROM 0) true) h)
 
-  attempts-few : attempts port ≤ 11
+  pub attempts-few : attempts port ≤ 11
   unfolding attempts pick
   attempts-few = by (x550em (port .family))
     where

@@ -1,5 +1,5 @@
 -- Classes of modules by SFF-8472, over a module's bytes: at n is byte n of page A0 (decimal).
-use Prim.Native.Nat.{ℕ, _+_}
+use Prim.Native.Nat.{ℕ, _+_, _/_}
 use mathlib.Core.Bool.{Bool, true, false, not, _&&_, _||_}
 use lib.Dec.{eqb, leb, ltb}
 use Rattle.hardware.specs.Prog.{pick}
@@ -104,3 +104,24 @@ classOf at = pick (eqb (at 0) SFP) (record { kind = kindOf at; multispeed = mult
 -- how many bytes an identification requests
 unfoldable pub requests : Bytes → ℕ
 requests at = pick (eqb (at 0) SFP) (4 + pick (asksRate at) 1 0 + pick (asksReach at) 2 0 + pick (asksActive at) 1 0) 5
+
+-- QSFP modules (SFF-8636), over the bytes that the module shows: at n is byte n (hexadecimal)
+abbrev pub QSFP : ℕ
+QSFP = 0x0d
+
+-- an active cable by its code, or by its technology, length and vendor's bits
+unfoldable pub qsfpActive : Bytes → Bool
+qsfpActive at = has (at 0x83) 0x01 || (eqb (at 0x82) 0x23 && (ltb 0x00 (at 0x92) && eqb (at 0x93 / 16) 0))
+
+unfoldable pub qsfpKindOf : Bytes → Kind
+qsfpKindOf at =
+    pick (has (at 0x83) 0x08) DaCu
+    (pick (has (at 0x83) SR || has (at 0x83) LR) SrLr
+    (pick (qsfpActive at) DaActiveLimiting Unknown))
+
+-- only SX with SR or LX with LR
+unfoldable pub qsfpMultispeedOf : Bytes → Bool
+qsfpMultispeedOf at = has (at 0x86) SX && has (at 0x83) SR || has (at 0x86) LX && has (at 0x83) LR
+
+unfoldable pub qsfpClassOf : Bytes → Class
+qsfpClassOf at = pick (eqb (at 0) QSFP) (record { kind = qsfpKindOf at; multispeed = qsfpMultispeedOf at }) (record { kind = Unknown; multispeed = false })

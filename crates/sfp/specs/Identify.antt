@@ -8,6 +8,7 @@ use Rattle.hardware.specs.Registers.{noneOf}
 use Rattle.bus.specs.Bus.{isI2c}
 use Rattle.i2c.specs.declared.once.Request.the-variants.{ReadByte}
 use Rattle.i2c.specs.I2c.{attempts, transferred}
+use Rattle.sfp.specs.declared.Codes.{Codes}
 use Rattle.sfp.specs.declared.Kind.{Kind}
 use Rattle.sfp.specs.declared.Kind.the-variants.{DaCu, DaActiveLimiting, SrLr, Cu1g, Sx1g, Lx1g, Bx10g, Bx1g, Unknown, NotPresent}
 use Rattle.sfp.specs.declared.Module.{Module}
@@ -35,12 +36,6 @@ byte port offset tries k = transferred port (ReadByte EEPROM offset) true tries 
 unfoldable pub identifierOf : Port → ℕ → ℕ → (ℕ → Prog (R Module)) → Prog (R Module)
 identifierOf port zero identifier k = k identifier
 identifierOf port (suc left) identifier k = byte port 0 11 (λ v. pick (eqb v SFP) (k v) (identifierOf port left v k))
-
--- bytes 6, 3 and 8, as `m` holds them
-pub record Codes : Type 0 where
-  pub g1 : ℕ
-  pub g10 : ℕ
-  pub cable : ℕ
 
 -- step 4: 10G-BX, by the nominal rate and the reach on single-mode fibre
 unfoldable pub reachOf : Port → (Bool → Prog (R Module)) → Prog (R Module)

@@ -1,2 +1,6 @@
+pub mod Bytes
 pub mod Classes
 pub mod Identify
+pub mod Module
+pub mod Qsfp
+pub mod Rate

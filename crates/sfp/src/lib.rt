@@ -1,5 +1,10 @@
 // SFP+ modules: their classes by SFF-8472, and what the driver records of one.
 
+pub mod class;
+pub mod methods;
+pub mod qsfp;
+pub mod rate;
+
 // The kinds of `sfp.rs`. Unknown: another identifier than an SFP's, or no rule fits. NotPresent: nothing answered.
 pub enum Kind {
     DaCu,
@@ -21,5 +26,12 @@ pub struct Module {
     pub identifier: u8,
     pub comp10g: u8,
     pub comp1g: u8,
+    pub cable: u8,
+}
+
+// The codes of an SFP that its class goes by: bytes 6, 3 and 8.
+pub struct Codes {
+    pub g1: u8,
+    pub g10: u8,
     pub cable: u8,
 }

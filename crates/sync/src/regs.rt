@@ -14,8 +14,6 @@ pub const PHY0: u32 = 1 << 1;
 
 pub const PHY1: u32 = 1 << 2;
 
-pub const MAC_CSR: u32 = 1 << 3;
-
 pub const FLASH: u32 = 1 << 4;
 
 pub const SW_MNG: u32 = 1 << 10;
@@ -93,9 +91,9 @@ fn bits_82599(mask: u32) -> Masks
 fn bits_x540(mask: u32) -> Masks
     ensures { λ r. ⌜ r ≡ bitsX540 mask ⌝ }
 {
-    let i2c = mask & 0x1800;
+    let i2c = mask & (I2C0 | I2C1);
     let low = mask & 0xf;
-    let sw = mask & 0x40f | i2c;
+    let sw = mask & (0xf | SW_MNG) | i2c;
     let fw = low * 32 | i2c * 4;
     if hardware::none_of(mask, EEP) {
         return Masks { sw, fw, hw: 0 };
@@ -118,7 +116,7 @@ pub fn mux(port: Port, mask: u32) -> bool
     let family = port.family;
     if hardware::same(family, Family::X552) {
         if port.lan == 1 {
-            if hardware::none_of(mask, 0x1800) {
+            if hardware::none_of(mask, I2C0 | I2C1) {
                 return false;
             }
             return true;

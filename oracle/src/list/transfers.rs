@@ -382,7 +382,8 @@ fn late_acks(list: &mut List) {
 }
 
 /// SDA low at each look at it after it was raised (each bit where a 1 is
-/// sent, the starts, the stop), once; the next attempt goes well.
+/// sent, the starts, the stop), once; the next attempt goes well. In each
+/// layout also low from each bit on, for ever.
 fn stuck_bits(list: &mut List) {
     for (f, family) in FAMILIES.into_iter().enumerate() {
         let script = list.script(&[Read(1), Send(1)]);
@@ -393,6 +394,11 @@ fn stuck_bits(list: &mut List) {
             let kept = if LAYOUTS.contains(&family) { 1 } else { 5 };
             for number in numbers_of(&case, Seen::quiet).into_iter().step_by(kept) {
                 list.push(sda_low(&case, number, 1));
+            }
+            if LAYOUTS.contains(&family) {
+                for number in numbers_of(&case, Seen::rise) {
+                    list.push(sda_low(&case, number, NEVER));
+                }
             }
         }
     }

@@ -1,0 +1,85 @@
+-- Laws of the classes.
+use Prim.Native.Nat.{ℕ, _*_, _/_, _%_, _≤_, _<_, suc, zero}
+use mathlib.Core.Path.{_≡_, refl, ap, ap₂, _∙_, sym}
+use mathlib.Core.Bool.{Bool, true, false, not, _||_}
+use native.Mathlib.Omega.{arith}
+use lib.Bits.{bitAnd, and-high}
+use lib.Dec.{eqb}
+use Rattle.hardware.specs.Prog.{pick}
+use Rattle.hardware.specs.Registers.{noneOf}
+use Rattle.sfp.specs.declared.Codes.{Codes}
+use Rattle.sfp.specs.declared.Kind.{Kind}
+use Rattle.sfp.specs.declared.Kind.the-variants.{DaCu, DaActiveLimiting, Unknown}
+use Rattle.sfp.specs.declared.Module.{Module}
+use Rattle.sfp.specs.Bytes.{sfpBytes, sfpBytesOf, qsfpBytes, qsfpBytesOf, codesOf, codesAskRate}
+use Rattle.sfp.specs.Classes.{Bytes, has, SR, LR, PASSIVE-DA, ACTIVE-DA, LIMITING, asksRate, asksReach, asksActive, bx10g, kindOf, multispeedOf, Class, classOf, requests, qsfpActive, qsfpKindOf, qsfpMultispeedOf, qsfpClassOf}
+use Rattle.sfp.specs.Identify.{fibreOf, recorded}
+use Rattle.sfp.specs.Qsfp.{qsfpRecorded}
+
+-- SR or LR: one look at both bits, or one at each
+pub either-bit : (v : ℕ) → has v 0x30 ≡ (has v SR || has v LR)
+unfolding has noneOf
+either-bit v =
+    ap (λ n. not (eqb n 0)) (and-high v 2 4) ∙ by (v / 16 % 4) (omega arith)
+    ∙ ap₂ (λ x y. not (eqb x 0) || not (eqb y 0)) (ap (λ n. n * 16) low ∙ sym (and-high v 1 4)) (ap (λ n. n * 32) high ∙ sym (and-high v 1 5))
+  where
+    low : v / 16 % 4 % 2 ≡ v / 16 % 2
+    low = omega arith
+
+    high : v / 16 % 4 / 2 ≡ v / 32 % 2
+    high = omega arith
+
+    by : (x : ℕ) → x < 4 → not (eqb (x * 16) 0) ≡ (not (eqb (x % 2 * 16) 0) || not (eqb (x / 2 * 32) 0))
+    by zero h = refl
+    by (suc zero) h = refl
+    by (suc (suc zero)) h = refl
+    by (suc (suc (suc zero))) h = refl
+    by (suc (suc (suc (suc x)))) h = absurd (omega (arith, h))
+
+pub pick-most : (b : Bool) (n : ℕ) → pick b n 0 ≤ n
+unfolding pick
+pick-most true n = omega arith
+pick-most false n = omega arith
+
+-- a class and the requests go by the named bytes alone
+pub class-by : (at : Bytes) → classOf (sfpBytes (sfpBytesOf at)) ≡ classOf at
+unfolding sfpBytes pick classOf kindOf multispeedOf bx10g asksReach asksRate
+class-by at = refl
+
+pub requests-by : (at : Bytes) → requests (sfpBytes (sfpBytesOf at)) ≡ requests at
+unfolding sfpBytes pick requests asksActive asksReach asksRate
+requests-by at = refl
+
+pub qsfp-class-by : (at : Bytes) → qsfpClassOf (qsfpBytes (qsfpBytesOf at)) ≡ qsfpClassOf at
+unfolding qsfpBytes pick qsfpClassOf qsfpKindOf qsfpActive qsfpMultispeedOf
+qsfp-class-by at = refl
+
+-- the codes of a module ask for byte 12 where its bytes do
+pub codes-ask : (at : Bytes) → codesAskRate (codesOf at) ≡ asksRate at
+unfolding codesAskRate asksRate
+codes-ask at = refl
+
+-- the same of what a program finds of the codes
+pub rate-asked : {q : Bool} {c : Codes} (at : Bytes) → q ≡ codesAskRate c → c ≡ codesOf at → q ≡ asksRate at
+rate-asked at e f = e ∙ ap codesAskRate f ∙ codes-ask at
+
+-- the kind by the codes: a cable, or the first of the others that fits
+pub kind-by-codes : (at : Bytes)
+    → pick (has (at 8) PASSIVE-DA) DaCu (pick (has (at 8) ACTIVE-DA) (pick (has (at 60) LIMITING) DaActiveLimiting Unknown) (fibreOf (codesOf at) (bx10g at)))
+    ≡ kindOf at
+unfolding kindOf fibreOf
+kind-by-codes at = rw (either-bit (at 3))
+
+abbrev pub classIn : Module → Class
+classIn m = record { kind = m .kind; multispeed = m .multispeed }
+
+-- the class in the record of a module with these bytes
+pub recorded-class : {m : Module} {c : Codes} {kind : Kind} (identifier : ℕ) (at : Bytes)
+    → m ≡ recorded identifier c kind → c ≡ codesOf at → kind ≡ kindOf at → classIn m ≡ record { kind = kindOf at; multispeed = multispeedOf at }
+unfolding recorded multispeedOf
+recorded-class identifier at e f g = ap classIn (e ∙ ap₂ (recorded identifier) f g)
+
+pub qsfp-recorded-class : {m : Module} {kind : Kind} (at : Bytes)
+    → m ≡ qsfpRecorded (at 0x83) (at 0x86) kind → kind ≡ qsfpKindOf at → classIn m ≡ record { kind = qsfpKindOf at; multispeed = qsfpMultispeedOf at }
+unfolding qsfpRecorded qsfpMultispeedOf
+qsfp-recorded-class at e g = ap classIn (e ∙ ap (qsfpRecorded (at 0x83) (at 0x86)) g)

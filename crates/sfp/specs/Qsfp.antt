@@ -1,0 +1,54 @@
+-- `identify_qsfp` of `sfp.rs`. Offsets are hexadecimal.
+use Prim.Native.Nat.{ℕ, _/_}
+use mathlib.Core.Bool.{Bool, _&&_, _||_}
+use lib.Dec.{eqb, ltb}
+use Rattle.hardware.specs.declared.Port.{Port}
+use Rattle.hardware.specs.Prog.{Prog, ret, R, Ok, pick}
+use Rattle.i2c.specs.I2c.{attempts}
+use Rattle.sfp.specs.declared.Kind.{Kind}
+use Rattle.sfp.specs.declared.Kind.the-variants.{DaCu, DaActiveLimiting, SrLr, Unknown}
+use Rattle.sfp.specs.declared.Module.{Module}
+use Rattle.sfp.specs.Classes.{has, QSFP, SR, LR, SX, LX}
+use Rattle.sfp.specs.Identify.{byte, other}
+
+unfoldable pub qsfpRecorded : ℕ → ℕ → Kind → Module
+qsfpRecorded g10 g1 kind =
+    record {
+      kind = kind;
+      multispeed = has g1 SX && has g10 SR || has g1 LX && has g10 LR;
+      identifier = QSFP;
+      comp10g = g10;
+      comp1g = g1;
+      cable = 0;
+    }
+
+abbrev pub qsfpFound : ℕ → ℕ → Kind → Prog (R Module)
+qsfpFound g10 g1 kind = ret (Ok (qsfpRecorded g10 g1 kind))
+
+-- the vendor's bits of an active cable
+unfoldable pub qsfpVendor : ℕ → ℕ → ℕ → Prog (R Module)
+qsfpVendor g10 g1 v = pick (eqb (v / 16) 0) (qsfpFound g10 g1 DaActiveLimiting) (qsfpFound g10 g1 Unknown)
+
+-- its length
+unfoldable pub qsfpLength : Port → ℕ → ℕ → ℕ → Prog (R Module)
+qsfpLength port g10 g1 v = pick (ltb 0 v) (byte port 0x93 (attempts port) (qsfpVendor g10 g1)) (qsfpFound g10 g1 Unknown)
+
+-- its technology
+unfoldable pub qsfpConnector : Port → ℕ → ℕ → ℕ → Prog (R Module)
+qsfpConnector port g10 g1 v = pick (eqb v 0x23) (byte port 0x92 (attempts port) (qsfpLength port g10 g1)) (qsfpFound g10 g1 Unknown)
+
+unfoldable pub qsfpClassify : Port → ℕ → ℕ → Prog (R Module)
+qsfpClassify port g10 g1 =
+    pick (has g10 0x08) (qsfpFound g10 g1 DaCu)
+    (pick (has g10 0x30) (qsfpFound g10 g1 SrLr)
+    (pick (has g10 0x01) (qsfpFound g10 g1 DaActiveLimiting)
+    (byte port 0x82 (attempts port) (qsfpConnector port g10 g1))))
+
+unfoldable pub qsfpKnown : Port → Prog (R Module)
+qsfpKnown port = byte port 0x83 (attempts port) (λ g10. byte port 0x86 (attempts port) (qsfpClassify port g10))
+
+unfoldable pub qsfpIdentified : Port → ℕ → Prog (R Module)
+qsfpIdentified port identifier = pick (eqb identifier QSFP) (qsfpKnown port) (ret (Ok (other identifier)))
+
+unfoldable pub identifyQsfp : Port → Prog (R Module)
+identifyQsfp port = byte port 0 11 (qsfpIdentified port)

@@ -1,0 +1,73 @@
+-- `run` is safe and ends. The measure is the number of accesses that are left.
+use borrow.Author.Needs.{needs}
+use Rattle.trial.proofs.host.run.Statement.{statement}
+use Rattle.trial.proofs.host.run.Tie as tie
+
+abbrev Inv-loop : tie.InvT-loop
+Inv-loop port desk₀ told₀ left₀ desk told left = Unit {0}
+
+abbrev μ-loop : tie.MeasureT-loop
+μ-loop port desk₀ told₀ left₀ desk told left = left
+
+loop-holds : tie.Need-loop-holds Inv-loop μ-loop
+loop-holds c = search needs
+
+enum-known-told : tie.Need-enum-known-told Inv-loop μ-loop
+enum-known-told c = search needs
+
+meet-requires : tie.Need-meet-requires Inv-loop μ-loop
+meet-requires c κs = search needs
+
+transfer-step-requires : tie.Need-transfer-step-requires Inv-loop μ-loop
+transfer-step-requires c κs = search needs
+
+enum-known-told-2 : tie.Need-enum-known-told-2 Inv-loop μ-loop
+enum-known-told-2 c = search needs
+
+returns : tie.Need-returns Inv-loop μ-loop
+returns c = search needs
+
+enum-told : tie.Need-enum-told Inv-loop μ-loop
+enum-told c = search needs
+
+unended-requires : tie.Need-unended-requires Inv-loop μ-loop
+unended-requires c κs = search needs
+
+returns-2 : tie.Need-returns-2 Inv-loop μ-loop
+returns-2 c = search needs
+
+sub-left : tie.Need-sub-left Inv-loop μ-loop
+sub-left c = search needs
+
+loop-less : tie.Need-loop-less Inv-loop μ-loop
+loop-less c = search needs
+
+loop-again : tie.Need-loop-again Inv-loop μ-loop
+loop-again c = search needs
+
+unended-requires-2 : tie.Need-unended-requires-2 Inv-loop μ-loop
+unended-requires-2 c κs = search needs
+
+returns-3 : tie.Need-returns-3 Inv-loop μ-loop
+returns-3 c = search needs
+
+pub run-spec : {M : Type 1} → statement M
+run-spec =
+    tie.close
+    (tie.spec
+    Inv-loop
+    μ-loop
+    loop-holds
+    enum-known-told
+    meet-requires
+    transfer-step-requires
+    enum-known-told-2
+    returns
+    enum-told
+    unended-requires
+    returns-2
+    sub-left
+    loop-less
+    loop-again
+    unended-requires-2
+    returns-3)

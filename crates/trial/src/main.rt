@@ -1,0 +1,32 @@
+// Reads a byte of the bench module from every state of its receiver, on both layouts of I2CCTL and with four words there
+// at the start. A line is a state, and says whether the module pulls SDA; for each word it has the byte or I2c, the
+// transfers made, the receiver at the end, the lines (free: nobody pulls either) and the bytes of both pages.
+mod ends;
+mod host;
+mod print;
+mod start;
+
+use hardware::Opening;
+use hardware::Port;
+
+fn lines(number: u32, port: Port) {
+    for n in 0..start::ROWS {
+        print::line(number, port, n);
+    }
+}
+
+fn table(name: &[u8], number: u32, device: u16) {
+    match hardware::open_port(number, device, 0) {
+        Opening::Port(port) => {
+            print::title(name, port);
+            print::words(port);
+            lines(number, port);
+        }
+        Opening::Refused(_) => print::text(b"refused\n"),
+    }
+}
+
+fn main() {
+    table(b"82599", 0, 0x10fb);
+    table(b"X552", 3, 0x15ac);
+}

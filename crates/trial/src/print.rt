@@ -1,0 +1,153 @@
+// The lines that are printed.
+use crate::ends;
+use crate::host;
+use crate::host::Ran;
+use crate::start;
+use crate::start::Row;
+use bench::receiver::Stage;
+use bench::register::Desk;
+use hardware::Error;
+use hardware::Port;
+use hardware::Word;
+
+const STDOUT: i32 = 1;
+
+pub(crate) fn text(bytes: &[u8]) {
+    io::write_all(STDOUT, bytes);
+}
+
+fn numbered(name: &[u8], n: u8) {
+    text(name);
+    io::print_decimal(STDOUT, n as u64);
+}
+
+fn stage(s: Stage) {
+    match s {
+        Stage::Idle => text(b"Idle"),
+        Stage::Address(n) => numbered(b"Address ", n),
+        Stage::Receive(n) => numbered(b"Receive ", n),
+        Stage::AckRead => text(b"AckRead"),
+        Stage::AckWrite => text(b"AckWrite"),
+        Stage::Send(n) => numbered(b"Send ", n),
+        Stage::Listen => text(b"Listen"),
+    }
+}
+
+// Up to a width of 11, with what Listen noted.
+fn pad(s: Stage, noted: bool) {
+    match s {
+        Stage::Idle => text(b"       "),
+        Stage::Address(_) => text(b"  "),
+        Stage::Receive(_) => text(b"  "),
+        Stage::AckRead => text(b"    "),
+        Stage::AckWrite => text(b"   "),
+        Stage::Send(_) => text(b"     "),
+        Stage::Listen => either(noted, b" high", b" low "),
+    }
+}
+
+fn either(yes: bool, one: &[u8], other: &[u8]) {
+    if yes {
+        text(one);
+    } else {
+        text(other);
+    }
+}
+
+fn failed(e: Error) {
+    if bus::is_i2c(e) {
+        text(b"I2c");
+    } else {
+        numbered(b"failed ", hardware::error_number(e));
+    }
+}
+
+fn value(w: Word) {
+    match w {
+        Word::Ok(v) => {
+            io::print_hex(STDOUT, v as u64, 2);
+        }
+        Word::Err(e) => failed(e),
+    }
+}
+
+// The byte read or I2c, and the transfers made.
+fn result(r: Ran) {
+    if r.ended {
+        let v = r.value;
+        value(v);
+        text(b" ");
+        io::print_decimal(STDOUT, r.made as u64);
+    } else {
+        text(b"unended");
+    }
+}
+
+// The receiver at the end, the lines and the bytes.
+fn module(port: Port, before: Desk, after: Desk) {
+    let family = port.family;
+    let b = before.bench;
+    let a = after.bench;
+    let receiver = a.receiver;
+    let s = receiver.stage;
+    text(b" ");
+    stage(s);
+    either(ends::released(family, after), b" free", b" held");
+    either(ends::same(b, a), b" same", b" changed");
+}
+
+fn cell(number: u32, port: Port, row: Row, column: u8) {
+    let family = port.family;
+    let before = start::desk(family, row, column);
+    let ran = host::read(number, port, before);
+    let after = ran.desk;
+    text(b" | ");
+    result(ran);
+    module(port, before, after);
+}
+
+// The receiver at the start, and whether the module pulls SDA.
+fn label(port: Port, row: Row) {
+    let family = port.family;
+    let d = start::desk(family, row, 0);
+    let bench = d.bench;
+    let s = row.stage;
+    stage(s);
+    pad(s, row.noted);
+    either(bench::pulls_low(bench), b" pulls", b"      ");
+}
+
+pub(crate) fn line(number: u32, port: Port, n: u8) {
+    let row = start::row_at(n);
+    label(port, row);
+    cell(number, port, row, 0);
+    cell(number, port, row, 1);
+    cell(number, port, row, 2);
+    cell(number, port, row, 3);
+    text(b"\n");
+}
+
+fn word(port: Port, column: u8) {
+    let family = port.family;
+    text(b" |            ");
+    io::print_hex(STDOUT, start::word(family, column) as u64, 8);
+}
+
+// The four words of I2CCTL at the start.
+pub(crate) fn words(port: Port) {
+    text(b"I2CCTL           ");
+    word(port, 0);
+    word(port, 1);
+    word(port, 2);
+    word(port, 3);
+    text(b"\n");
+}
+
+pub(crate) fn title(name: &[u8], port: Port) {
+    text(name);
+    text(b": byte ");
+    io::print_hex(STDOUT, host::OFFSET as u64, 2);
+    text(b" of A0, ");
+    io::print_decimal(STDOUT, i2c::attempts(port) as u64);
+    text(b" attempts\n");
+}

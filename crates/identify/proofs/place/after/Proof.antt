@@ -1,0 +1,33 @@
+-- `after` meets its contract.
+use Rattle.hardware.specs.Runs.{given}
+use Rattle.i2c.specs.I2c.{read-off, valueOf}
+use Rattle.identify.specs.Place.{requestAt, toldAt}
+use Rattle.sfp.specs.Identify.{orAbsent}
+use Rattle.transfer.specs.Attempt.{got}
+use borrow.Author.Needs.{needs}
+use Rattle.identify.proofs.place.after.Statement.{statement}
+use Rattle.identify.proofs.place.after.Tie as tie
+
+enum-known-g : tie.Need-enum-known-g
+enum-known-g c = search needs
+
+on-requires : tie.Need-on-requires
+on-requires c κs = search needs
+
+enum-known-g-2 : tie.Need-enum-known-g-2
+enum-known-g-2 c = search needs
+
+failed-requires : tie.Need-failed-requires
+failed-requires c κs = search needs
+
+returns : tie.Need-returns
+unfolding toldAt got valueOf read-off orAbsent requestAt
+returns c = (λ port. rw (c .before .before .g .given .1) (c .on .ensures .0 port), c .on .ensures .1)
+
+returns-2 : tie.Need-returns-2
+unfolding toldAt got valueOf
+returns-2 c = (λ port. rw (c .before .before .g2 .given .1) (c .failed .ensures .0 port _), λ h. c .failed .ensures .1 _)
+
+pub after-spec : {M : Type 1} → statement M
+after-spec =
+    tie.close (tie.spec enum-known-g on-requires enum-known-g-2 failed-requires returns returns-2)

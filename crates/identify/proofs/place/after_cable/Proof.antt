@@ -1,0 +1,28 @@
+-- `after_cable` meets its contract.
+use Rattle.hardware.specs.Prog.{pick}
+use Rattle.identify.specs.Place.{Later, capAt, kinded, offsetAt, onAt, onward, placed, probesAt, triesAt, validPlace}
+use Rattle.sfp.specs.Bytes.{codesAskRate}
+use Rattle.sfp.specs.Identify.{bx10gOf, classify}
+use Rattle.sync.specs.Resource.{taken}
+use borrow.Author.Needs.{needs}
+use mathlib.Core.Path.{refl}
+use native.Mathlib.Omega.{arith}
+use Rattle.identify.proofs.place.after_cable.Statement.{statement}
+use Rattle.identify.proofs.place.after_cable.Tie as tie
+
+asks-rate-requires : tie.Need-asks-rate-requires
+asks-rate-requires c κs = search needs
+
+returns : tie.Need-returns
+unfolding onward Later placed offsetAt triesAt probesAt validPlace pick onAt classify bx10gOf kinded codesAskRate capAt
+returns c = (λ port. rw (← c .before .asks-rate .ensures, c .if1 .taken), (refl, omega arith))
+
+kinded-requires : tie.Need-kinded-requires
+kinded-requires c κs = search needs
+
+returns-2 : tie.Need-returns-2
+unfolding classify bx10gOf kinded codesAskRate pick
+returns-2 c = (λ port. rw (← c .before .before .asks-rate .ensures, c .before .if1 .left) (c .kinded .ensures .0 port), c .kinded .ensures .1 88 (omega arith))
+
+pub after-cable-spec : {M : Type 1} → statement M
+after-cable-spec = tie.close (tie.spec asks-rate-requires returns kinded-requires returns-2)

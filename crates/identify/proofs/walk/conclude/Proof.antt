@@ -1,0 +1,46 @@
+-- `conclude` meets its contract.
+use Rattle.hardware.specs.Prog.{tally}
+use Rattle.hardware.specs.Runs.{given}
+use Rattle.identify.specs.Place.{Later, onward}
+use Rattle.identify.specs.Walk.{foundOf, identifyNext, validIdentifyNext}
+use borrow.Author.Needs.{needs}
+use mathlib.Core.Path.{refl}
+use native.Mathlib.Omega.{arith}
+use Rattle.identify.proofs.walk.conclude.Statement.{statement}
+use Rattle.identify.proofs.walk.conclude.Tie as tie
+
+enum-known-t : tie.Need-enum-known-t
+enum-known-t c = search needs
+
+begin-requires : tie.Need-begin-requires
+begin-requires c κs = search needs
+
+enum-known-t-2 : tie.Need-enum-known-t-2
+enum-known-t-2 c = search needs
+
+enum-known-t-3 : tie.Need-enum-known-t-3
+enum-known-t-3 c = search needs
+
+returns : tie.Need-returns
+unfolding onward Later
+returns c = rw (c .before .before .t .given .1) (c .begin .ensures .0, λ most k l. c .begin .ensures .1 (l .0) (omega (arith, k, l .1)))
+
+returns-2 : tie.Need-returns-2
+unfolding onward identifyNext foundOf tally validIdentifyNext
+returns-2 c = rw (c .before .t2 .given .1) (λ h. refl, λ most k l. refl)
+
+returns-3 : tie.Need-returns-3
+unfolding onward identifyNext foundOf tally validIdentifyNext
+returns-3 c = rw (c .before .t3 .given .1) (λ h. refl, λ most k l. refl)
+
+pub conclude-spec : {M : Type 1} → statement M
+conclude-spec =
+    tie.close
+    (tie.spec
+    enum-known-t
+    begin-requires
+    enum-known-t-2
+    enum-known-t-3
+    returns
+    returns-2
+    returns-3)

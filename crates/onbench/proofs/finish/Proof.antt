@@ -1,0 +1,27 @@
+-- `finish` meets its contract.
+use borrow.Author.Needs.{needs}
+use Rattle.onbench.proofs.Laws.{finish-ask, finish-end, finish-refused}
+use Rattle.onbench.proofs.finish.Statement.{statement}
+use Rattle.onbench.proofs.finish.Tie as tie
+
+enum-told : tie.Need-enum-told
+enum-told c = search needs
+
+enum-known-told : tie.Need-enum-known-told
+enum-known-told c = search needs
+
+enum-known-told-2 : tie.Need-enum-known-told-2
+enum-known-told-2 c = search needs
+
+returns : tie.Need-returns
+returns c = λ l ns f. finish-ask l (c .before .before .before .args .s) ns _ _ (c .enum-told .given .1) f
+
+returns-2 : tie.Need-returns-2
+returns-2 c = λ l ns f. finish-end l (c .before .before .before .before .args .s) ns _ _ (c .before .told .given .1)
+
+returns-3 : tie.Need-returns-3
+returns-3 c = λ l ns f. finish-refused l (c .before .before .before .before .args .s) ns _ (c .before .told2 .given .1)
+
+pub finish-spec : {M : Type 1} → statement M
+finish-spec =
+    tie.close (tie.spec enum-told enum-known-told enum-known-told-2 returns returns-2 returns-3)

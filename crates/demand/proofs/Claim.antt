@@ -150,11 +150,14 @@ module _ (port : Port) (b : Bench) (small : (n : ℕ) → byteOf (b .a0) n < 256
       by true e = held e
       by false e = free e
 
+  pub claimed : (r : R Module) (w : World machine) → End r w → Claimed (layoutOf (port .family)) b (record { transfers = w .other .made; result = r }) w
+  claimed r w h =
+      record { count = refl; facts = h .facts; only = λ f i. never-both (byteOf (b .a0)) r (f .class) (h .absent i .0); absent = h .absent }
+
   -- from both outcomes to the claim
   both : (o : Outcome (R Module)) (p : Outcome (Counted (R Module))) → Ending End o → Over o → p ≡ told 0 o → Holds (layoutOf (port .family)) b o p
   unfolding Holds Ending Over told
-  both (ended r w) p h k e =
-      rw e (refl, record { count = refl; facts = h .facts; only = λ f i. never-both (byteOf (b .a0)) r (f .class) (h .absent i .0); absent = h .absent })
+  both (ended r w) p h k e = rw e (refl, claimed r w h)
   both short p h k e = absurd k
 
 -- Demand 3, of the definition of `identify`
@@ -166,6 +169,16 @@ identified port b word answers s m n =
     (always-benched (layoutOf (port .family)) (End port b (s .0)) (identify port) (atStart word b) answers (always-identified port b (s .0) word _ _ (rests (layoutOf (port .family)) word (s .1))) m .ending)
     (ends-benched (layoutOf (port .family)) (identify port) (IDENTIFY-STEPS (port .family)) (identify-ends port) (atStart word b) answers n m)
     (tally-benched (layoutOf (port .family)) 0 (identify port) (atStart word b) answers)
+
+-- The same for a list of any length: whenever the call has come to its end
+pub identified-ended : (port : Port) (b : Bench) (word : ℕ) (answers : List Answer) → Starts port b word → Premises port b word answers
+    → (r : R Module) (w : World machine) → benched (layoutOf (port .family)) (identify port) (atStart word b) answers .outcome ≡ ended r w
+    → Claimed (layoutOf (port .family)) b (record { transfers = w .other .made; result = r }) w
+unfolding Starts Premises Ending
+identified-ended port b word answers s m r w e =
+    claimed port b (s .0) r w
+    (subst (Ending (End port b (s .0))) e
+    (always-benched (layoutOf (port .family)) (End port b (s .0)) (identify port) (atStart word b) answers (always-identified port b (s .0) word _ _ (rests (layoutOf (port .family)) word (s .1))) m .ending))
 
 -- `identify` never moves both lines by one write
 pub never-both-lines : (port : Port) (b : Bench) (word : ℕ) (answers : List Answer) → Starts port b word → Premises port b word answers

@@ -1,0 +1,110 @@
+-- Whole calls of `identify` and `identify_qsfp`: for every port that is accepted and every list of answers the library's
+-- run is the Rust's, the count of the attempts in it beside the result. A state that was handed out is not refused at its
+-- next step. Each successful acquire gets one release call.
+use Prim.Native.Nat.{ℕ, _≤_, suc, zero}
+use mathlib.Core.Path.{_≡_, refl, ap, _∙_}
+use mathlib.Core.Bool.{Bool, true, false}
+use mathlib.Core.List.{List}
+use lib.ListN.{length}
+use Rattle.hardware.specs.declared.Access.{Access}
+use Rattle.hardware.specs.declared.Answer.{Answer}
+use Rattle.hardware.specs.declared.Port.{Port}
+use Rattle.hardware.specs.Asked.{Asked, no, yes, andThen, question, openPort, fits}
+use Rattle.hardware.specs.Prog.{Prog, R, Ok, Err, tally, pick}
+use Rattle.hardware.specs.Runs.{run, ran, Awaited, ended, transfersIn, counted}
+use Rattle.hardware.proofs.Laws.{run-counted}
+use Rattle.hardware.proofs.Ends.{run-ends}
+use Rattle.i2c.specs.declared.once.Request.the-variants.{ReadByte}
+use Rattle.i2c.specs.Moves.{madeOf}
+use Rattle.i2c.specs.Paired.{Paired}
+use Rattle.i2c.proofs.Pairs.{Pairs, pairs-then, pairs-pick, pairs-ret, pairs-paired}
+use Rattle.i2c.proofs.Paired.{transferred-pairs}
+use Rattle.sfp.specs.declared.Codes.{Codes}
+use Rattle.sfp.specs.declared.Kind.{Kind}
+use Rattle.sfp.specs.declared.Module.{Module}
+use Rattle.sfp.specs.Identify.{EEPROM, orAbsent, byte, identifierOf, reachOf, bx10gOf, kindBy, classify, known, identified, identify}
+use Rattle.sfp.specs.Qsfp.{qsfpVendor, qsfpLength, qsfpConnector, qsfpClassify, qsfpKnown, qsfpIdentified, identifyQsfp}
+use Rattle.sfp.proofs.Ends.{IDENTIFY-STEPS, identify-ends}
+use Rattle.identify.specs.declared.walk.Identify.{Identify}
+use Rattle.identify.specs.declared.calls.IdentifyCall.the-variants.{Going}
+use Rattle.identify.specs.declared.calls.IdentifyTold.{IdentifyTold}
+use Rattle.identify.specs.declared.calls.IdentifyTold.the-variants.{Ask}
+use Rattle.identify.specs.Walk.{restIdentify}
+use Rattle.identify.specs.Calls.{openIdentify, openQsfp, stepIdentify, saidIdentify, standsIdentify}
+
+-- an opening's questions and then the run
+asked-runs : (o : Asked Port) (p : Port → Prog (R Module)) (l : List Answer)
+    → ran (andThen o (λ port. yes (tally 0 (p port)))) l ≡ andThen o (λ port. yes (counted (transfersIn (p port) l) (run (p port) l)))
+unfolding ran andThen
+asked-runs (no n) p l = refl
+asked-runs (yes port) p l = ap yes (run-counted (p port) l)
+
+pub identify-runs : (family device lan : ℕ) (t : IdentifyTold) → saidIdentify t ≡ openIdentify family device lan → (l : List Answer)
+    → ran (saidIdentify t) l ≡ andThen (openPort family device lan) (λ port. yes (counted (transfersIn (identify port) l) (run (identify port) l)))
+unfolding openIdentify
+identify-runs family device lan t e l = ap (λ x. ran x l) e ∙ asked-runs (openPort family device lan) identify l
+
+pub qsfp-runs : (family device lan : ℕ) (t : IdentifyTold) → saidIdentify t ≡ openQsfp family device lan → (l : List Answer)
+    → ran (saidIdentify t) l ≡ andThen (openPort family device lan) (λ port. yes (counted (transfersIn (identifyQsfp port) l) (run (identifyQsfp port) l)))
+unfolding openQsfp
+qsfp-runs family device lan t e l = ap (λ x. ran x l) e ∙ asked-runs (openPort family device lan) identifyQsfp l
+
+-- a long enough list of answers of the awaited kinds brings the call to its end
+pub identify-finishes : (port : Port) (l : List Answer) → IDENTIFY-STEPS (port .family) ≤ length l → Awaited (identify port) l
+    → (v : R Module) × ((run (identify port) l) .stand ≡ ended v)
+identify-finishes port l h w = run-ends (identify port) (IDENTIFY-STEPS (port .family)) l (identify-ends port) h w
+
+-- a state that was handed out, with any answer of the kind that its access awaits, is not refused
+pub identify-accepts : (x : Access) (port : Port) (s : Identify) (a : Answer) → standsIdentify (Ask x (Going port s)) → fits x a ≡ true
+    → stepIdentify (Going port s) a ≡ yes (tally (madeOf (s .moves)) (restIdentify port s a))
+unfolding standsIdentify stepIdentify question
+identify-accepts x port s a h e = rw (h .1, h .2, ← h .0, e)
+
+-- a requested byte keeps the rule of the locks, and so does what follows it
+absent-pairs : (k : ℕ → Prog (R Module)) (r : R ℕ) → ((v : ℕ) → Pairs false (k v) (λ _. false)) → Pairs false (orAbsent k r) (λ _. false)
+unfolding orAbsent
+absent-pairs k (Ok v) e = e v
+absent-pairs k (Err error) e = pairs-pick false _ _ _ _ (pairs-ret false _) (pairs-ret false _)
+
+byte-pairs : (port : Port) (offset tries : ℕ) (k : ℕ → Prog (R Module)) → ((v : ℕ) → Pairs false (k v) (λ _. false)) → Pairs false (byte port offset tries k) (λ _. false)
+unfolding byte
+byte-pairs port offset tries k e = pairs-then false _ _ _ (transferred-pairs port (ReadByte EEPROM offset) true tries) (λ r. absent-pairs k r e)
+
+kind-pairs : (port : Port) (c : Codes) (bx : Bool) (k : Kind → Prog (R Module)) → ((kind : Kind) → Pairs false (k kind) (λ _. false)) → Pairs false (kindBy port c bx k) (λ _. false)
+unfolding kindBy
+kind-pairs port c bx k e = pairs-pick false _ _ _ _ (e _) (pairs-pick false _ _ _ _ (byte-pairs port 60 _ _ (λ v. e _)) (e _))
+
+bx-pairs : (port : Port) (c : Codes) (k : Bool → Prog (R Module)) → ((b : Bool) → Pairs false (k b) (λ _. false)) → Pairs false (bx10gOf port c k) (λ _. false)
+unfolding bx10gOf reachOf
+bx-pairs port c k e =
+    pairs-pick false _ _ _ _
+    (byte-pairs port 12 _ _ (λ rate. pairs-pick false _ _ _ _ (byte-pairs port 14 _ _ (λ km. byte-pairs port 15 _ _ (λ hm. e _))) (e _)))
+    (e _)
+
+known-pairs : (port : Port) (identifier : ℕ) → Pairs false (known port identifier) (λ _. false)
+unfolding known classify
+known-pairs port identifier =
+    byte-pairs port 6 _ _ (λ g1. byte-pairs port 3 _ _ (λ g10. byte-pairs port 8 _ _ (λ cable.
+    bx-pairs port _ _ (λ bx. kind-pairs port _ bx _ (λ kind. pairs-ret false _)))))
+
+identifier-pairs : (port : Port) (left identifier : ℕ) (k : ℕ → Prog (R Module)) → ((v : ℕ) → Pairs false (k v) (λ _. false))
+    → Pairs false (identifierOf port left identifier k) (λ _. false)
+unfolding identifierOf
+identifier-pairs port zero identifier k e = e identifier
+identifier-pairs port (suc left) identifier k e = byte-pairs port 0 11 _ (λ v. pairs-pick false _ _ _ _ (e v) (identifier-pairs port left v k e))
+
+-- each successful acquire gets one release call before the next acquire or the end, for every list of answers
+pub identify-paired : (port : Port) (l : List Answer) → Paired (identify port) l
+unfolding identify identified
+identify-paired port l =
+    pairs-paired _ l (identifier-pairs port 5 0 _ (λ v. pairs-pick false _ _ _ _ (known-pairs port v) (pairs-ret false _)))
+
+pub qsfp-paired : (port : Port) (l : List Answer) → Paired (identifyQsfp port) l
+unfolding identifyQsfp qsfpIdentified qsfpKnown qsfpClassify qsfpConnector qsfpLength qsfpVendor
+qsfp-paired port l =
+    pairs-paired _ l
+    (byte-pairs port 0 11 _ (λ v. pairs-pick false _ _ _ _
+    (byte-pairs port 0x83 _ _ (λ g10. byte-pairs port 0x86 _ _ (λ g1. pairs-pick false _ _ _ _ (pairs-ret false _) (pairs-pick false _ _ _ _ (pairs-ret false _) (pairs-pick false _ _ _ _ (pairs-ret false _)
+    (byte-pairs port 0x82 _ _ (λ a. pairs-pick false _ _ _ _ (byte-pairs port 0x92 _ _ (λ b. pairs-pick false _ _ _ _
+    (byte-pairs port 0x93 _ _ (λ c. pairs-pick false _ _ _ _ (pairs-ret false _) (pairs-ret false _))) (pairs-ret false _))) (pairs-ret false _))))))))
+    (pairs-ret false _)))

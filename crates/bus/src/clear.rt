@@ -13,13 +13,18 @@ ghost use Rattle.hardware.specs.Prog.{erase, followed};
 ghost use Rattle.bus.specs.declared.command.Command.the-variants.{Start as StartCommand, Stop as StopCommand, Free as FreeCommand};
 ghost use Rattle.bus.specs.Bus.{done, none, quieted, clearStop, clearAgain, clearFree, clear};
 ghost use Rattle.bus.specs.Command.{jobNext, validJobNext};
-ghost use Rattle.bus.specs.Clear.{accessClear, restClear, clearNext, validClear, validClearNext};
+ghost use Rattle.bus.specs.Clear.{commandOf, accessClear, restClear, clearNext, validClear, validClearNext};
 
-pub enum Clear {
-    First(Job),
-    Free(Job),
-    Again(Job),
-    Stop(Job),
+pub enum Part {
+    First,
+    Free,
+    Again,
+    Stop,
+}
+
+pub struct Clear {
+    pub part: Part,
+    pub job: Job,
 }
 
 pub enum ClearNext {
@@ -32,7 +37,10 @@ fn stopped(l: Layout, n: JobNext) -> ClearNext
     ensures { λ r. ⌜ (validJobNext l StopCommand n ≡ true → validClearNext l r ≡ true) ⌝ }
 {
     match n {
-        JobNext::Going(j) => ClearNext::Going(Clear::Stop(j)),
+        JobNext::Going(j) => ClearNext::Going(Clear {
+            part: Part::Stop,
+            job: j,
+        }),
         JobNext::End(ctl, b) => match b {
             Byte::Ok(_) => ClearNext::End(ctl, Outcome::Ok),
             Byte::Err(e) => {
@@ -57,7 +65,10 @@ fn started(l: Layout, n: JobNext) -> ClearNext
     ensures { λ r. ⌜ (validJobNext l StartCommand n ≡ true → validClearNext l r ≡ true) ⌝ }
 {
     match n {
-        JobNext::Going(j) => ClearNext::Going(Clear::Again(j)),
+        JobNext::Going(j) => ClearNext::Going(Clear {
+            part: Part::Again,
+            job: j,
+        }),
         JobNext::End(ctl, b) => match b {
             Byte::Ok(_) => stop(l, ctl),
             Byte::Err(e) => {
@@ -82,7 +93,10 @@ fn freed(l: Layout, n: JobNext) -> ClearNext
     ensures { λ r. ⌜ (validJobNext l FreeCommand n ≡ true → validClearNext l r ≡ true) ⌝ }
 {
     match n {
-        JobNext::Going(j) => ClearNext::Going(Clear::Free(j)),
+        JobNext::Going(j) => ClearNext::Going(Clear {
+            part: Part::Free,
+            job: j,
+        }),
         JobNext::End(ctl, b) => match b {
             Byte::Ok(_) => again(l, ctl),
             Byte::Err(e) => ClearNext::End(ctl, Outcome::Err(e)),
@@ -102,7 +116,10 @@ fn first(l: Layout, n: JobNext) -> ClearNext
     ensures { λ r. ⌜ (validJobNext l StartCommand n ≡ true → validClearNext l r ≡ true) ⌝ }
 {
     match n {
-        JobNext::Going(j) => ClearNext::Going(Clear::First(j)),
+        JobNext::Going(j) => ClearNext::Going(Clear {
+            part: Part::First,
+            job: j,
+        }),
         JobNext::End(ctl, b) => match b {
             Byte::Ok(_) => free(l, ctl),
             Byte::Err(e) => {
@@ -125,33 +142,39 @@ pub fn open(l: Layout, ctl: u32) -> ClearNext
 pub fn access(l: Layout, s: Clear) -> Access
     ensures { λ r. ⌜ r ≡ accessClear l s ⌝ }
 {
-    match s {
-        Clear::First(j) => crate::job::access(l, j),
-        Clear::Free(j) => crate::job::access(l, j),
-        Clear::Again(j) => crate::job::access(l, j),
-        Clear::Stop(j) => crate::job::access(l, j),
-    }
+    let j = s.job;
+    crate::job::access(l, j)
 }
 
 pub fn step(l: Layout, s: Clear, a: Answer) -> ClearNext
     ensures { λ r. ⌜ clearNext l r ≡ erase (restClear l s a) ⌝ }
     ensures { λ r. ⌜ (validClear l s ≡ true → validClearNext l r ≡ true) ⌝ }
 {
-    match s {
-        Clear::First(j) => first(l, crate::job::step(l, 0, Command::Start, j, a)),
-        Clear::Free(j) => freed(l, crate::job::step(l, 0, Command::Free, j, a)),
-        Clear::Again(j) => started(l, crate::job::step(l, 0, Command::Start, j, a)),
-        Clear::Stop(j) => stopped(l, crate::job::step(l, 0, Command::Stop, j, a)),
+    let part = s.part;
+    let j = s.job;
+    match part {
+        Part::First => first(l, crate::job::step(l, 0, Command::Start, j, a)),
+        Part::Free => freed(l, crate::job::step(l, 0, Command::Free, j, a)),
+        Part::Again => started(l, crate::job::step(l, 0, Command::Start, j, a)),
+        Part::Stop => stopped(l, crate::job::step(l, 0, Command::Stop, j, a)),
+    }
+}
+
+fn command(p: Part) -> Command
+    ensures { λ c. ⌜ c ≡ commandOf p ⌝ }
+{
+    match p {
+        Part::First => Command::Start,
+        Part::Free => Command::Free,
+        Part::Again => Command::Start,
+        Part::Stop => Command::Stop,
     }
 }
 
 pub fn valid(l: Layout, s: Clear) -> bool
     ensures { λ r. ⌜ r ≡ validClear l s ⌝ }
 {
-    match s {
-        Clear::First(j) => crate::job::valid(l, Command::Start, j),
-        Clear::Free(j) => crate::job::valid(l, Command::Free, j),
-        Clear::Again(j) => crate::job::valid(l, Command::Start, j),
-        Clear::Stop(j) => crate::job::valid(l, Command::Stop, j),
-    }
+    let part = s.part;
+    let j = s.job;
+    crate::job::valid(l, command(part), j)
 }

@@ -20,7 +20,7 @@ use Rattle.i2c.specs.declared.once.Request.{Request}
 use Rattle.i2c.specs.declared.once.Request.the-variants.{ReadByte, WriteByte, ReadCombined, WriteCombined}
 use Rattle.i2c.specs.I2c.{mask, qsfp, deviceOf, isWrite, valueOf, givesValue, once, whenLock, readJudged, readTries, writeTries, givenUp, writes, moves, givenBus, onGrant, withBus, handshaken, transferred}
 use Rattle.i2c.specs.Tries.{wanted}
-use Rattle.i2c.proofs.Ends.{mask-plain}
+use Rattle.i2c.proofs.Masks.{mask-plain}
 use Rattle.i2c.proofs.Quiet.{Quiet, quiet-noteless, quiet-pick, quiet-ret, quiet-try, delay-quiet, change-quiet, acquire-bits-quiet, release-bits-quiet}
 use Rattle.i2c.proofs.Paired.{body-noteless, granted-quiet}
 

@@ -5,28 +5,27 @@ use mathlib.Core.Path.{_≡_, refl}
 use mathlib.Core.Bool.{Bool, true, false}
 use native.Mathlib.Nat.{suc-mul, mul-le-mul-right}
 use native.Mathlib.Omega.{arith}
-use lib.Dec.{eqb}
 use Rattle.hardware.specs.declared.Family.{Family}
 use Rattle.hardware.specs.declared.Family.the-variants.{F82599, X540, X550, X552, X553}
 use Rattle.hardware.specs.declared.Port.{Port}
 use Rattle.hardware.specs.Prog.{Prog, R, Ok, pick}
-use Rattle.hardware.specs.Registers.{noneOf}
 use Rattle.hardware.specs.Change.{change}
 use Rattle.hardware.specs.Runs.{Ends}
 use Rattle.hardware.proofs.Ends.{ends-more, ends-bind, ends-try, ends-pick, ret-ends, note-ends, read-ends, delay-ends, change-ends}
-use Rattle.sync.specs.Regs.{PHY0, PHY1, TOKEN, tries, phy}
+use Rattle.sync.specs.Regs.{tries}
 use Rattle.sync.proofs.Ends.{ACQUIRE-BITS-STEPS, RELEASE-BITS-STEPS, acquire-bits-ends, release-bits-ends}
 use Rattle.acquire.specs.Acquire.{hwOf, withBits, acquiredAll, acquire, giveBits, release}
 use Rattle.bus.specs.declared.Layout.{Layout}
 use Rattle.bus.specs.declared.Taken.{Taken}
-use Rattle.bus.specs.Layout.{layoutOf, x550em}
+use Rattle.bus.specs.Layout.{layoutOf}
 use Rattle.bus.proofs.Ends.{EndsBus, bus-more, done-ends, START-STEPS, SEND-STEPS, IN-BYTE-STEPS, OUT-BIT-STEPS, STOP-STEPS, start-ends, send-ends, in-byte-ends, out-bit-ends, stop-ends}
 use Rattle.transfer.specs.declared.attempt.Sequence.the-variants.{Pulses}
 use Rattle.transfer.proofs.Ends.{ATTEMPT-STEPS, attempt-ends}
 use Rattle.i2c.specs.declared.once.Request.{Request}
 use Rattle.i2c.specs.declared.once.Request.the-variants.{ReadByte, WriteByte, ReadCombined, WriteCombined}
-use Rattle.i2c.specs.I2c.{SHARED-I2C, mask, isWrite, deviceOf, body, givesValue, once, whenLock, readJudged, readTries, writeTries, givenUp, writes, moves, granting, granted, givenBus, onGrant, withBus, handshaken, transferred, setupBus}
+use Rattle.i2c.specs.I2c.{mask, isWrite, deviceOf, body, givesValue, once, whenLock, readJudged, readTries, writeTries, givenUp, writes, moves, granting, granted, givenBus, onGrant, withBus, handshaken, transferred, setupBus}
 use Rattle.i2c.specs.Calls.{triesOf}
+use Rattle.i2c.proofs.Masks.{mask-plain}
 
 -- a byte read, and the acknowledgement or none behind it
 abbrev pub TAKE-STEPS : ℕ
@@ -173,17 +172,6 @@ body-ends l (WriteCombined d reg v) =
 pub once-ends : (port : Port) (r : Request) → Ends (once port r) (ONCE-STEPS r)
 unfolding once
 once-ends port r = attempt-ends Pulses (layoutOf (port .family)) (deviceOf r) _ (BODY-STEPS r) (body-ends (layoutOf (port .family)) r)
-
-no-token : (shared second : Bool) → noneOf (pick shared SHARED-I2C (pick second PHY1 PHY0)) TOKEN ≡ true
-unfolding noneOf pick
-no-token true second = refl
-no-token false true = refl
-no-token false false = refl
-
--- no mask of a transfer has the token
-pub mask-plain : (port : Port) → noneOf (mask port) TOKEN ≡ true
-unfolding mask phy
-mask-plain port = no-token (x550em (port .family)) (eqb (port .lan) 1)
 
 take-ends : (port : Port) → Ends (acquire port (mask port)) (ACQUIRE-BITS-STEPS (tries (port .family)))
 unfolding acquire acquiredAll pick

@@ -5,3 +5,4 @@ pub mod Quiet
 pub mod Pairs
 pub mod Paired
 pub mod Counts
+pub mod Masks

@@ -1,4 +1,5 @@
--- The attempts of a call under its lock, one access at a time.
+-- The attempts of a call under its lock, one access at a time. No mask of a transfer has TOKEN: what is left of `acquire`
+-- and `release` is what is left of their bits of SW_FW_SYNC.
 use Prim.Native.Nat.{ℕ, _+_, suc, zero}
 use mathlib.Core.Bool.{Bool, true, false}
 use lib.Dec.{ltb, leb}
@@ -9,7 +10,8 @@ use Rattle.hardware.specs.declared.Error.the-variants.{I2c}
 use Rattle.hardware.specs.declared.Port.{Port}
 use Rattle.hardware.specs.Prog.{Prog, ret, ask, R, Err, Counted, tally, _>>=_, _>>?_, pick}
 use Rattle.hardware.specs.Registers.{micros}
-use Rattle.acquire.specs.Acquire.{hwOf, acquire, accessAcquire, restAcquire, validAcquire, release, accessRelease, restRelease, validRelease}
+use Rattle.sync.specs.Resource.{accessAcquireBits, restAcquireBits, validAcquireBits, accessReleaseBits, restReleaseBits, validReleaseBits}
+use Rattle.acquire.specs.Acquire.{acquire, release}
 use Rattle.bus.specs.declared.Taken.{Taken}
 use Rattle.bus.specs.Layout.{layoutOf}
 use Rattle.transfer.specs.declared.attempt.Sequence.the-variants.{Pulses}
@@ -63,20 +65,20 @@ triesLeft port r lock zero = ret (Err (I2c (deviceOf r)))
 triesLeft port r lock (suc left) = lockedTry port r lock left
 
 unfoldable pub accessStage : Port → Stage → Access
-accessStage port (Acquiring s) = accessAcquire port (hwOf (mask port)) s
+accessStage port (Acquiring s) = accessAcquireBits port (mask port) s
 accessStage port (Trying s) = accessAttempt (layoutOf (port .family)) s
-accessStage port (Releasing g s) = accessRelease port (hwOf (mask port)) s
+accessStage port (Releasing g s) = accessReleaseBits port (mask port) s
 accessStage port Pausing = Wait (micros 100000)
 
 unfoldable pub accessTries : Port → Tries → Access
 accessTries port t = accessStage port (t .stage)
 
 unfoldable pub restStage : Port → Request → Bool → ℕ → Stage → Answer → Prog (R Taken)
-restStage port r lock left (Acquiring s) a = restAcquire port (hwOf (mask port)) s a >>? λ _. tryNow port r lock left
+restStage port r lock left (Acquiring s) a = restAcquireBits port (mask port) s a >>? λ _. tryNow port r lock left
 restStage port r lock left (Trying s) a =
     restAttempt silent Pulses (layoutOf (port .family)) (deviceOf r) (scriptOf r) s a >>= afterTry port r lock left
 restStage port r lock left (Releasing g s) a =
-    restRelease port (hwOf (mask port)) s a >>? λ _. afterRelease port r lock left (got g)
+    restReleaseBits port (mask port) s a >>? λ _. afterRelease port r lock left (got g)
 restStage port r lock left Pausing a = triesLeft port r lock left
 
 unfoldable pub restTries : Port → Request → Bool → Tries → Answer → Prog (R Taken)
@@ -88,9 +90,9 @@ triesNext port r lock (End made g) = ret (record { transfers = made; result = go
 
 -- the attempts begun and those to come are at most cap
 unfoldable pub validStage : ℕ → Port → Request → ℕ → ℕ → Stage → Bool
-validStage cap port r made left (Acquiring s) = pick (ltb (made + left) cap) (validAcquire port s) false
+validStage cap port r made left (Acquiring s) = pick (ltb (made + left) cap) (validAcquireBits (port .family) s) false
 validStage cap port r made left (Trying s) = pick (leb (made + left) cap) (validAttempt (layoutOf (port .family)) (scriptOf r) s) false
-validStage cap port r made left (Releasing g s) = pick (leb (made + left) cap) (validRelease port s) false
+validStage cap port r made left (Releasing g s) = pick (leb (made + left) cap) (validReleaseBits s) false
 validStage cap port r made left Pausing = leb (made + left) cap
 
 unfoldable pub validTries : ℕ → Port → Request → Tries → Bool

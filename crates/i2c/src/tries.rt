@@ -1,16 +1,16 @@
 // The attempts of a call under its lock: a read takes the lock for each attempt, a write holds it across both. A promise
 // holds where the attempts begun and those to come fit their count.
 use crate::once::Request;
-use acquire::acquire::Acquire;
-use acquire::acquire::AcquireNext;
-use acquire::release::Release;
-use acquire::release::ReleaseNext;
 use hardware::Access;
 use hardware::Answer;
 use hardware::Error;
 use hardware::Millis;
 use hardware::Outcome;
 use hardware::Port;
+use sync::acquire_bits::AcquireBits;
+use sync::acquire_bits::AcquireBitsNext;
+use sync::release_bits::ReleaseBits;
+use sync::release_bits::ReleaseBitsNext;
 use transfer::attempt::Attempt;
 use transfer::attempt::AttemptNext;
 use transfer::attempt::Got;
@@ -19,7 +19,7 @@ ghost use mathlib.Core.Path.{_≡_};
 ghost use mathlib.Core.Bool.{Bool, true, false};
 ghost use lib.Dec.{ltb, leb};
 ghost use Rattle.hardware.specs.Prog.{followed, orErr, tally, pick};
-ghost use Rattle.acquire.specs.Acquire.{hwOf, acquireNext, validAcquireNext, releaseNext, validReleaseNext};
+ghost use Rattle.sync.specs.Resource.{acquireBitsNext, validAcquireBitsNext, releaseBitsNext, validReleaseBitsNext};
 ghost use Rattle.bus.specs.Layout.{layoutOf};
 ghost use Rattle.transfer.specs.declared.attempt.Sequence.the-variants.{Pulses};
 ghost use Rattle.transfer.specs.Transfer.{silent};
@@ -27,11 +27,12 @@ ghost use Rattle.transfer.specs.Attempt.{got, attemptNext, validAttemptNext};
 ghost use Rattle.i2c.specs.I2c.{mask, deviceOf, scriptOf, isWrite, pauses, readJudged, readTries, givenUp, moves};
 ghost use Rattle.i2c.specs.Tries.{MOST, wanted, tryNow, lockedTry, triesLeft, afterTry, backThen, afterRelease, accessTries, restTries, triesNext, validTries, validTriesNext};
 
-// Releasing: with how the attempt ended.
+// Acquiring, Releasing: no mask of a transfer has TOKEN, so a lock is its bits of SW_FW_SYNC. Releasing: with how the
+// attempt ended.
 pub enum Stage {
-    Acquiring(Acquire),
+    Acquiring(AcquireBits),
     Trying(Attempt),
-    Releasing(Got, Release),
+    Releasing(Got, ReleaseBits),
     Pausing,
 }
 
@@ -68,17 +69,17 @@ fn begin(left: u8, made: u32) -> TriesNext
     })
 }
 
-fn acquired(left: u8, made: u32, n: AcquireNext) -> TriesNext
-    ensures { λ t. ⌜ ((port : Port) (r : Request) (lock : Bool) → made < MOST → triesNext port r lock t ≡ tally made (followed (acquireNext port (hwOf (mask port)) n) (orErr (λ _. tryNow port r lock left)))) ⌝ }
-    ensures { λ t. ⌜ ((cap : ℕ) (port : Port) (r : Request) → cap ≤ MOST → made + left < cap → validAcquireNext port n ≡ true → validTriesNext cap port r t ≡ true) ⌝ }
+fn acquired(left: u8, made: u32, n: AcquireBitsNext) -> TriesNext
+    ensures { λ t. ⌜ ((port : Port) (r : Request) (lock : Bool) → made < MOST → triesNext port r lock t ≡ tally made (followed (acquireBitsNext port (mask port) n) (orErr (λ _. tryNow port r lock left)))) ⌝ }
+    ensures { λ t. ⌜ ((cap : ℕ) (port : Port) (r : Request) → cap ≤ MOST → made + left < cap → validAcquireBitsNext (port .family) n ≡ true → validTriesNext cap port r t ≡ true) ⌝ }
 {
     match n {
-        AcquireNext::Going(s) => TriesNext::Going(Tries {
+        AcquireBitsNext::Going(s) => TriesNext::Going(Tries {
             made,
             left,
             stage: Stage::Acquiring(s),
         }),
-        AcquireNext::End(o) => match o {
+        AcquireBitsNext::End(o) => match o {
             Outcome::Ok => begin(left, made),
             Outcome::Err(e) => TriesNext::End(made, Got::Err(e)),
         },
@@ -91,7 +92,12 @@ fn locked(port: Port, lock: bool, left: u8, made: u32) -> TriesNext
     ensures { λ t. ⌜ ((cap : ℕ) (r : Request) → cap ≤ MOST → made + left < cap → validTriesNext cap port r t ≡ true) ⌝ }
 {
     if lock {
-        return acquired(left, made, acquire::acquire::open(port, crate::mask(port)));
+        let family = port.family;
+        return acquired(
+            left,
+            made,
+            sync::acquire_bits::open(port, crate::mask(port), sync::regs::tries(family), 0),
+        );
     }
     begin(left, made)
 }
@@ -152,18 +158,18 @@ fn released(
     left: u8,
     made: u32,
     g: Got,
-    n: ReleaseNext,
+    n: ReleaseBitsNext,
 ) -> TriesNext
-    ensures { λ t. ⌜ (made + left ≤ MOST → triesNext port r lock t ≡ tally made (followed (releaseNext port (hwOf (mask port)) n) (orErr (λ _. afterRelease port r lock left (got g))))) ⌝ }
-    ensures { λ t. ⌜ ((cap : ℕ) → cap ≤ MOST → made + left ≤ cap → validReleaseNext port n ≡ true → validTriesNext cap port r t ≡ true) ⌝ }
+    ensures { λ t. ⌜ (made + left ≤ MOST → triesNext port r lock t ≡ tally made (followed (releaseBitsNext port (mask port) n) (orErr (λ _. afterRelease port r lock left (got g))))) ⌝ }
+    ensures { λ t. ⌜ ((cap : ℕ) → cap ≤ MOST → made + left ≤ cap → validReleaseBitsNext n ≡ true → validTriesNext cap port r t ≡ true) ⌝ }
 {
     match n {
-        ReleaseNext::Going(s) => TriesNext::Going(Tries {
+        ReleaseBitsNext::Going(s) => TriesNext::Going(Tries {
             made,
             left,
             stage: Stage::Releasing(g, s),
         }),
-        ReleaseNext::End(o) => match o {
+        ReleaseBitsNext::End(o) => match o {
             Outcome::Ok => after_release(port, r, lock, left, made, g),
             Outcome::Err(e) => TriesNext::End(made, Got::Err(e)),
         },
@@ -183,7 +189,7 @@ fn give_back(port: Port, r: Request, lock: bool, left: u8, made: u32, g: Got) ->
             left,
             made,
             g,
-            acquire::release::open(port, crate::mask(port)),
+            sync::release_bits::open(port, crate::mask(port)),
         );
     }
     after_release(port, r, lock, left, made, g)
@@ -249,17 +255,9 @@ pub fn access(port: Port, s: Tries) -> Access
     let stage = s.stage;
     let family = port.family;
     match stage {
-        Stage::Acquiring(t) => acquire::acquire::access(
-            port,
-            acquire::acquire::hw(crate::mask(port)),
-            t,
-        ),
+        Stage::Acquiring(t) => sync::acquire_bits::access(port, crate::mask(port), t),
         Stage::Trying(t) => transfer::attempt::access(bus::layout_of(family), t),
-        Stage::Releasing(_, t) => acquire::release::access(
-            port,
-            acquire::acquire::hw(crate::mask(port)),
-            t,
-        ),
+        Stage::Releasing(_, t) => sync::release_bits::access(port, crate::mask(port), t),
         Stage::Pausing => Access::Wait(hardware::delay_ms(Millis(100))),
     }
 }
@@ -274,7 +272,7 @@ pub fn step(port: Port, r: Request, lock: bool, s: Tries, a: Answer) -> TriesNex
         Stage::Acquiring(t) => acquired(
             s.left,
             s.made,
-            acquire::acquire::step(port, acquire::acquire::hw(crate::mask(port)), t, a),
+            sync::acquire_bits::step(port, crate::mask(port), t, a),
         ),
         Stage::Trying(t) => tried(
             port,
@@ -291,7 +289,7 @@ pub fn step(port: Port, r: Request, lock: bool, s: Tries, a: Answer) -> TriesNex
             s.left,
             s.made,
             g,
-            acquire::release::step(port, acquire::acquire::hw(crate::mask(port)), t, a),
+            sync::release_bits::step(port, crate::mask(port), t, a),
         ),
         Stage::Pausing => again(port, r, lock, s.left, s.made),
     }
@@ -317,7 +315,7 @@ pub fn valid(cap: u32, port: Port, r: Request, s: Tries) -> bool
     match stage {
         Stage::Acquiring(t) => {
             if below(cap, s.made, s.left) {
-                return acquire::acquire::valid(port, t);
+                return sync::acquire_bits::valid(family, t);
             }
             false
         }
@@ -329,7 +327,7 @@ pub fn valid(cap: u32, port: Port, r: Request, s: Tries) -> bool
         }
         Stage::Releasing(_, t) => {
             if within(cap, s.made, s.left) {
-                return acquire::release::valid(port, t);
+                return sync::release_bits::valid(t);
             }
             false
         }

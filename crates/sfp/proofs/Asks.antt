@@ -16,7 +16,7 @@ use Rattle.acquire.specs.Acquire.{hwOf, acquire}
 use Rattle.bus.specs.declared.Taken.{Taken}
 use Rattle.i2c.specs.declared.once.Request.the-variants.{ReadByte, WriteByte}
 use Rattle.i2c.specs.I2c.{mask, isWrite, whenLock, readTries, writes, moves, withBus, handshaken}
-use Rattle.i2c.proofs.Ends.{mask-plain}
+use Rattle.i2c.proofs.Masks.{mask-plain}
 
 -- the call has an access before its end
 abbrev pub Asks : {A : Type 0} → Prog A → Type 0

@@ -8,52 +8,41 @@ use Rattle.bus.proofs.is_i2c.Tie as tie
 enum-told : tie.Need-enum-told
 enum-told c = search needs
 
--- src/lib.rt:78:27
 enum-told-2 : tie.Need-enum-told-2
 enum-told-2 c = search needs
 
--- src/lib.rt:79:32
 enum-told-3 : tie.Need-enum-told-3
 enum-told-3 c = search needs
 
--- src/lib.rt:80:26
 enum-told-4 : tie.Need-enum-told-4
 enum-told-4 c = search needs
 
--- src/lib.rt:81:36
 enum-told-5 : tie.Need-enum-told-5
 enum-told-5 c = search needs
 
--- src/lib.rt:82:34
 enum-told-6 : tie.Need-enum-told-6
 enum-told-6 c = search needs
 
--- src/lib.rt:73:1
 returns : tie.Need-returns
 unfolding isI2c
 returns c = rw (c .enum-told .given .1)
 
--- src/lib.rt:73:1
 returns-2 : tie.Need-returns-2
 unfolding isI2c
 returns-2 c = rw (c .enum-told2 .given .1)
 
--- src/lib.rt:73:1
 returns-3 : tie.Need-returns-3
 unfolding isI2c
 returns-3 c = rw (c .enum-told3 .given .1)
 
--- src/lib.rt:73:1
 returns-4 : tie.Need-returns-4
 unfolding isI2c
 returns-4 c = rw (c .enum-told4 .given .1)
 
--- src/lib.rt:73:1
 returns-5 : tie.Need-returns-5
 unfolding isI2c
 returns-5 c = rw (c .enum-told5 .given .1)
 
--- src/lib.rt:73:1
 returns-6 : tie.Need-returns-6
 unfolding isI2c
 returns-6 c = rw (c .enum-told6 .given .1)

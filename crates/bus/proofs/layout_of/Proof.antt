@@ -8,12 +8,10 @@ use Rattle.bus.proofs.layout_of.Tie as tie
 x550em-requires : tie.Need-x550em-requires
 x550em-requires c κs = search needs
 
--- src/lib.rt:45:9
 returns : tie.Need-returns
 unfolding layoutOf pick
 returns c = rw (← c .before .x550em .ensures, c .if1 .taken)
 
--- src/lib.rt:41:1
 returns-2 : tie.Need-returns-2
 unfolding layoutOf pick
 returns-2 c = rw (← c .before .x550em .ensures, c .if1 .left)

@@ -8,43 +8,34 @@ use Rattle.bus.proofs.x550em.Tie as tie
 enum-told : tie.Need-enum-told
 enum-told c = search needs
 
--- src/lib.rt:34:25
 enum-told-2 : tie.Need-enum-told-2
 enum-told-2 c = search needs
 
--- src/lib.rt:35:25
 enum-told-3 : tie.Need-enum-told-3
 enum-told-3 c = search needs
 
--- src/lib.rt:36:25
 enum-told-4 : tie.Need-enum-told-4
 enum-told-4 c = search needs
 
--- src/lib.rt:37:25
 enum-told-5 : tie.Need-enum-told-5
 enum-told-5 c = search needs
 
--- src/lib.rt:29:1
 returns : tie.Need-returns
 unfolding x550em
 returns c = rw (c .enum-told .given .1)
 
--- src/lib.rt:29:1
 returns-2 : tie.Need-returns-2
 unfolding x550em
 returns-2 c = rw (c .enum-told2 .given .1)
 
--- src/lib.rt:29:1
 returns-3 : tie.Need-returns-3
 unfolding x550em
 returns-3 c = rw (c .enum-told3 .given .1)
 
--- src/lib.rt:29:1
 returns-4 : tie.Need-returns-4
 unfolding x550em
 returns-4 c = rw (c .enum-told4 .given .1)
 
--- src/lib.rt:29:1
 returns-5 : tie.Need-returns-5
 unfolding x550em
 returns-5 c = rw (c .enum-told5 .given .1)

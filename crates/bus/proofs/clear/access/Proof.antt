@@ -1,74 +1,15 @@
 -- `access` meets its contract.
 use Rattle.bus.specs.Clear.{accessClear}
-use Rattle.hardware.specs.Runs.{given}
 use borrow.Author.Needs.{needs}
 use Rattle.bus.proofs.clear.access.Statement.{statement}
 use Rattle.bus.proofs.clear.access.Tie as tie
 
-enum-known-s : tie.Need-enum-known-s
-enum-known-s c = search needs
-
--- src/clear.rt:129:28
 access-requires : tie.Need-access-requires
 access-requires c κs = search needs
 
--- src/clear.rt:130:21
-enum-known-s-2 : tie.Need-enum-known-s-2
-enum-known-s-2 c = search needs
-
--- src/clear.rt:130:27
-access-requires-2 : tie.Need-access-requires-2
-access-requires-2 c κs = search needs
-
--- src/clear.rt:131:22
-enum-known-s-3 : tie.Need-enum-known-s-3
-enum-known-s-3 c = search needs
-
--- src/clear.rt:131:28
-access-requires-3 : tie.Need-access-requires-3
-access-requires-3 c κs = search needs
-
--- src/clear.rt:132:21
-enum-known-s-4 : tie.Need-enum-known-s-4
-enum-known-s-4 c = search needs
-
--- src/clear.rt:132:27
-access-requires-4 : tie.Need-access-requires-4
-access-requires-4 c κs = search needs
-
--- src/clear.rt:125:1
 returns : tie.Need-returns
 unfolding accessClear
-returns c = rw (c .before .before .s .given .1) (c .access .ensures)
-
--- src/clear.rt:125:1
-returns-2 : tie.Need-returns-2
-unfolding accessClear
-returns-2 c = rw (c .before .before .s2 .given .1) (c .access2 .ensures)
-
--- src/clear.rt:125:1
-returns-3 : tie.Need-returns-3
-unfolding accessClear
-returns-3 c = rw (c .before .before .s3 .given .1) (c .access3 .ensures)
-
--- src/clear.rt:125:1
-returns-4 : tie.Need-returns-4
-unfolding accessClear
-returns-4 c = rw (c .before .before .s4 .given .1) (c .access4 .ensures)
+returns c = c .access .ensures
 
 pub access-spec : {M : Type 1} → statement M
-access-spec =
-    tie.close
-    (tie.spec
-    enum-known-s
-    access-requires
-    enum-known-s-2
-    access-requires-2
-    enum-known-s-3
-    access-requires-3
-    enum-known-s-4
-    access-requires-4
-    returns
-    returns-2
-    returns-3
-    returns-4)
+access-spec = tie.close (tie.spec access-requires returns)

@@ -11,11 +11,9 @@ use Rattle.bus.proofs.clear.again.Tie as tie
 open-requires : tie.Need-open-requires
 open-requires c κs = search needs
 
--- src/clear.rt:77:5
 started-requires : tie.Need-started-requires
 started-requires c κs = search needs
 
--- src/clear.rt:73:1
 returns : tie.Need-returns
 unfolding clearAgain quiet validJobNext
 returns c = (over _ _ (c .started .ensures .0) (c .before .«open» .ensures .0 0 (λ _. done none) ∙ ap (λ p. erase (p (c .before .before .args .ctl))) (job-start (c .before .before .args .l) 0 (λ _. done none))), c .started .ensures .1 (c .before .«open» .ensures .1))

@@ -11,11 +11,9 @@ use Rattle.bus.proofs.clear.free.Tie as tie
 open-requires : tie.Need-open-requires
 open-requires c κs = search needs
 
--- src/clear.rt:97:5
 freed-requires : tie.Need-freed-requires
 freed-requires c κs = search needs
 
--- src/clear.rt:93:1
 returns : tie.Need-returns
 unfolding clearFree validJobNext
 returns c = (c .freed .ensures .0 ∙ c .before .«open» .ensures .0 0 (λ _. clearAgain (c .before .before .args .l)) ∙ ap (λ p. erase (p (c .before .before .args .ctl))) (job-free (c .before .before .args .l) 0 (λ _. clearAgain (c .before .before .args .l))), c .freed .ensures .1 (c .before .«open» .ensures .1))

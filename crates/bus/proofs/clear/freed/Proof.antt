@@ -1,6 +1,6 @@
 -- `freed` meets its contract.
 use Rattle.bus.specs.Bus.{orHeld}
-use Rattle.bus.specs.Clear.{accessClear, clearNext, restClear, validClear, validClearNext}
+use Rattle.bus.specs.Clear.{accessClear, clearNext, commandOf, restClear, restPart, validClear, validClearNext}
 use Rattle.bus.specs.Command.{jobNext, validJobNext}
 use Rattle.hardware.specs.Prog.{erase}
 use Rattle.hardware.specs.Registers.{byte}
@@ -13,33 +13,26 @@ use Rattle.bus.proofs.clear.freed.Tie as tie
 enum-known-n : tie.Need-enum-known-n
 enum-known-n c = search needs
 
--- src/clear.rt:86:22
 enum-known-n-2 : tie.Need-enum-known-n-2
 enum-known-n-2 c = search needs
 
--- src/clear.rt:87:28
 enum-told : tie.Need-enum-told
 enum-told c = search needs
 
--- src/clear.rt:87:28
 again-requires : tie.Need-again-requires
 again-requires c κs = search needs
 
--- src/clear.rt:88:23
 enum-known-b : tie.Need-enum-known-b
 enum-known-b c = search needs
 
--- src/clear.rt:80:1
 returns : tie.Need-returns
-unfolding clearNext accessClear restClear jobNext validClearNext validClear validJobNext
+unfolding clearNext accessClear restClear restPart jobNext validClearNext validClear commandOf validJobNext
 returns c = (rw (c .before .n .given .1), λ h. rw (c .before .n .given .1) at h)
 
--- src/clear.rt:80:1
 returns-2 : tie.Need-returns-2
 unfolding jobNext orHeld byte erase validClearNext
 returns-2 c = (rw (c .before .before .before .before .n2 .given .1, c .before .enum-told .given .1) (c .again .ensures .0), λ h. c .again .ensures .1)
 
--- src/clear.rt:80:1
 returns-3 : tie.Need-returns-3
 unfolding jobNext orHeld byte erase clearNext validClearNext
 returns-3 c = (rw (c .before .before .before .before .n2 .given .1, c .before .b .given .1), λ h. refl)

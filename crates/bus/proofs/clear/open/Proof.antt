@@ -11,11 +11,9 @@ use Rattle.bus.proofs.clear.open.Tie as tie
 open-requires : tie.Need-open-requires
 open-requires c κs = search needs
 
--- src/clear.rt:122:5
 first-requires : tie.Need-first-requires
 first-requires c κs = search needs
 
--- src/clear.rt:118:1
 returns : tie.Need-returns
 unfolding clear quiet validJobNext
 returns c = (over _ _ (c .first .ensures .0) (c .before .«open» .ensures .0 0 (λ _. done none) ∙ ap (λ p. erase (p (c .before .before .args .ctl))) (job-start (c .before .before .args .l) 0 (λ _. done none))), c .first .ensures .1 (c .before .«open» .ensures .1))

@@ -11,11 +11,9 @@ use Rattle.bus.proofs.clear.stop.Tie as tie
 open-requires : tie.Need-open-requires
 open-requires c κs = search needs
 
--- src/clear.rt:52:5
 stopped-requires : tie.Need-stopped-requires
 stopped-requires c κs = search needs
 
--- src/clear.rt:48:1
 returns : tie.Need-returns
 unfolding clearStop quiet validJobNext
 returns c = (over _ _ (c .stopped .ensures .0) (c .before .«open» .ensures .0 0 (λ _. done none) ∙ ap (λ p. erase (p (c .before .before .args .ctl))) (job-stop (c .before .before .args .l) 0 (λ _. done none))), c .stopped .ensures .1 (c .before .«open» .ensures .1))

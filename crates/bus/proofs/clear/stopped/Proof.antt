@@ -1,6 +1,6 @@
 -- `stopped` meets its contract.
 use Rattle.bus.specs.Bus.{orHeld, orQuiet, quieted}
-use Rattle.bus.specs.Clear.{accessClear, clearNext, restClear, validClear, validClearNext}
+use Rattle.bus.specs.Clear.{accessClear, clearNext, commandOf, restClear, restPart, validClear, validClearNext}
 use Rattle.bus.specs.Command.{jobNext, validJobNext}
 use Rattle.hardware.specs.Prog.{_>>=_, erase, followed, going, pick}
 use Rattle.hardware.specs.Registers.{byte}
@@ -13,38 +13,30 @@ use Rattle.bus.proofs.clear.stopped.Tie as tie
 enum-known-n : tie.Need-enum-known-n
 enum-known-n c = search needs
 
--- src/clear.rt:36:22
 enum-known-n-2 : tie.Need-enum-known-n-2
 enum-known-n-2 c = search needs
 
--- src/clear.rt:37:48
 enum-told : tie.Need-enum-told
 enum-told c = search needs
 
--- src/clear.rt:38:23
 enum-known-b : tie.Need-enum-known-b
 enum-known-b c = search needs
 
--- src/clear.rt:39:20
 is-i2c-requires : tie.Need-is-i2c-requires
 is-i2c-requires c κs = search needs
 
--- src/clear.rt:40:21
 returns : tie.Need-returns
 unfolding followed _>>=_ jobNext orHeld byte quieted orQuiet erase pick clearNext validClearNext
 returns c = (rw (c .before .before .before .before .before .before .n2 .given .1, c .before .before .before .b .given .1, ← c .before .is-i2c .ensures, c .if1 .taken), λ h. refl)
 
--- src/clear.rt:30:1
 returns-2 : tie.Need-returns-2
-unfolding clearNext accessClear restClear jobNext validClearNext validClear validJobNext
+unfolding clearNext accessClear restClear restPart jobNext validClearNext validClear commandOf validJobNext
 returns-2 c = (rw (c .before .n .given .1) (going _ _ _), λ h. rw (c .before .n .given .1) at h)
 
--- src/clear.rt:30:1
 returns-3 : tie.Need-returns-3
 unfolding followed _>>=_ jobNext orHeld byte quieted orQuiet erase pick clearNext validClearNext
 returns-3 c = (rw (c .before .before .before .n2 .given .1, c .enum-told .given .1), λ h. refl)
 
--- src/clear.rt:30:1
 returns-4 : tie.Need-returns-4
 unfolding followed _>>=_ jobNext orHeld byte quieted orQuiet erase pick clearNext validClearNext
 returns-4 c = (rw (c .before .before .before .before .before .before .n2 .given .1, c .before .before .before .b .given .1, ← c .before .is-i2c .ensures, c .if1 .left), λ h. refl)

@@ -8,7 +8,6 @@ use Rattle.bus.proofs.command.bit.Tie as tie
 shr-result : tie.Need-shr-result
 shr-result c = search needs
 
--- src/command.rt:19:1
 returns : tie.Need-returns
 unfolding bitOf
 returns c = refl

@@ -10,63 +10,49 @@ use Rattle.bus.proofs.command.call.Tie as tie
 enum-told : tie.Need-enum-told
 enum-told c = search needs
 
--- src/command.rt:131:27
 start-requires : tie.Need-start-requires
 start-requires c κs = search needs
 
--- src/command.rt:132:23
 enum-known-c : tie.Need-enum-known-c
 enum-known-c c = search needs
 
--- src/command.rt:132:32
 send-requires : tie.Need-send-requires
 send-requires c κs = search needs
 
--- src/command.rt:133:23
 enum-known-c-2 : tie.Need-enum-known-c-2
 enum-known-c-2 c = search needs
 
--- src/command.rt:133:32
 read-requires : tie.Need-read-requires
 read-requires c κs = search needs
 
--- src/command.rt:134:26
 enum-told-2 : tie.Need-enum-told-2
 enum-told-2 c = search needs
 
--- src/command.rt:134:26
 end-requires : tie.Need-end-requires
 end-requires c κs = search needs
 
--- src/command.rt:135:26
 enum-told-3 : tie.Need-enum-told-3
 enum-told-3 c = search needs
 
--- src/command.rt:135:26
 free-requires : tie.Need-free-requires
 free-requires c κs = search needs
 
--- src/command.rt:127:1
 returns : tie.Need-returns
 unfolding callAt
 returns c = rw (c .before .enum-told .given .1) (c .start .ensures)
 
--- src/command.rt:127:1
 returns-2 : tie.Need-returns-2
 unfolding callAt
 returns-2 c = rw (c .before .before .c .given .1) (c .send .ensures)
 
--- src/command.rt:127:1
 returns-3 : tie.Need-returns-3
 unfolding callAt
 returns-3 c = rw (c .before .before .c2 .given .1) (c .read .ensures)
 
--- src/command.rt:127:1
 returns-4 : tie.Need-returns-4
 unfolding callAt
 returns-4 c = rw (c .before .enum-told2 .given .1) (c .end .ensures)
 
--- src/command.rt:127:1
 returns-5 : tie.Need-returns-5
 unfolding callAt
 returns-5 c = rw (c .before .enum-told3 .given .1) (c .free .ensures)

@@ -8,47 +8,37 @@ use Rattle.bus.proofs.command.count.Tie as tie
 enum-told : tie.Need-enum-told
 enum-told c = search needs
 
--- src/command.rt:153:29
 enum-told-2 : tie.Need-enum-told-2
 enum-told-2 c = search needs
 
--- src/command.rt:154:29
 enum-told-3 : tie.Need-enum-told-3
 enum-told-3 c = search needs
 
--- src/command.rt:155:26
 enum-told-4 : tie.Need-enum-told-4
 enum-told-4 c = search needs
 
--- src/command.rt:155:26
 stop-count-requires : tie.Need-stop-count-requires
 stop-count-requires c κs = search needs
 
--- src/command.rt:156:26
 enum-told-5 : tie.Need-enum-told-5
 enum-told-5 c = search needs
 
--- src/command.rt:148:1
 returns : tie.Need-returns
 unfolding callCount
 returns c = rw (c .enum-told .given .1)
 
--- src/command.rt:148:1
 returns-2 : tie.Need-returns-2
 unfolding callCount
 returns-2 c = rw (c .enum-told2 .given .1)
 
--- src/command.rt:148:1
 returns-3 : tie.Need-returns-3
 unfolding callCount
 returns-3 c = rw (c .enum-told3 .given .1)
 
--- src/command.rt:148:1
 returns-4 : tie.Need-returns-4
 unfolding callCount
 returns-4 c = rw (c .before .enum-told4 .given .1) (c .stop-count .ensures)
 
--- src/command.rt:148:1
 returns-5 : tie.Need-returns-5
 unfolding callCount
 returns-5 c = rw (c .enum-told5 .given .1)

@@ -10,25 +10,20 @@ use Rattle.bus.proofs.command.end.Tie as tie
 stop-requires : tie.Need-stop-requires
 stop-requires c κs = search needs
 
--- src/command.rt:119:9
 returns : tie.Need-returns
 unfolding endCall pick
 returns c = simp (eq-eqb _ _ (c .before .if1 .taken)) (c .stop .ensures)
 
--- src/command.rt:122:9
 returns-2 : tie.Need-returns-2
 unfolding endCall pick
 returns-2 c = simp (ne-eqb _ _ (c .before .if1 .left), eq-eqb _ _ (c .if2 .taken))
 
--- src/command.rt:124:10
 sub-stop : tie.Need-sub-stop
 sub-stop c = search needs
 
--- src/command.rt:124:5
 stop-requires-2 : tie.Need-stop-requires-2
 stop-requires-2 c κs = search needs
 
--- src/command.rt:115:1
 returns-3 : tie.Need-returns-3
 unfolding endCall pick
 returns-3 c = simp (ne-eqb _ _ (c .before .before .if1 .left), ne-eqb _ _ (c .before .if2 .left)) (c .stop2 .ensures)

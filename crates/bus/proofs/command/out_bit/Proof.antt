@@ -9,12 +9,10 @@ use Rattle.bus.proofs.command.out_bit.Tie as tie
 pulse-requires : tie.Need-pulse-requires
 pulse-requires c κs = search needs
 
--- src/command.rt:41:9
 returns : tie.Need-returns
 unfolding outBitCall pick
 returns c = simp (lt-ltb _ _ (c .before .if1 .taken)) (c .pulse .ensures)
 
--- src/command.rt:37:1
 returns-2 : tie.Need-returns-2
 unfolding outBitCall pick
 returns-2 c = simp (le-ltb _ _ (c .if1 .left))

@@ -10,17 +10,14 @@ returns : tie.Need-returns
 unfolding pulseCall
 returns c = rw (c .match .keys1)
 
--- src/command.rt:26:1
 returns-2 : tie.Need-returns-2
 unfolding pulseCall
 returns-2 c = rw (c .match .keys2)
 
--- src/command.rt:26:1
 returns-3 : tie.Need-returns-3
 unfolding pulseCall
 returns-3 c = rw (c .match .keys3)
 
--- src/command.rt:26:1
 returns-4 : tie.Need-returns-4
 returns-4 c = sym (pulse-first (c .before .args .n) (omega (arith, c .match .rest)))
 

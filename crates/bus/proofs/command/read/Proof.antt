@@ -9,16 +9,13 @@ use Rattle.bus.proofs.command.read.Tie as tie
 out-bit-requires : tie.Need-out-bit-requires
 out-bit-requires c κs = search needs
 
--- src/command.rt:100:9
 returns : tie.Need-returns
 unfolding readCall pick
 returns c = simp (lt-ltb _ _ (c .before .if1 .taken)) (c .out-bit .ensures)
 
--- src/command.rt:102:5
 sense-requires : tie.Need-sense-requires
 sense-requires c κs = search needs
 
--- src/command.rt:96:1
 returns-2 : tie.Need-returns-2
 unfolding readCall pick
 returns-2 c = simp (le-ltb _ _ (c .before .if1 .left)) (c .sense .ensures)

@@ -9,20 +9,16 @@ use Rattle.bus.proofs.command.send.Tie as tie
 sense-requires : tie.Need-sense-requires
 sense-requires c κs = search needs
 
--- src/command.rt:90:9
 returns : tie.Need-returns
 unfolding sendCall pick
 returns c = simp (lt-ltb _ _ (c .before .if1 .taken)) (c .sense .ensures)
 
--- src/command.rt:93:13
 bit-requires : tie.Need-bit-requires
 bit-requires c κs = search needs
 
--- src/command.rt:93:5
 out-bit-requires : tie.Need-out-bit-requires
 out-bit-requires c κs = search needs
 
--- src/command.rt:86:1
 returns-2 : tie.Need-returns-2
 unfolding sendCall pick
 returns-2 c = simp (le-ltb _ _ (c .before .before .if1 .left)) (rw (c .before .bit .ensures) at (c .out-bit .ensures))

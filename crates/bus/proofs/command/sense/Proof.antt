@@ -10,27 +10,22 @@ returns : tie.Need-returns
 unfolding senseCall
 returns c = rw (c .match .keys1)
 
--- src/command.rt:46:1
 returns-2 : tie.Need-returns-2
 unfolding senseCall
 returns-2 c = rw (c .match .keys2)
 
--- src/command.rt:46:1
 returns-3 : tie.Need-returns-3
 unfolding senseCall
 returns-3 c = rw (c .match .keys3)
 
--- src/command.rt:46:1
 returns-4 : tie.Need-returns-4
 unfolding senseCall
 returns-4 c = rw (c .match .keys4)
 
--- src/command.rt:46:1
 returns-5 : tie.Need-returns-5
 unfolding senseCall
 returns-5 c = rw (c .match .keys5)
 
--- src/command.rt:46:1
 returns-6 : tie.Need-returns-6
 returns-6 c = sym (sense-first (c .before .args .call) (c .before .args .n) (omega (arith, c .match .rest)))
 

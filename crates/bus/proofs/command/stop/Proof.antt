@@ -10,22 +10,18 @@ returns : tie.Need-returns
 unfolding stopCall
 returns c = rw (c .match .keys1)
 
--- src/command.rt:74:1
 returns-2 : tie.Need-returns-2
 unfolding stopCall
 returns-2 c = rw (c .match .keys2)
 
--- src/command.rt:74:1
 returns-3 : tie.Need-returns-3
 unfolding stopCall
 returns-3 c = rw (c .match .keys3)
 
--- src/command.rt:74:1
 returns-4 : tie.Need-returns-4
 unfolding stopCall
 returns-4 c = rw (c .match .keys4)
 
--- src/command.rt:74:1
 returns-5 : tie.Need-returns-5
 returns-5 c = sym (stop-first (c .before .args .n) (omega (arith, c .match .rest)))
 

@@ -9,7 +9,6 @@ returns : tie.Need-returns
 unfolding stopCount pick
 returns c = simp (eq-eqb _ _ (c .if1 .taken))
 
--- src/command.rt:139:1
 returns-2 : tie.Need-returns-2
 unfolding stopCount pick
 returns-2 c = simp (ne-eqb _ _ (c .if1 .left))

@@ -7,7 +7,6 @@ use Rattle.bus.proofs.job.access.Tie as tie
 access-requires : tie.Need-access-requires
 access-requires c κs = search needs
 
--- src/job.rt:85:1
 returns : tie.Need-returns
 unfolding accessJob
 returns c = c .access .ensures

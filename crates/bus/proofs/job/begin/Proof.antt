@@ -9,11 +9,9 @@ use Rattle.bus.proofs.job.begin.Tie as tie
 call-requires : tie.Need-call-requires
 call-requires c κs = search needs
 
--- src/job.rt:57:15
 open-requires : tie.Need-open-requires
 open-requires c κs = search needs
 
--- src/job.rt:51:1
 returns : tie.Need-returns
 unfolding jobNext accessJob restJob lineNext validJob
 returns c = (λ device k. rw (c .before .call .ensures) at (c .«open» .ensures .0 (callsLeft (c .before .before .args .l) device (c .before .before .args .c) (c .before .before .args .left) k)), λ h. picked _ _ h (c .«open» .ensures .1 (rw (c .before .call .ensures) (valid-calls (c .before .before .args .l) (c .before .before .args .c) (c .before .before .args .left)))))

@@ -13,48 +13,38 @@ use Rattle.bus.proofs.job.finish.Tie as tie
 enum-told : tie.Need-enum-told
 enum-told c = search needs
 
--- src/job.rt:39:16
 enum-told-2 : tie.Need-enum-told-2
 enum-told-2 c = search needs
 
--- src/job.rt:40:17
 returns : tie.Need-returns
 unfolding jobNext orHeld erase byte finished validJobNext pick
 returns c = (λ k. rw (c .before .enum-told2 .given .1, eq-eqb _ _ (c .if1 .taken)), refl)
 
--- src/job.rt:44:47
 enum-told-3 : tie.Need-enum-told-3
 enum-told-3 c = search needs
 
--- src/job.rt:45:44
 enum-told-4 : tie.Need-enum-told-4
 enum-told-4 c = search needs
 
--- src/job.rt:46:44
 enum-told-5 : tie.Need-enum-told-5
 enum-told-5 c = search needs
 
--- src/job.rt:32:1
 returns-2 : tie.Need-returns-2
 unfolding jobNext orHeld erase byte finished validJobNext
 returns-2 c = (λ k. rw (c .enum-told .given .1), refl)
 
--- src/job.rt:32:1
 returns-3 : tie.Need-returns-3
 unfolding jobNext orHeld erase byte finished validJobNext pick
 returns-3 c = (λ k. rw (c .before .enum-told2 .given .1, ne-eqb _ _ (c .if1 .left)), refl)
 
--- src/job.rt:32:1
 returns-4 : tie.Need-returns-4
 unfolding jobNext orHeld erase byte finished validJobNext
 returns-4 c = (λ k. rw (c .enum-told3 .given .1), refl)
 
--- src/job.rt:32:1
 returns-5 : tie.Need-returns-5
 unfolding jobNext orHeld erase byte finished validJobNext
 returns-5 c = (λ k. rw (c .enum-told4 .given .1), refl)
 
--- src/job.rt:32:1
 returns-6 : tie.Need-returns-6
 unfolding jobNext orHeld erase byte finished validJobNext
 returns-6 c = (λ k. rw (c .enum-told5 .given .1), refl)

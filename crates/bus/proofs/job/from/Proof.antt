@@ -9,20 +9,16 @@ use Rattle.bus.proofs.job.from.Tie as tie
 finish-requires : tie.Need-finish-requires
 finish-requires c κs = search needs
 
--- src/job.rt:67:9
 returns : tie.Need-returns
 unfolding callsLeft
 returns c = (λ k. rw (c .before .if1 .taken) (c .finish .ensures .0 k), λ h. c .finish .ensures .1)
 
--- src/job.rt:69:43
 sub-begin : tie.Need-sub-begin
 sub-begin c = search needs
 
--- src/job.rt:69:20
 begin-requires : tie.Need-begin-requires
 begin-requires c κs = search needs
 
--- src/job.rt:62:1
 returns-2 : tie.Need-returns-2
 unfolding validJobNext
 returns-2 c = (λ k. c .begin .ensures .0 (c .before .before .args .device) k ∙ calls-more (c .before .before .args .l) (c .before .before .args .device) (c .before .before .args .c) (c .before .before .args .n) k (c .before .before .args .bits) (c .before .before .args .ctl) (c .before .if1 .left), λ h. c .begin .ensures .1 (fewer-than (c .before .before .args .n) (callCount (c .before .before .args .l) (c .before .before .args .c)) (c .before .if1 .left) h))

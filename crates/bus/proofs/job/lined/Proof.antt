@@ -14,33 +14,26 @@ use Rattle.bus.proofs.job.lined.Tie as tie
 enum-known-n : tie.Need-enum-known-n
 enum-known-n c = search needs
 
--- src/job.rt:71:23
 enum-known-n-2 : tie.Need-enum-known-n-2
 enum-known-n-2 c = search needs
 
--- src/job.rt:72:28
 enum-told : tie.Need-enum-told
 enum-told c = search needs
 
--- src/job.rt:72:28
 from-requires : tie.Need-from-requires
 from-requires c κs = search needs
 
--- src/job.rt:73:26
 enum-known-o : tie.Need-enum-known-o
 enum-known-o c = search needs
 
--- src/job.rt:65:1
 returns : tie.Need-returns
 unfolding jobNext accessJob restJob lineNext validJobNext validJob validLineNext
 returns c = (λ k. rw (c .before .n .given .1), λ h g. picked _ _ h (rw (c .before .n .given .1) at g))
 
--- src/job.rt:65:1
 returns-2 : tie.Need-returns-2
 unfolding lineNext orHeld outcome
 returns-2 c = (λ k. rw (c .before .before .before .before .n2 .given .1, c .before .enum-told .given .1) (c .from .ensures .0 k), λ h g. c .from .ensures .1 (under (c .before .before .before .before .before .before .args .left) (callCount (c .before .before .before .before .before .before .args .l) (c .before .before .before .before .before .before .args .c)) h))
 
--- src/job.rt:65:1
 returns-3 : tie.Need-returns-3
 unfolding jobNext lineNext orHeld outcome byte erase validJobNext
 returns-3 c = (λ k. rw (c .before .before .before .before .n2 .given .1, c .before .o .given .1), λ h g. refl)

@@ -9,15 +9,12 @@ use Rattle.bus.proofs.job.open.Tie as tie
 count-requires : tie.Need-count-requires
 count-requires c κs = search needs
 
--- src/job.rt:89:25
 sub-begin : tie.Need-sub-begin
 sub-begin c = rw (c .count .ensures) (some-call (c .before .args .l) (c .before .args .c))
 
--- src/job.rt:89:5
 begin-requires : tie.Need-begin-requires
 begin-requires c κs = search needs
 
--- src/job.rt:85:1
 returns : tie.Need-returns
 unfolding commanded
 returns c = (λ device k. rw (c .before .count .ensures) at (c .begin .ensures .0 device k) ∙ calls-more (c .before .before .args .l) device (c .before .before .args .c) (callCount (c .before .before .args .l) (c .before .before .args .c)) k 0 (c .before .before .args .ctl) (nonzero _ (some-call (c .before .before .args .l) (c .before .before .args .c))), c .begin .ensures .1 (rw (c .before .count .ensures) (fewer-than (callCount (c .before .before .args .l) (c .before .before .args .c)) (callCount (c .before .before .args .l) (c .before .before .args .c)) (nonzero _ (some-call (c .before .before .args .l) (c .before .before .args .c))) (itself (callCount (c .before .before .args .l) (c .before .before .args .c))))))

@@ -9,11 +9,9 @@ use Rattle.bus.proofs.job.step.Tie as tie
 step-requires : tie.Need-step-requires
 step-requires c κs = search needs
 
--- src/job.rt:97:5
 lined-requires : tie.Need-lined-requires
 lined-requires c κs = search needs
 
--- src/job.rt:92:1
 returns : tie.Need-returns
 unfolding restJob validJob
 returns c = (λ k. c .lined .ensures .0 k ∙ c .before .step .ensures .0 _, λ h. c .lined .ensures .1 (picked-first _ _ h) (c .before .step .ensures .1 (picked-second _ _ h)))

@@ -9,16 +9,13 @@ use Rattle.bus.proofs.job.valid.Tie as tie
 count-requires : tie.Need-count-requires
 count-requires c κs = search needs
 
--- src/job.rt:106:9
 valid-requires : tie.Need-valid-requires
 valid-requires c κs = search needs
 
--- src/job.rt:106:9
 returns : tie.Need-returns
 unfolding validJob pick
 returns c = simp (lt-ltb _ _ (rw (c .before .before .before .count .ensures) at (c .before .if1 .taken))) (c .valid .ensures)
 
--- src/job.rt:100:1
 returns-2 : tie.Need-returns-2
 unfolding validJob pick
 returns-2 c = simp (le-ltb _ _ (rw (c .before .before .count .ensures) at (c .if1 .left)))

@@ -12,33 +12,26 @@ use Rattle.bus.proofs.line.ack_seen.Tie as tie
 enum-known-w : tie.Need-enum-known-w
 enum-known-w c = search needs
 
--- src/line.rt:164:16
 none-of-requires : tie.Need-none-of-requires
 none-of-requires c κs = search needs
 
--- src/line.rt:165:43
 shift-requires : tie.Need-shift-requires
 shift-requires c κs = search needs
 
--- src/line.rt:165:17
 returns : tie.Need-returns
 unfolding lineNext orHeld erase outcome word ackSeen pick sensed validLineNext
 returns c = (λ k. rw (c .before .before .before .before .w .given .1, ← c .before .before .none-of .ensures, c .before .if1 .taken, c .shift .ensures), λ h. refl)
 
--- src/line.rt:167:29
 at-requires : tie.Need-at-requires
 at-requires c κs = search needs
 
--- src/line.rt:169:19
 enum-known-w-2 : tie.Need-enum-known-w-2
 enum-known-w-2 c = search needs
 
--- src/line.rt:158:1
 returns-2 : tie.Need-returns-2
 unfolding lineNext orHeld erase outcome word ackSeen pick accessLine accessAt restLine restAt wait validLineNext validLine
 returns-2 c = (λ k. rw (c .before .before .before .before .w .given .1, ← c .before .before .none-of .ensures, c .before .if1 .left, c .at .ensures), λ h. rw (c .at .ensures) h)
 
--- src/line.rt:158:1
 returns-3 : tie.Need-returns-3
 unfolding lineNext orHeld erase outcome word ackSeen validLineNext
 returns-3 c = (λ k. rw (c .before .w2 .given .1), λ h. refl)

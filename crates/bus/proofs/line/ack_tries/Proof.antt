@@ -12,20 +12,16 @@ use Rattle.bus.proofs.line.ack_tries.Tie as tie
 shift-requires : tie.Need-shift-requires
 shift-requires c κs = search needs
 
--- src/line.rt:153:9
 returns : tie.Need-returns
 unfolding lineNext orHeld erase outcome word ackTries sensed validLineNext
 returns c = (λ k. rw (c .before .if1 .taken, c .shift .ensures), λ h. refl)
 
--- src/line.rt:155:45
 sub-t9 : tie.Need-sub-t9
 sub-t9 c = search needs
 
--- src/line.rt:155:21
 at-requires : tie.Need-at-requires
 at-requires c κs = search needs
 
--- src/line.rt:148:1
 returns-2 : tie.Need-returns-2
 unfolding validLineNext validLine
 returns-2 c = (λ k. rw (c .at .ensures) (ack-more _ _ _ _ k (c .before .if1 .left)), λ h. rw (c .at .ensures) (fewer (c .before .before .args .left) 10 h))

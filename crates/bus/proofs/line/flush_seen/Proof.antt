@@ -12,20 +12,16 @@ use Rattle.bus.proofs.line.flush_seen.Tie as tie
 enum-told : tie.Need-enum-told
 enum-told c = search needs
 
--- src/line.rt:262:24
 settle-requires : tie.Need-settle-requires
 settle-requires c κs = search needs
 
--- src/line.rt:263:22
 enum-known-o : tie.Need-enum-known-o
 enum-known-o c = search needs
 
--- src/line.rt:257:1
 returns : tie.Need-returns
 unfolding orHeld outcome
 returns c = (λ k. rw (c .before .enum-told .given .1) (c .settle .ensures .0 k), c .settle .ensures .1)
 
--- src/line.rt:257:1
 returns-2 : tie.Need-returns-2
 unfolding lineNext orHeld erase outcome word validLineNext
 returns-2 c = (λ k. rw (c .before .o .given .1), λ h. refl)

@@ -12,16 +12,13 @@ use Rattle.bus.proofs.line.look_seen.Tie as tie
 enum-known-w : tie.Need-enum-known-w
 enum-known-w c = search needs
 
--- src/line.rt:133:19
 enum-known-w-2 : tie.Need-enum-known-w-2
 enum-known-w-2 c = search needs
 
--- src/line.rt:127:1
 returns : tie.Need-returns
 unfolding lineNext orHeld erase outcome word lookSeen validLineNext
 returns c = (λ k. rw (c .before .before .w .given .1), refl)
 
--- src/line.rt:127:1
 returns-2 : tie.Need-returns-2
 unfolding lineNext orHeld erase outcome word lookSeen validLineNext
 returns-2 c = (λ k. rw (c .before .w2 .given .1), refl)

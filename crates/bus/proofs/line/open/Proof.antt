@@ -11,115 +11,89 @@ use Rattle.bus.proofs.line.open.Tie as tie
 enum-told : tie.Need-enum-told
 enum-told c = search needs
 
--- src/line.rt:311:23
 at-requires : tie.Need-at-requires
 at-requires c κs = search needs
 
--- src/line.rt:312:19
 enum-known-call : tie.Need-enum-known-call
 enum-known-call c = search needs
 
--- src/line.rt:312:28
 sda-requires : tie.Need-sda-requires
 sda-requires c κs = search needs
 
--- src/line.rt:314:20
 enum-told-2 : tie.Need-enum-told-2
 enum-told-2 c = search needs
 
--- src/line.rt:313:26
 at-requires-2 : tie.Need-at-requires-2
 at-requires-2 c κs = search needs
 
--- src/line.rt:318:24
 enum-told-3 : tie.Need-enum-told-3
 enum-told-3 c = search needs
 
--- src/line.rt:318:21
 at-requires-3 : tie.Need-at-requires-3
 at-requires-3 c κs = search needs
 
--- src/line.rt:319:34
 enum-told-4 : tie.Need-enum-told-4
 enum-told-4 c = search needs
 
--- src/line.rt:319:23
 at-requires-4 : tie.Need-at-requires-4
 at-requires-4 c κs = search needs
 
--- src/line.rt:320:20
 enum-known-call-2 : tie.Need-enum-known-call-2
 enum-known-call-2 c = search needs
 
--- src/line.rt:320:27
 at-requires-5 : tie.Need-at-requires-5
 at-requires-5 c κs = search needs
 
--- src/line.rt:321:39
 enum-told-5 : tie.Need-enum-told-5
 enum-told-5 c = search needs
 
--- src/line.rt:321:25
 at-requires-6 : tie.Need-at-requires-6
 at-requires-6 c κs = search needs
 
--- src/line.rt:322:36
 enum-told-6 : tie.Need-enum-told-6
 enum-told-6 c = search needs
 
--- src/line.rt:322:22
 at-requires-7 : tie.Need-at-requires-7
 at-requires-7 c κs = search needs
 
--- src/line.rt:324:20
 enum-told-7 : tie.Need-enum-told-7
 enum-told-7 c = search needs
 
--- src/line.rt:323:24
 at-requires-8 : tie.Need-at-requires-8
 at-requires-8 c κs = search needs
 
--- src/line.rt:306:1
 returns : tie.Need-returns
 unfolding lineNext accessLine accessAt restLine restAt erase called look get validLine
 returns c = (λ k. rw (c .before .enum-told .given .1, c .at .ensures), λ h. rw (c .at .ensures))
 
--- src/line.rt:306:1
 returns-2 : tie.Need-returns-2
 unfolding called
 returns-2 c = (λ k. rw (c .before .before .call .given .1) (c .sda .ensures .0 k), λ h. c .sda .ensures .1)
 
--- src/line.rt:306:1
 returns-3 : tie.Need-returns-3
 unfolding lineNext accessLine accessAt restLine restAt erase called releaseSda put settled validLine validGoal
 returns-3 c = (λ k. rw (c .before .before .enum-told2 .given .1, c .at2 .ensures), λ h. rw (c .at2 .ensures))
 
--- src/line.rt:306:1
 returns-4 : tie.Need-returns-4
 unfolding called validLine validGoal
 returns-4 c = (λ k. rw (c .before .before .before .enum-told3 .given .1, c .at3 .ensures) (scl-open _ _ _ k), λ h. rw (c .at3 .ensures))
 
--- src/line.rt:306:1
 returns-5 : tie.Need-returns-5
 unfolding lineNext accessLine accessAt restLine restAt erase called sclLow put settled validLine validGoal
 returns-5 c = (λ k. rw (c .before .before .enum-told4 .given .1, c .at4 .ensures), λ h. rw (c .at4 .ensures))
 
--- src/line.rt:306:1
 returns-6 : tie.Need-returns-6
 unfolding lineNext accessLine accessAt restLine restAt erase called wait validLine validCall
 returns-6 c = (λ k. rw (c .before .before .call2 .given .1, c .at5 .ensures), λ h. rw (c .at5 .ensures) (rw (c .before .before .call2 .given .1) at h))
 
--- src/line.rt:306:1
 returns-7 : tie.Need-returns-7
 unfolding lineNext accessLine accessAt restLine restAt erase called sample get validLine
 returns-7 c = (λ k. rw (c .before .enum-told5 .given .1, c .at6 .ensures), λ h. rw (c .at6 .ensures))
 
--- src/line.rt:306:1
 returns-8 : tie.Need-returns-8
 unfolding called validLine
 returns-8 c = (λ k. rw (c .before .enum-told6 .given .1, c .at7 .ensures) (ack-open _ _ _ k), λ h. rw (c .at7 .ensures))
 
--- src/line.rt:306:1
 returns-9 : tie.Need-returns-9
 unfolding lineNext accessLine accessAt restLine restAt erase called close put settled validLine validGoal
 returns-9 c = (λ k. rw (c .before .before .before .enum-told7 .given .1, c .at8 .ensures), λ h. rw (c .at8 .ensures))

@@ -12,73 +12,57 @@ use Rattle.bus.proofs.line.reach.Tie as tie
 enum-told : tie.Need-enum-told
 enum-told c = search needs
 
--- src/line.rt:231:39
 sda-free-requires : tie.Need-sda-free-requires
 sda-free-requires c κs = search needs
 
--- src/line.rt:232:53
 enum-told-2 : tie.Need-enum-told-2
 enum-told-2 c = search needs
 
--- src/line.rt:232:39
 at-requires : tie.Need-at-requires
 at-requires c κs = search needs
 
--- src/line.rt:233:47
 enum-told-3 : tie.Need-enum-told-3
 enum-told-3 c = search needs
 
--- src/line.rt:234:51
 enum-told-4 : tie.Need-enum-told-4
 enum-told-4 c = search needs
 
--- src/line.rt:235:48
 enum-told-5 : tie.Need-enum-told-5
 enum-told-5 c = search needs
 
--- src/line.rt:236:18
 enum-known-g : tie.Need-enum-known-g
 enum-known-g c = search needs
 
--- src/line.rt:236:43
 at-requires-2 : tie.Need-at-requires-2
 at-requires-2 c κs = search needs
 
--- src/line.rt:237:49
 enum-told-6 : tie.Need-enum-told-6
 enum-told-6 c = search needs
 
--- src/line.rt:226:1
 returns : tie.Need-returns
 unfolding reached validLineNext
 returns c = (λ k. rw (c .before .enum-told .given .1) (c .sda-free .ensures .0 k), λ h. c .sda-free .ensures .1)
 
--- src/line.rt:226:1
 returns-2 : tie.Need-returns-2
 unfolding lineNext accessLine accessAt restLine restAt erase reached get validLineNext validLine
 returns-2 c = (λ k. rw (c .before .enum-told2 .given .1, c .at .ensures), λ h. rw (c .at .ensures))
 
--- src/line.rt:226:1
 returns-3 : tie.Need-returns-3
 unfolding lineNext orHeld erase outcome word reached validLineNext
 returns-3 c = (λ k. rw (c .enum-told3 .given .1), λ h. refl)
 
--- src/line.rt:226:1
 returns-4 : tie.Need-returns-4
 unfolding lineNext orHeld erase outcome word reached validLineNext
 returns-4 c = (λ k. rw (c .enum-told4 .given .1), λ h. refl)
 
--- src/line.rt:226:1
 returns-5 : tie.Need-returns-5
 unfolding lineNext orHeld erase outcome word reached validLineNext
 returns-5 c = (λ k. rw (c .enum-told5 .given .1), λ h. refl)
 
--- src/line.rt:226:1
 returns-6 : tie.Need-returns-6
 unfolding lineNext accessLine accessAt restLine restAt erase reached get validLineNext validLine validGoal
 returns-6 c = (λ k. rw (c .before .before .g .given .1, c .at2 .ensures), λ h. rw (c .at2 .ensures) (rw (c .before .before .g .given .1) at h))
 
--- src/line.rt:226:1
 returns-7 : tie.Need-returns-7
 unfolding lineNext orHeld erase outcome word reached validLineNext
 returns-7 c = (λ k. rw (c .enum-told6 .given .1), λ h. refl)

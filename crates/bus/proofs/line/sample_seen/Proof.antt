@@ -12,24 +12,19 @@ use Rattle.bus.proofs.line.sample_seen.Tie as tie
 enum-known-w : tie.Need-enum-known-w
 enum-known-w c = search needs
 
--- src/line.rt:142:55
 sda-level-requires : tie.Need-sda-level-requires
 sda-level-requires c κs = search needs
 
--- src/line.rt:142:43
 shift-requires : tie.Need-shift-requires
 shift-requires c κs = search needs
 
--- src/line.rt:143:19
 enum-known-w-2 : tie.Need-enum-known-w-2
 enum-known-w-2 c = search needs
 
--- src/line.rt:137:1
 returns : tie.Need-returns
 unfolding lineNext orHeld erase outcome word sampleSeen sensed validLineNext
 returns c = (λ k. rw (c .before .before .before .w .given .1, c .shift .ensures, c .before .sda-level .ensures), refl)
 
--- src/line.rt:137:1
 returns-2 : tie.Need-returns-2
 unfolding lineNext orHeld erase outcome word sampleSeen validLineNext
 returns-2 c = (λ k. rw (c .before .w2 .given .1), refl)

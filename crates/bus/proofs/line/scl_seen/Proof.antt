@@ -12,29 +12,23 @@ use Rattle.bus.proofs.line.scl_seen.Tie as tie
 enum-known-w : tie.Need-enum-known-w
 enum-known-w c = search needs
 
--- src/line.rt:205:16
 none-of-requires : tie.Need-none-of-requires
 none-of-requires c κs = search needs
 
--- src/line.rt:206:17
 scl-tries-requires : tie.Need-scl-tries-requires
 scl-tries-requires c κs = search needs
 
--- src/line.rt:206:17
 returns : tie.Need-returns
 unfolding orHeld word sclSeen pick
 returns c = (λ k. rw (c .before .before .before .before .w .given .1, ← c .before .before .none-of .ensures, c .before .if1 .taken) (c .scl-tries .ensures .0 k), c .scl-tries .ensures .1)
 
--- src/line.rt:210:19
 enum-known-w-2 : tie.Need-enum-known-w-2
 enum-known-w-2 c = search needs
 
--- src/line.rt:199:1
 returns-2 : tie.Need-returns-2
 unfolding lineNext orHeld erase outcome word sclSeen pick validLineNext
 returns-2 c = (λ k. rw (c .before .before .before .w .given .1, ← c .before .none-of .ensures, c .if1 .left), λ h. refl)
 
--- src/line.rt:199:1
 returns-3 : tie.Need-returns-3
 unfolding lineNext orHeld erase outcome word sclSeen validLineNext
 returns-3 c = (λ k. rw (c .before .w2 .given .1), λ h. refl)

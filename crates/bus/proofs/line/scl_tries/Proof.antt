@@ -13,15 +13,12 @@ returns : tie.Need-returns
 unfolding lineNext orHeld erase outcome word sclTries validLineNext
 returns c = (λ k. rw (c .if1 .taken), λ h. refl)
 
--- src/line.rt:196:67
 sub-t9 : tie.Need-sub-t9
 sub-t9 c = search needs
 
--- src/line.rt:196:21
 at-requires : tie.Need-at-requires
 at-requires c κs = search needs
 
--- src/line.rt:189:1
 returns-2 : tie.Need-returns-2
 unfolding validLineNext validLine validGoal
 returns-2 c = (λ k. rw (c .at .ensures) (scl-more _ _ _ _ k (c .before .before .if1 .left)), λ h. rw (c .at .ensures) (fewer (c .before .before .before .args .left) 500 h))

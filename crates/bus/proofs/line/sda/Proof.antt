@@ -9,16 +9,13 @@ use Rattle.bus.proofs.line.sda.Tie as tie
 at-requires : tie.Need-at-requires
 at-requires c κs = search needs
 
--- src/line.rt:301:9
 returns : tie.Need-returns
 unfolding lineNext accessLine accessAt restLine restAt erase sda put settled validLine validGoal
 returns c = (λ k. rw (c .before .before .before .if1 .taken, c .at .ensures), rw (c .at .ensures))
 
--- src/line.rt:303:5
 at-requires-2 : tie.Need-at-requires-2
 at-requires-2 c κs = search needs
 
--- src/line.rt:296:1
 returns-2 : tie.Need-returns-2
 unfolding lineNext accessLine accessAt restLine restAt erase sda put settled validLine validGoal
 returns-2 c = (λ k. rw (c .before .before .before .if1 .left, c .at2 .ensures), rw (c .at2 .ensures))

@@ -10,16 +10,13 @@ use Rattle.bus.proofs.line.sda_free.Tie as tie
 at-requires : tie.Need-at-requires
 at-requires c κs = search needs
 
--- src/line.rt:220:9
 returns : tie.Need-returns
 unfolding lineNext accessLine accessAt restLine restAt erase sdaFree pick get validLine
 returns c = (λ k. rw (eq-eqb _ _ (c .before .if1 .taken), c .at .ensures), rw (c .at .ensures))
 
--- src/line.rt:222:5
 at-requires-2 : tie.Need-at-requires-2
 at-requires-2 c κs = search needs
 
--- src/line.rt:215:1
 returns-2 : tie.Need-returns-2
 unfolding lineNext accessLine accessAt restLine restAt erase sdaFree pick put settled validLine validGoal
 returns-2 c = (λ k. rw (ne-eqb _ _ (c .before .before .if1 .left), c .at2 .ensures), rw (c .at2 .ensures))

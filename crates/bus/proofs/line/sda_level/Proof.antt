@@ -8,12 +8,10 @@ use Rattle.bus.proofs.line.sda_level.Tie as tie
 none-of-requires : tie.Need-none-of-requires
 none-of-requires c κs = search needs
 
--- src/line.rt:103:9
 returns : tie.Need-returns
 unfolding sdaLevel pick
 returns c = rw (← c .before .none-of .ensures, c .if1 .taken)
 
--- src/line.rt:99:1
 returns-2 : tie.Need-returns-2
 unfolding sdaLevel pick
 returns-2 c = rw (← c .before .none-of .ensures, c .if1 .left)

@@ -12,25 +12,20 @@ use Rattle.bus.proofs.line.sda_seen.Tie as tie
 enum-known-w : tie.Need-enum-known-w
 enum-known-w c = search needs
 
--- src/line.rt:179:16
 none-of-requires : tie.Need-none-of-requires
 none-of-requires c κs = search needs
 
--- src/line.rt:180:17
 returns : tie.Need-returns
 unfolding lineNext orHeld erase outcome word sdaSeen pick validLineNext
 returns c = (λ k. rw (c .before .before .before .w .given .1, ← c .before .none-of .ensures, c .if1 .taken), refl)
 
--- src/line.rt:184:19
 enum-known-w-2 : tie.Need-enum-known-w-2
 enum-known-w-2 c = search needs
 
--- src/line.rt:173:1
 returns-2 : tie.Need-returns-2
 unfolding lineNext orHeld erase outcome word sdaSeen pick validLineNext
 returns-2 c = (λ k. rw (c .before .before .before .w .given .1, ← c .before .none-of .ensures, c .if1 .left), refl)
 
--- src/line.rt:173:1
 returns-3 : tie.Need-returns-3
 unfolding lineNext orHeld erase outcome word sdaSeen validLineNext
 returns-3 c = (λ k. rw (c .before .w2 .given .1), refl)

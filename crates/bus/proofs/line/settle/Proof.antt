@@ -12,85 +12,66 @@ use Rattle.bus.proofs.line.settle.Tie as tie
 enum-told : tie.Need-enum-told
 enum-told c = search needs
 
--- src/line.rt:247:39
 at-requires : tie.Need-at-requires
 at-requires c κs = search needs
 
--- src/line.rt:248:49
 enum-told-2 : tie.Need-enum-told-2
 enum-told-2 c = search needs
 
--- src/line.rt:249:53
 enum-told-3 : tie.Need-enum-told-3
 enum-told-3 c = search needs
 
--- src/line.rt:249:39
 at-requires-2 : tie.Need-at-requires-2
 at-requires-2 c κs = search needs
 
--- src/line.rt:250:52
 enum-told-4 : tie.Need-enum-told-4
 enum-told-4 c = search needs
 
--- src/line.rt:250:38
 at-requires-3 : tie.Need-at-requires-3
 at-requires-3 c κs = search needs
 
--- src/line.rt:251:56
 enum-told-5 : tie.Need-enum-told-5
 enum-told-5 c = search needs
 
--- src/line.rt:251:42
 at-requires-4 : tie.Need-at-requires-4
 at-requires-4 c κs = search needs
 
--- src/line.rt:252:53
 enum-told-6 : tie.Need-enum-told-6
 enum-told-6 c = search needs
 
--- src/line.rt:252:39
 at-requires-5 : tie.Need-at-requires-5
 at-requires-5 c κs = search needs
 
--- src/line.rt:253:54
 enum-told-7 : tie.Need-enum-told-7
 enum-told-7 c = search needs
 
--- src/line.rt:253:40
 at-requires-6 : tie.Need-at-requires-6
 at-requires-6 c κs = search needs
 
--- src/line.rt:242:1
 returns : tie.Need-returns
 unfolding lineNext accessLine accessAt restLine restAt erase settled get validLineNext validLine
 returns c = (λ k. rw (c .before .enum-told .given .1, c .at .ensures), λ h. rw (c .at .ensures))
 
--- src/line.rt:242:1
 returns-2 : tie.Need-returns-2
 unfolding lineNext orHeld erase outcome word settled validLineNext
 returns-2 c = (λ k. rw (c .enum-told2 .given .1), λ h. refl)
 
--- src/line.rt:242:1
 returns-3 : tie.Need-returns-3
 unfolding lineNext accessLine accessAt restLine restAt erase settled settleUs wait reached validLineNext validLine
 returns-3 c = (λ k. rw (c .at2 .ensures, c .before .enum-told3 .given .1), λ h. rw (c .at2 .ensures) h)
 
--- src/line.rt:242:1
 returns-4 : tie.Need-returns-4
 unfolding lineNext accessLine accessAt restLine restAt erase settled settleUs wait reached validLineNext validLine
 returns-4 c = (λ k. rw (c .at3 .ensures, c .before .enum-told4 .given .1), λ h. rw (c .at3 .ensures) h)
 
--- src/line.rt:242:1
 returns-5 : tie.Need-returns-5
 unfolding lineNext accessLine accessAt restLine restAt erase settled settleUs wait reached validLineNext validLine
 returns-5 c = (λ k. rw (c .at4 .ensures, c .before .enum-told5 .given .1), λ h. rw (c .at4 .ensures) h)
 
--- src/line.rt:242:1
 returns-6 : tie.Need-returns-6
 unfolding lineNext accessLine accessAt restLine restAt erase settled settleUs wait reached validLineNext validLine
 returns-6 c = (λ k. rw (c .at5 .ensures, c .before .enum-told6 .given .1), λ h. rw (c .at5 .ensures) h)
 
--- src/line.rt:242:1
 returns-7 : tie.Need-returns-7
 unfolding lineNext accessLine accessAt restLine restAt erase settled settleUs wait reached validLineNext validLine
 returns-7 c = (λ k. rw (c .at6 .ensures, c .before .enum-told7 .given .1), λ h. rw (c .at6 .ensures) h)

@@ -5,37 +5,22 @@ use Rattle.hardware.specs.Prog.{pick}
 use borrow.Author.Needs.{needs}
 use lib.Bits.{and-le-r}
 use native.Mathlib.Omega.{arith}
-use Prim.Native.Nat.{_*_}
-use lib.Bits.{and-le-r}
-use Prim.Native.Nat.{_*_}
-use lib.Bits.{and-le-r}
-use Prim.Native.Nat.{_*_}
-use lib.Bits.{and-le-r}
-use lib.Bits.{and-le-r}
-use lib.Bits.{and-le-r}
-use lib.Bits.{and-le-r}
-use lib.Bits.{and-le-r}
-use Prim.Native.Nat.{_*_}
 use Rattle.bus.proofs.line.shift.Statement.{statement}
 use Rattle.bus.proofs.line.shift.Tie as tie
 
 mul-left : tie.Need-mul-left
 mul-left c = search needs
 
--- src/line.rt:112:16
 cast-left : tie.Need-cast-left
 cast-left c = omega (arith, and-le-r (c .args .bits * 2) 254)
 
--- src/line.rt:114:16
 add-result : tie.Need-add-result
 add-result c = omega (arith, and-le-r (c .before .args .bits * 2) 254)
 
--- src/line.rt:114:9
 returns : tie.Need-returns
 unfolding shifted pick
 returns c = rw (c .if1 .taken)
 
--- src/line.rt:109:1
 returns-2 : tie.Need-returns-2
 unfolding shifted pick
 returns-2 c = rw (c .if1 .left)

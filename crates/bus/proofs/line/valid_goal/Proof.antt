@@ -8,61 +8,48 @@ use Rattle.bus.proofs.line.valid_goal.Tie as tie
 enum-told : tie.Need-enum-told
 enum-told c = search needs
 
--- src/line.rt:336:23
 enum-told-2 : tie.Need-enum-told-2
 enum-told-2 c = search needs
 
--- src/line.rt:337:22
 enum-told-3 : tie.Need-enum-told-3
 enum-told-3 c = search needs
 
--- src/line.rt:338:26
 enum-told-4 : tie.Need-enum-told-4
 enum-told-4 c = search needs
 
--- src/line.rt:339:23
 enum-told-5 : tie.Need-enum-told-5
 enum-told-5 c = search needs
 
--- src/line.rt:340:18
 enum-known-g : tie.Need-enum-known-g
 enum-known-g c = search needs
 
--- src/line.rt:341:24
 enum-told-6 : tie.Need-enum-told-6
 enum-told-6 c = search needs
 
--- src/line.rt:331:1
 returns : tie.Need-returns
 unfolding validGoal
 returns c = rw (c .enum-told .given .1)
 
--- src/line.rt:331:1
 returns-2 : tie.Need-returns-2
 unfolding validGoal
 returns-2 c = rw (c .enum-told2 .given .1)
 
--- src/line.rt:331:1
 returns-3 : tie.Need-returns-3
 unfolding validGoal
 returns-3 c = rw (c .enum-told3 .given .1)
 
--- src/line.rt:331:1
 returns-4 : tie.Need-returns-4
 unfolding validGoal
 returns-4 c = rw (c .enum-told4 .given .1)
 
--- src/line.rt:331:1
 returns-5 : tie.Need-returns-5
 unfolding validGoal
 returns-5 c = rw (c .enum-told5 .given .1)
 
--- src/line.rt:331:1
 returns-6 : tie.Need-returns-6
 unfolding validGoal
 returns-6 c = rw (c .before .g .given .1)
 
--- src/line.rt:331:1
 returns-7 : tie.Need-returns-7
 unfolding validGoal
 returns-7 c = rw (c .enum-told6 .given .1)

@@ -12,20 +12,16 @@ use Rattle.bus.proofs.line.write_seen.Tie as tie
 enum-told : tie.Need-enum-told
 enum-told c = search needs
 
--- src/line.rt:272:40
 at-requires : tie.Need-at-requires
 at-requires c κs = search needs
 
--- src/line.rt:273:22
 enum-known-o : tie.Need-enum-known-o
 enum-known-o c = search needs
 
--- src/line.rt:267:1
 returns : tie.Need-returns
 unfolding lineNext accessLine accessAt restLine restAt erase orHeld outcome flushing validLineNext validLine
 returns c = (λ k. rw (c .before .enum-told .given .1, c .at .ensures), λ h. rw (c .at .ensures) h)
 
--- src/line.rt:267:1
 returns-2 : tie.Need-returns-2
 unfolding lineNext orHeld erase outcome word validLineNext
 returns-2 c = (λ k. rw (c .before .o .given .1), λ h. refl)

@@ -15,9 +15,6 @@ enum-known-stage c = search needs
 mask-requires : tie.Need-mask-requires
 mask-requires c κs = search needs
 
-hw-requires : tie.Need-hw-requires
-hw-requires c κs = search needs
-
 access-requires : tie.Need-access-requires
 access-requires c κs = search needs
 
@@ -36,9 +33,6 @@ enum-known-stage-3 c = search needs
 mask-requires-2 : tie.Need-mask-requires-2
 mask-requires-2 c κs = search needs
 
-hw-requires-2 : tie.Need-hw-requires-2
-hw-requires-2 c κs = search needs
-
 access-requires-3 : tie.Need-access-requires-3
 access-requires-3 c κs = search needs
 
@@ -50,7 +44,7 @@ delay-ms-requires c κs = search needs
 
 returns : tie.Need-returns
 unfolding accessTries accessStage
-returns c = rw (c .before .before .before .before .stage .given .1) (rw (c .before .hw .ensures, c .before .before .mask .ensures) at (c .access .ensures))
+returns c = rw (c .before .before .before .stage .given .1) (rw (c .before .mask .ensures) at (c .access .ensures))
 
 returns-2 : tie.Need-returns-2
 unfolding accessTries accessStage
@@ -58,7 +52,7 @@ returns-2 c = rw (c .before .before .before .stage2 .given .1) (rw (c .before .l
 
 returns-3 : tie.Need-returns-3
 unfolding accessTries accessStage
-returns-3 c = rw (c .before .before .before .before .stage3 .given .1) (rw (c .before .hw2 .ensures, c .before .before .mask2 .ensures) at (c .access3 .ensures))
+returns-3 c = rw (c .before .before .before .stage3 .given .1) (rw (c .before .mask2 .ensures) at (c .access3 .ensures))
 
 returns-4 : tie.Need-returns-4
 unfolding accessTries accessStage
@@ -70,14 +64,12 @@ access-spec =
     (tie.spec
     enum-known-stage
     mask-requires
-    hw-requires
     access-requires
     enum-known-stage-2
     layout-of-requires
     access-requires-2
     enum-known-stage-3
     mask-requires-2
-    hw-requires-2
     access-requires-3
     enum-told
     delay-ms-requires

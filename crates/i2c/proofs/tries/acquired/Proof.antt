@@ -1,11 +1,11 @@
 -- `acquired` meets its contract.
-use Rattle.acquire.specs.Acquire.{acquireNext, validAcquireNext}
 use Rattle.bus.proofs.Laws.{picked}
 use Rattle.hardware.specs.Prog.{_>>=_, erase, followed, going-tally, orErr, tally, tally-erase}
 use Rattle.hardware.specs.Registers.{outcome}
 use Rattle.hardware.specs.Runs.{given}
 use Rattle.i2c.specs.Tries.{accessStage, accessTries, restStage, restTries, triesNext, validStage, validTries, validTriesNext}
 use Rattle.sync.specs.Lock.{lock}
+use Rattle.sync.specs.Resource.{acquireBitsNext, validAcquireBitsNext}
 use Rattle.transfer.specs.Attempt.{got}
 use borrow.Author.Needs.{needs}
 use borrow.Author.Tests.{le-leb, lt-ltb}
@@ -30,15 +30,15 @@ enum-known-o : tie.Need-enum-known-o
 enum-known-o c = search needs
 
 returns : tie.Need-returns
-unfolding triesNext accessTries accessStage restTries restStage validTriesNext validTries validStage acquireNext validAcquireNext
+unfolding triesNext accessTries accessStage restTries restStage validTriesNext validTries validStage acquireBitsNext validAcquireBitsNext
 returns c = (λ port r lock h. rw (c .before .n .given .1) (going-tally _ _ _ _), λ cap port r hc h g. picked _ _ (lt-ltb _ _ h) (rw (c .before .n .given .1) at g))
 
 returns-2 : tie.Need-returns-2
-unfolding acquireNext followed _>>=_ orErr outcome
+unfolding acquireBitsNext followed _>>=_ orErr outcome
 returns-2 c = (λ port r lock h. rw (c .before .before .before .before .n2 .given .1, c .before .enum-told .given .1) (c .begin .ensures .0 port r lock h ∙ sym (tally-erase _ _)), λ cap port r hc h g. c .begin .ensures .1 cap port r hc h)
 
 returns-3 : tie.Need-returns-3
-unfolding triesNext got acquireNext followed _>>=_ orErr outcome erase tally validTriesNext
+unfolding triesNext got acquireBitsNext followed _>>=_ orErr outcome erase tally validTriesNext
 returns-3 c = (λ port r lock h. rw (c .before .before .before .before .n2 .given .1, c .before .o .given .1), λ cap port r hc h g. le-leb (c .before .before .before .before .before .before .args .made) cap (omega (arith, h)))
 
 pub acquired-spec : {M : Type 1} → statement M

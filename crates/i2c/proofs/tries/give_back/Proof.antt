@@ -3,10 +3,11 @@ use Rattle.acquire.specs.Acquire.{release}
 use Rattle.hardware.specs.Prog.{over-tally, tally}
 use Rattle.hostif.specs.Hostif.{released}
 use Rattle.i2c.proofs.Laws.{when-no, when-yes}
+use Rattle.i2c.proofs.Masks.{given-first}
 use Rattle.i2c.specs.I2c.{mask}
 use Rattle.i2c.specs.Tries.{afterRelease, backThen}
 use Rattle.sync.specs.Lock.{lock}
-use Rattle.sync.specs.Resource.{taken}
+use Rattle.sync.specs.Resource.{releaseBits, taken}
 use Rattle.transfer.specs.Attempt.{got}
 use borrow.Author.Needs.{needs}
 use mathlib.Core.Path.{_∙_, ap}
@@ -24,7 +25,7 @@ released-requires c κs = search needs
 
 returns : tie.Need-returns
 unfolding backThen
-returns c = (λ h. over-tally _ _ _ (c .released .ensures .0 h) (rw (c .before .before .mask .ensures) at (c .before .«open» .ensures .0)) ∙ ap (tally (c .before .before .before .before .args .made)) (when-yes (c .before .before .before .before .args .lock) (release (c .before .before .before .before .args .port) (mask (c .before .before .before .before .args .port))) (afterRelease (c .before .before .before .before .args .port) (c .before .before .before .before .args .r) (c .before .before .before .before .args .lock) (c .before .before .before .before .args .left) (got (c .before .before .before .before .args .g))) (c .before .before .before .if1 .taken)), λ cap hc h. c .released .ensures .1 cap hc h (c .before .«open» .ensures .1))
+returns c = (λ h. over-tally _ (releaseBits (c .before .before .before .before .args .port) (mask (c .before .before .before .before .args .port))) _ (c .released .ensures .0 h) (rw (c .before .before .mask .ensures) at (c .before .«open» .ensures .0)) ∙ given-first (c .before .before .before .before .args .port) (c .before .before .before .before .args .made) (afterRelease (c .before .before .before .before .args .port) (c .before .before .before .before .args .r) (c .before .before .before .before .args .lock) (c .before .before .before .before .args .left) (got (c .before .before .before .before .args .g))) ∙ ap (tally (c .before .before .before .before .args .made)) (when-yes (c .before .before .before .before .args .lock) (release (c .before .before .before .before .args .port) (mask (c .before .before .before .before .args .port))) (afterRelease (c .before .before .before .before .args .port) (c .before .before .before .before .args .r) (c .before .before .before .before .args .lock) (c .before .before .before .before .args .left) (got (c .before .before .before .before .args .g))) (c .before .before .before .if1 .taken)), λ cap hc h. c .released .ensures .1 cap hc h (c .before .«open» .ensures .1))
 
 after-release-requires : tie.Need-after-release-requires
 after-release-requires c κs = search needs

@@ -3,17 +3,23 @@ use Rattle.acquire.specs.Acquire.{acquire}
 use Rattle.hardware.specs.Prog.{over-tally, tally}
 use Rattle.hostif.specs.Hostif.{acquired}
 use Rattle.i2c.proofs.Laws.{when-no, when-yes}
+use Rattle.i2c.proofs.Masks.{taken-first}
 use Rattle.i2c.specs.I2c.{mask}
 use Rattle.i2c.specs.Tries.{lockedTry, tryNow}
 use Rattle.sync.specs.Lock.{lock}
-use Rattle.sync.specs.Resource.{taken}
+use Rattle.sync.specs.Regs.{tries}
+use Rattle.sync.specs.Resource.{acquireBits, taken}
 use borrow.Author.Needs.{needs}
 use mathlib.Core.Path.{_∙_, ap}
+use native.Mathlib.Omega.{arith}
 use Rattle.i2c.proofs.tries.locked.Statement.{statement}
 use Rattle.i2c.proofs.tries.locked.Tie as tie
 
 mask-requires : tie.Need-mask-requires
 mask-requires c κs = search needs
+
+tries-requires : tie.Need-tries-requires
+tries-requires c κs = search needs
 
 open-requires : tie.Need-open-requires
 open-requires c κs = search needs
@@ -22,8 +28,8 @@ acquired-requires : tie.Need-acquired-requires
 acquired-requires c κs = search needs
 
 returns : tie.Need-returns
-unfolding lockedTry
-returns c = (λ r h. over-tally _ _ _ (c .acquired .ensures .0 (c .before .before .before .before .args .port) r (c .before .before .before .before .args .lock) h) (rw (c .before .before .mask .ensures) at (c .before .«open» .ensures .0)) ∙ ap (tally (c .before .before .before .before .args .made)) (when-yes (c .before .before .before .before .args .lock) (acquire (c .before .before .before .before .args .port) (mask (c .before .before .before .before .args .port))) (tryNow (c .before .before .before .before .args .port) r (c .before .before .before .before .args .lock) (c .before .before .before .before .args .left)) (c .before .before .before .if1 .taken)), λ cap r hc h. c .acquired .ensures .1 cap (c .before .before .before .before .args .port) r hc h (c .before .«open» .ensures .1))
+unfolding lockedTry acquireBits
+returns c = (λ r h. over-tally _ (acquireBits (c .before .before .before .before .before .args .port) (mask (c .before .before .before .before .before .args .port))) _ (c .acquired .ensures .0 (c .before .before .before .before .before .args .port) r (c .before .before .before .before .before .args .lock) h) (rw (c .before .before .before .mask .ensures, c .before .before .tries .ensures) at (c .before .«open» .ensures .0)) ∙ taken-first (c .before .before .before .before .before .args .port) (c .before .before .before .before .before .args .made) (tryNow (c .before .before .before .before .before .args .port) r (c .before .before .before .before .before .args .lock) (c .before .before .before .before .before .args .left)) ∙ ap (tally (c .before .before .before .before .before .args .made)) (when-yes (c .before .before .before .before .before .args .lock) (acquire (c .before .before .before .before .before .args .port) (mask (c .before .before .before .before .before .args .port))) (tryNow (c .before .before .before .before .before .args .port) r (c .before .before .before .before .before .args .lock) (c .before .before .before .before .before .args .left)) (c .before .before .before .before .if1 .taken)), λ cap r hc h. c .acquired .ensures .1 cap (c .before .before .before .before .before .args .port) r hc h (c .before .«open» .ensures .1 (omega (arith, c .before .before .tries .ensures))))
 
 begin-requires : tie.Need-begin-requires
 begin-requires c κs = search needs
@@ -35,4 +41,4 @@ returns-2 c = (λ r h. c .begin .ensures .0 (c .before .before .args .port) r (c
 pub locked-spec : {M : Type 1} → statement M
 locked-spec =
     tie.close
-    (tie.spec mask-requires open-requires acquired-requires returns begin-requires returns-2)
+    (tie.spec mask-requires tries-requires open-requires acquired-requires returns begin-requires returns-2)

@@ -21,9 +21,6 @@ enum-known-stage c = search needs
 mask-requires : tie.Need-mask-requires
 mask-requires c κs = search needs
 
-hw-requires : tie.Need-hw-requires
-hw-requires c κs = search needs
-
 step-requires : tie.Need-step-requires
 step-requires c κs = search needs
 
@@ -48,9 +45,6 @@ enum-known-stage-3 c = search needs
 mask-requires-2 : tie.Need-mask-requires-2
 mask-requires-2 c κs = search needs
 
-hw-requires-2 : tie.Need-hw-requires-2
-hw-requires-2 c κs = search needs
-
 step-requires-3 : tie.Need-step-requires-3
 step-requires-3 c κs = search needs
 
@@ -65,7 +59,7 @@ again-requires c κs = search needs
 
 returns : tie.Need-returns
 unfolding restTries restStage validTries validStage
-returns c = (λ cap hc v. rw (c .before .before .before .before .before .stage .given .1) (over-tally _ _ _ (c .acquired .ensures .0 (c .before .before .before .before .before .before .before .args .port) (c .before .before .before .before .before .before .before .args .r) (c .before .before .before .before .before .before .before .args .lock) (strict-room cap (c .before .before .before .before .before .before .before .args .s .made) (c .before .before .before .before .before .before .before .args .s .left) _ hc (rw (c .before .before .before .before .before .stage .given .1) at v))) (rw (c .before .before .hw .ensures, c .before .before .before .mask .ensures) at (c .before .step .ensures .0))), λ cap hc v. c .acquired .ensures .1 cap (c .before .before .before .before .before .before .before .args .port) (c .before .before .before .before .before .before .before .args .r) hc (ltb-true _ _ (picked-first _ _ (rw (c .before .before .before .before .before .stage .given .1) at v))) (c .before .step .ensures .1 (picked-second _ _ (rw (c .before .before .before .before .before .stage .given .1) at v))))
+returns c = (λ cap hc v. rw (c .before .before .before .before .stage .given .1) (over-tally _ _ _ (c .acquired .ensures .0 (c .before .before .before .before .before .before .args .port) (c .before .before .before .before .before .before .args .r) (c .before .before .before .before .before .before .args .lock) (strict-room cap (c .before .before .before .before .before .before .args .s .made) (c .before .before .before .before .before .before .args .s .left) _ hc (rw (c .before .before .before .before .stage .given .1) at v))) (rw (c .before .before .mask .ensures) at (c .before .step .ensures .0))), λ cap hc v. c .acquired .ensures .1 cap (c .before .before .before .before .before .before .args .port) (c .before .before .before .before .before .before .args .r) hc (ltb-true _ _ (picked-first _ _ (rw (c .before .before .before .before .stage .given .1) at v))) (c .before .step .ensures .1 (picked-second _ _ (rw (c .before .before .before .before .stage .given .1) at v))))
 
 returns-2 : tie.Need-returns-2
 unfolding restTries restStage validTries validStage
@@ -73,7 +67,7 @@ returns-2 c = (λ cap hc v. rw (c .before .before .before .before .stage2 .given
 
 returns-3 : tie.Need-returns-3
 unfolding restTries restStage validTries validStage
-returns-3 c = (λ cap hc v. rw (c .before .before .before .before .before .stage3 .given .1) (over-tally _ _ _ (c .released .ensures .0 (room cap (c .before .before .before .before .before .before .before .args .s .made) (c .before .before .before .before .before .before .before .args .s .left) _ hc (rw (c .before .before .before .before .before .stage3 .given .1) at v))) (rw (c .before .before .hw2 .ensures, c .before .before .before .mask2 .ensures) at (c .before .step3 .ensures .0))), λ cap hc v. c .released .ensures .1 cap hc (leb-true _ _ (picked-first _ _ (rw (c .before .before .before .before .before .stage3 .given .1) at v))) (c .before .step3 .ensures .1 (picked-second _ _ (rw (c .before .before .before .before .before .stage3 .given .1) at v))))
+returns-3 c = (λ cap hc v. rw (c .before .before .before .before .stage3 .given .1) (over-tally _ _ _ (c .released .ensures .0 (room cap (c .before .before .before .before .before .before .args .s .made) (c .before .before .before .before .before .before .args .s .left) _ hc (rw (c .before .before .before .before .stage3 .given .1) at v))) (rw (c .before .before .mask2 .ensures) at (c .before .step3 .ensures .0))), λ cap hc v. c .released .ensures .1 cap hc (leb-true _ _ (picked-first _ _ (rw (c .before .before .before .before .stage3 .given .1) at v))) (c .before .step3 .ensures .1 (picked-second _ _ (rw (c .before .before .before .before .stage3 .given .1) at v))))
 
 returns-4 : tie.Need-returns-4
 unfolding restTries restStage validTries validStage
@@ -85,7 +79,6 @@ step-spec =
     (tie.spec
     enum-known-stage
     mask-requires
-    hw-requires
     step-requires
     acquired-requires
     enum-known-stage-2
@@ -94,7 +87,6 @@ step-spec =
     tried-requires
     enum-known-stage-3
     mask-requires-2
-    hw-requires-2
     step-requires-3
     released-requires
     enum-told

@@ -24,7 +24,7 @@ use Rattle.sfp.specs.declared.Kind.{Kind}
 use Rattle.sfp.specs.declared.Module.{Module}
 use Rattle.sfp.specs.Identify.{EEPROM, orAbsent, byte, identifierOf, reachOf, bx10gOf, kindBy, classify, known, identified, identify}
 use Rattle.sfp.specs.Qsfp.{qsfpVendor, qsfpLength, qsfpConnector, qsfpClassify, qsfpKnown, qsfpIdentified, identifyQsfp}
-use Rattle.sfp.proofs.Ends.{IDENTIFY-STEPS, identify-ends}
+use Rattle.sfp.proofs.Ends.{IDENTIFY-STEPS, identify-ends, QSFP-STEPS, qsfp-ends}
 use Rattle.identify.specs.declared.walk.Identify.{Identify}
 use Rattle.identify.specs.declared.calls.IdentifyCall.the-variants.{Going}
 use Rattle.identify.specs.declared.calls.IdentifyTold.{IdentifyTold}
@@ -53,6 +53,10 @@ qsfp-runs family device lan t e l = ap (λ x. ran x l) e ∙ asked-runs (openPor
 pub identify-finishes : (port : Port) (l : List Answer) → IDENTIFY-STEPS (port .family) ≤ length l → Awaited (identify port) l
     → (v : R Module) × ((run (identify port) l) .stand ≡ ended v)
 identify-finishes port l h w = run-ends (identify port) (IDENTIFY-STEPS (port .family)) l (identify-ends port) h w
+
+pub qsfp-finishes : (port : Port) (l : List Answer) → QSFP-STEPS (port .family) ≤ length l → Awaited (identifyQsfp port) l
+    → (v : R Module) × ((run (identifyQsfp port) l) .stand ≡ ended v)
+qsfp-finishes port l h w = run-ends (identifyQsfp port) (QSFP-STEPS (port .family)) l (qsfp-ends port) h w
 
 -- a state that was handed out, with any answer of the kind that its access awaits, is not refused
 pub identify-accepts : (x : Access) (port : Port) (s : Identify) (a : Answer) → standsIdentify (Ask x (Going port s)) → fits x a ≡ true

@@ -1,4 +1,5 @@
--- How many answers of the awaited kinds bring `identify` to its end, for every port.
+-- How many answers of the awaited kinds bring `identify`, `identify_qsfp` and `soft_rate_select` to their end, for every
+-- port.
 use Prim.Native.Nat.{ℕ, _+_, _*_, _≤_, suc, zero}
 use mathlib.Core.Path.{_≡_, refl}
 use mathlib.Core.Bool.{Bool, true, false}
@@ -11,13 +12,15 @@ use Rattle.hardware.specs.Prog.{Prog, ret, R, Ok, Err, pick}
 use Rattle.hardware.specs.Runs.{Ends}
 use Rattle.hardware.proofs.Ends.{ends-more, ends-bind, ends-pick, ret-ends}
 use Rattle.bus.specs.Layout.{x550em}
-use Rattle.i2c.specs.declared.once.Request.the-variants.{ReadByte}
+use Rattle.i2c.specs.declared.once.Request.the-variants.{ReadByte, WriteByte}
 use Rattle.i2c.specs.I2c.{attempts}
 use Rattle.i2c.proofs.Ends.{READ-STEPS, TRANSFER-STEPS, transferred-ends}
 use Rattle.sfp.specs.declared.Kind.{Kind}
 use Rattle.sfp.specs.declared.Module.{Module}
 use Rattle.sfp.specs.declared.Codes.{Codes}
 use Rattle.sfp.specs.Identify.{EEPROM, orAbsent, byte, identifierOf, reachOf, bx10gOf, fibreOf, kindBy, recorded, classify, known, identified, identify}
+use Rattle.sfp.specs.Qsfp.{qsfpVendor, qsfpLength, qsfpConnector, qsfpClassify, qsfpKnown, qsfpIdentified, identifyQsfp}
+use Rattle.sfp.specs.Rate.{DIAG, orNot, selected, rateByte, softRateSelect}
 
 -- a byte requested with eleven attempts, the most that `identify` allows
 abbrev pub BYTE-STEPS : Family → ℕ
@@ -29,6 +32,24 @@ IDENTIFY-STEPS family = 12 * BYTE-STEPS family
 
 pub identify-steps : (IDENTIFY-STEPS F82599 ≡ 332194488) × (IDENTIFY-STEPS X550 ≡ 1600450488)
 identify-steps = (refl, refl)
+
+-- the identifier; two codes; the connector, the length and the vendor's bits
+abbrev pub QSFP-STEPS : Family → ℕ
+QSFP-STEPS family = 6 * BYTE-STEPS family
+
+pub qsfp-steps : (QSFP-STEPS F82599 ≡ 166097244) × (QSFP-STEPS X550 ≡ 800225244)
+qsfp-steps = (refl, refl)
+
+-- a byte written back
+abbrev WRITTEN-STEPS : Family → ℕ
+WRITTEN-STEPS family = TRANSFER-STEPS family (WriteByte DIAG 0 0) true 2
+
+-- two bytes, each read and written
+abbrev pub RATE-STEPS : Family → ℕ
+RATE-STEPS family = 2 * (BYTE-STEPS family + WRITTEN-STEPS family)
+
+pub rate-steps : (RATE-STEPS F82599 ≡ 60524478) × (RATE-STEPS X550 ≡ 291116478)
+rate-steps = (refl, refl)
 
 module _ (port : Port) where
   few : (tries : ℕ) → tries ≤ 11 → TRANSFER-STEPS (port .family) (ReadByte EEPROM 0) true tries ≤ BYTE-STEPS (port .family)
@@ -97,4 +118,51 @@ module _ (port : Port) where
   identify-ends =
       ends-more _ _ _
       (identifier-ends 5 0 _ (7 * BYTE-STEPS (port .family)) (λ identifier. ends-pick _ _ _ _ (known-ends identifier) (ret-ends _ _)))
+      (omega arith)
+
+  vendor-ends : (g10 g1 v : ℕ) → Ends (qsfpVendor g10 g1 v) 0
+  unfolding qsfpVendor
+  vendor-ends g10 g1 v = ends-pick _ _ _ 0 (ret-ends _ 0) (ret-ends _ 0)
+
+  length-ends : (g10 g1 v : ℕ) → Ends (qsfpLength port g10 g1 v) (BYTE-STEPS (port .family) + 0)
+  unfolding qsfpLength
+  length-ends g10 g1 v = ends-pick _ _ _ _ (byte-ends 0x93 _ _ 0 attempts-few (vendor-ends g10 g1)) (ret-ends _ _)
+
+  connector-ends : (g10 g1 v : ℕ) → Ends (qsfpConnector port g10 g1 v) (BYTE-STEPS (port .family) + (BYTE-STEPS (port .family) + 0))
+  unfolding qsfpConnector
+  connector-ends g10 g1 v = ends-pick _ _ _ _ (byte-ends 0x92 _ _ _ attempts-few (length-ends g10 g1)) (ret-ends _ _)
+
+  codes-ends : (g10 g1 : ℕ) → Ends (qsfpClassify port g10 g1) (3 * BYTE-STEPS (port .family))
+  unfolding qsfpClassify
+  codes-ends g10 g1 =
+      ends-pick _ _ _ _ (ret-ends _ _) (ends-pick _ _ _ _ (ret-ends _ _) (ends-pick _ _ _ _ (ret-ends _ _)
+      (ends-more _ _ _ (byte-ends 0x82 _ _ _ attempts-few (connector-ends g10 g1)) (omega arith))))
+
+  pub qsfp-ends : Ends (identifyQsfp port) (QSFP-STEPS (port .family))
+  unfolding identifyQsfp qsfpIdentified qsfpKnown
+  qsfp-ends =
+      ends-more _ _ _
+      (byte-ends 0 11 _ (5 * BYTE-STEPS (port .family)) (omega arith) (λ v. ends-pick _ _ _ _
+      (ends-more _ _ _ (byte-ends 0x83 _ _ _ attempts-few (λ g10. byte-ends 0x86 _ _ _ attempts-few (codes-ends g10))) (omega arith)) (ret-ends _ _)))
+      (omega arith)
+
+  not-ends : (k : Bool → Prog (R Bool)) (f : ℕ → Prog (R Bool)) (n : ℕ) → ((b : Bool) → Ends (k b) n) → ((v : ℕ) → Ends (f v) n) → (r : R ℕ) → Ends (orNot k f r) n
+  unfolding orNot
+  not-ends k f n e g (Ok v) = g v
+  not-ends k f n e g (Err error) = ends-pick _ _ _ n (e false) (ret-ends _ n)
+
+  rate-byte-ends : (ten ok : Bool) (offset : ℕ) (k : Bool → Prog (R Bool)) (n : ℕ) → ((b : Bool) → Ends (k b) n)
+      → Ends (rateByte port ten ok offset k) (BYTE-STEPS (port .family) + (WRITTEN-STEPS (port .family) + n))
+  unfolding rateByte
+  rate-byte-ends ten ok offset k n e =
+      ends-bind _ _ (BYTE-STEPS (port .family)) (WRITTEN-STEPS (port .family) + n)
+      (ends-more _ _ (BYTE-STEPS (port .family)) (transferred-ends port (ReadByte DIAG offset) true (attempts port)) (few (attempts port) attempts-few))
+      (not-ends k _ _ (λ b. ends-more _ n _ (e b) (omega arith))
+      (λ v. ends-bind _ _ (WRITTEN-STEPS (port .family)) n (transferred-ends port (WriteByte DIAG offset (selected ten v)) true 2) (not-ends k _ n e (λ _. e ok))))
+
+  pub rate-ends : (ten : Bool) → Ends (softRateSelect port ten) (RATE-STEPS (port .family))
+  unfolding softRateSelect
+  rate-ends ten =
+      ends-more _ _ _
+      (rate-byte-ends ten true 0x6e _ _ (λ ok. rate-byte-ends ten ok 0x76 _ 0 (λ both. ret-ends _ 0)))
       (omega arith)

@@ -122,9 +122,10 @@ impl Player {
         }
     }
 
-    /// After the other rules, so that one of them for the register goes before.
-    pub fn with_lines(mut self, lines: Option<Lines>) -> Self {
-        self.lines = lines.map(Playing::new);
+    /// After the other rules, so that one of them for the register goes
+    /// before. The module on the lines sends `queue` first.
+    pub fn with_lines(mut self, lines: Option<Lines>, queue: Vec<u8>) -> Self {
+        self.lines = lines.map(|lines| Playing::new(lines, queue));
         self
     }
 

@@ -2,11 +2,12 @@
 //! outcome as numbers, and the line that holds both.
 
 use crate::answers::{Failed, Fnv, Player, Rule, Stream};
+use crate::driver::sfp::{self, Module};
 use crate::driver::{hostif, i2c, sync, Error, Family, Port};
 use crate::lines::{Lines, MARK};
 use crate::script::script;
 
-// Function numbers. 10 and up are `i2c`'s; 20 and up are kept for `sfp`.
+// Function numbers. 10 and up are `i2c`'s, 20 and up `sfp`'s.
 pub const LOCK: u32 = 0;
 pub const UNLOCK: u32 = 1;
 pub const ACQUIRE: u32 = 2;
@@ -24,6 +25,9 @@ pub const WRITE_COMBINED: u32 = 14;
 pub const SCRIPT: u32 = 15;
 pub const ONES_ADD: u32 = 16;
 pub const PLAIN: u32 = 17;
+pub const IDENTIFY: u32 = 20;
+pub const IDENTIFY_QSFP: u32 = 21;
+pub const RATE_SELECT: u32 = 22;
 
 /// The functions that `PLAIN` chooses from.
 pub const X550EM: u32 = 0;
@@ -69,7 +73,17 @@ impl Case {
     }
 
     pub fn player(&self) -> Player {
-        Player::new(self.seed, &self.rules, self.fail_at, self.ones_at).with_lines(self.lines)
+        Player::new(self.seed, &self.rules, self.fail_at, self.ones_at).with_lines(self.lines, self.queue())
+    }
+
+    /// What the module on the lines sends first.
+    fn queue(&self) -> Vec<u8> {
+        let words = match self.function {
+            IDENTIFY | IDENTIFY_QSFP => &self.args[..],
+            RATE_SELECT => &self.args[1..],
+            _ => &[],
+        };
+        words.iter().flat_map(|w| w.to_le_bytes()).collect()
     }
 
     pub fn run(&self) -> Outcome {
@@ -86,6 +100,7 @@ impl Case {
         match self.function {
             READ_BYTE | WRITE_BYTE | READ_COMBINED | WRITE_COMBINED => self.transfer(io),
             SCRIPT => self.script(io, a1, a2),
+            IDENTIFY | IDENTIFY_QSFP | RATE_SELECT => self.module(io),
             LOCK => numbers(sync::probe_lock(io, self.family()), |()| [0; 3]),
             UNLOCK => numbers(sync::probe_unlock(io, self.family()), |()| [0; 3]),
             ACQUIRE => numbers(sync::acquire(io, self.port(), a1), |()| [0; 3]),
@@ -158,6 +173,22 @@ impl Case {
         result
     }
 
+    /// The third value is the count of transfers, failures included.
+    fn module(&self, io: &mut Player) -> [u32; 4] {
+        let port = self.port();
+        i2c::probe_transfers();
+        let mut result = match self.function {
+            IDENTIFY => numbers(sfp::identify(io, port), record),
+            IDENTIFY_QSFP => numbers(sfp::identify_qsfp(io, port), record),
+            _ => {
+                let both = sfp::soft_rate_select(io, port, self.args[0] == 1);
+                numbers(both, |both| [both.into(), 0, 0])
+            }
+        };
+        result[3] = i2c::probe_transfers();
+        result
+    }
+
     fn plain(&self, function: u32) -> u32 {
         match function {
             X550EM => i2c::probe_x550em(self.family()).into(),
@@ -213,6 +244,8 @@ impl Case {
             SCRIPT => script(a1, a2).is_some(),
             ONES_ADD => a1 <= 0xff && a2 <= 0xff,
             PLAIN => a1 <= QSFP,
+            IDENTIFY | IDENTIFY_QSFP => true,
+            RATE_SELECT => a1 <= 1,
             _ => self.function <= PHY || self.function == QSFP_SETUP,
         };
         if !known {
@@ -229,6 +262,13 @@ impl Case {
 /// attempts or the value `high`.
 pub fn packed(device: u32, low: u32, high: u32, lock: bool) -> [u32; 3] {
     [device, low | high << 16, lock.into()]
+}
+
+/// The kind, by its place in the original's list, with the multispeed flag;
+/// then the bytes, in the order of the original's record, lowest first.
+fn record(m: Module) -> [u32; 3] {
+    let bytes = [m.identifier, m.comp_10g, m.comp_1g, m.cable];
+    [m.kind as u32 + 256 * u32::from(m.multispeed), u32::from_le_bytes(bytes), 0]
 }
 
 /// An address of the I2C bus.

@@ -5,6 +5,7 @@ use crate::case::*;
 use crate::driver::{sync, Family};
 use crate::rules::*;
 
+mod sfp;
 mod transfers;
 
 /// A case with more accesses is drawn again.
@@ -19,7 +20,11 @@ impl Fresh {
 
     pub fn next(&mut self) -> Case {
         loop {
-            let case = if self.0.percent(50) { self.0.transfer() } else { self.0.case() };
+            let case = match self.0.below(10) {
+                0..=3 => self.0.case(),
+                4..=7 => self.0.transfer(),
+                _ => self.0.module_call(),
+            };
             let mut player = case.player().limited(LONGEST);
             let accesses = case.run_with(&mut player).accesses;
             if player.overrun() {

@@ -69,11 +69,18 @@ pub struct Wires {
     pub slot: u32,
     /// Reads since SCL rose.
     pub since: u32,
+    /// The byte is the address after a START.
+    pub first: bool,
+    /// That address asks the module to send.
+    pub sends: bool,
+    /// Bytes that the module has sent: each counts once its acknowledgement's
+    /// pulse has begun.
+    pub sent: u32,
 }
 
 impl Wires {
     pub fn new() -> Self {
-        Wires { scl: false, sda: true, slot: 0, since: 0 }
+        Wires { scl: false, sda: true, slot: 0, since: 0, first: false, sends: false, sent: 0 }
     }
 
     pub fn written(&mut self, layout: &Layout, value: u32) {
@@ -81,27 +88,53 @@ impl Wires {
         let sda = value & layout.sda_out != 0;
         if self.scl && scl && self.sda != sda {
             self.slot = if sda { 0 } else { 9 };
+            if !sda {
+                (self.first, self.sends) = (true, false);
+            }
         }
         if !self.scl && scl {
             self.slot = if self.slot == 0 { 0 } else { self.slot % 9 + 1 };
             self.since = 0;
+            self.risen(sda);
         }
         self.scl = scl;
         self.sda = sda;
     }
+
+    /// SCL has risen into its slot: who sends, and what was sent.
+    fn risen(&mut self, sda: bool) {
+        match self.slot {
+            8 if self.first => self.sends = sda,
+            9 if self.first => self.first = false,
+            9 if self.sends => self.sent += 1,
+            _ => {}
+        }
+    }
+
+    /// A bit that the module sends is on SDA.
+    pub fn sending(&self) -> bool {
+        self.scl && (1..=8).contains(&self.slot) && self.sends && !self.first
+    }
 }
 
-/// The rule at work.
+/// The rule at work. The module sends `queue`, then the stream's bits.
 #[derive(Clone)]
 pub struct Playing {
     pub lines: Lines,
+    queue: Vec<u8>,
     wires: Wires,
     count: u32,
 }
 
 impl Playing {
-    pub fn new(lines: Lines) -> Self {
-        Playing { lines, wires: Wires::new(), count: 0 }
+    pub fn new(lines: Lines, queue: Vec<u8>) -> Self {
+        Playing { lines, queue, wires: Wires::new(), count: 0 }
+    }
+
+    /// The queue's bit that is on SDA.
+    fn bit(&self) -> Option<bool> {
+        let byte = self.queue.get(self.wires.sent as usize).filter(|_| self.wires.sending())?;
+        Some(byte >> (8 - self.wires.slot) & 1 == 1)
     }
 
     pub fn written(&mut self, value: u32) {
@@ -112,12 +145,15 @@ impl Playing {
     /// as last written, the input bits as the lines, the others as they are.
     pub fn read(&mut self, value: u32) -> u32 {
         let Lines { layout, stretch, late, bend, .. } = self.lines;
-        let Wires { scl, sda, slot, since } = self.wires;
+        let Wires { scl, sda, slot, since, .. } = self.wires;
         let mut value = with(value, layout.scl_out, scl);
         value = with(value, layout.sda_out, sda);
         value = with(value, layout.scl_in, scl && since >= stretch);
         if !(scl && (1..=8).contains(&slot)) {
             value = with(value, layout.sda_in, !(scl && slot == 9 && since >= late));
+        }
+        if let Some(bit) = self.bit() {
+            value = with(value, layout.sda_in, bit);
         }
         if self.lines.in_window(self.count) {
             value = value & bend.0 | bend.1;

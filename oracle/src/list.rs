@@ -9,6 +9,7 @@ use crate::driver::sync::{self, EEP, I2C0, I2C1, PHY0, PHY1, SHARED_I2C, SW_MNG}
 use crate::driver::Family;
 use crate::rules::*;
 
+mod sfp;
 mod transfers;
 
 /// The firmware's token in a mask.
@@ -45,6 +46,7 @@ pub fn cases() -> Vec<Case> {
     rule_order(&mut list);
     random(&mut list);
     transfers::add(&mut list);
+    sfp::add(&mut list);
     list.cases
 }
 

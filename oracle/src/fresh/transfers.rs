@@ -22,27 +22,33 @@ impl Choice {
             22 => PLAIN,
             _ => PHY,
         };
+        let mut case = self.at_port(function);
+        case.args = self.call(function);
+        if (READ_BYTE..=SCRIPT).contains(&function) {
+            self.bus(&mut case);
+        }
+        case
+    }
+
+    /// Without arguments and rules.
+    pub fn at_port(&mut self, function: u32) -> Case {
         let any = self.below(0x1_0000);
         let device = self.one(&[QSFP_DEVICE, any]);
         let family = self.below(5);
         // The handshake is that of the first family only.
         let family = if device == QSFP_DEVICE { self.one(&[0, family]) } else { family };
-        let mut case = Case {
+        Case {
             function,
             family,
             device,
             lan: self.below(2),
-            args: self.call(function),
+            args: [0; 3],
             seed: self.word(),
             fail_at: NEVER,
             ones_at: NEVER,
             rules: Vec::new(),
             lines: None,
-        };
-        if (READ_BYTE..=SCRIPT).contains(&function) {
-            self.bus(&mut case);
         }
-        case
     }
 
     fn call(&mut self, function: u32) -> [u32; 3] {
@@ -99,10 +105,17 @@ impl Choice {
     }
 
     /// The rules of the locks, of ESDP and of I2CCTL.
-    fn bus(&mut self, case: &mut Case) {
+    pub fn bus(&mut self, case: &mut Case) {
         let family = case.family();
+        let locked = match case.function {
+            SCRIPT => false,
+            IDENTIFY..=RATE_SELECT => true,
+            _ => case.args[2] == 1,
+        };
+        // Reads of I2CCTL that most calls make.
+        let reads = if case.function < IDENTIFY { 120 } else { 500 };
         let mut drawn = Vec::new();
-        if case.function != SCRIPT && case.args[2] == 1 {
+        if locked {
             drawn.extend(self.transfer_locks(family, case.lan));
         }
         drawn.extend(self.esdp());
@@ -112,7 +125,7 @@ impl Choice {
         match self.below(100) {
             0..=2 => {}
             3..=6 => drawn.push(self.released(layout)),
-            _ => case.lines = Some(self.lines(layout)),
+            _ => case.lines = Some(self.lines(layout, reads)),
         }
         case.rules = drawn;
     }
@@ -144,7 +157,7 @@ impl Choice {
         until(layout.register, self.below(60), high, self.one(&[high, (layout.sda_in, 0)]))
     }
 
-    fn lines(&mut self, layout: Layout) -> Lines {
+    fn lines(&mut self, layout: Layout, reads: u32) -> Lines {
         let stretch = match self.below(400) {
             0..=329 => 0,
             330..=389 => 1 + self.below(5),
@@ -160,15 +173,15 @@ impl Choice {
         let late = stretch.min(LAST_TRY) + sample;
         let mut lines = Lines { stretch, late, ..Lines::plain(layout) };
         if self.percent(50) {
-            self.window(&mut lines);
+            self.window(&mut lines, reads);
         }
         lines
     }
 
-    fn window(&mut self, lines: &mut Lines) {
+    fn window(&mut self, lines: &mut Lines, reads: u32) {
         let Layout { scl_in, sda_in, .. } = lines.layout;
         let random = (self.word() | scl_in | sda_in, self.word() & !(scl_in | sda_in));
-        lines.at = self.below(120);
+        lines.at = self.below(reads);
         lines.run = match self.below(100) {
             0..=39 => 1,
             40..=69 => 2 + self.below(11),

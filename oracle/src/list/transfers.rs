@@ -6,13 +6,13 @@ use crate::lines::{Lines, Wires};
 use crate::script::{shape, Phrase};
 use Phrase::{Read, Send};
 
-const QSFP_DEVICE: u32 = 0x1558;
+pub const QSFP_DEVICE: u32 = 0x1558;
 /// Tries of `scl_high`, samples of an acknowledgement, tries at the QSFP grant.
 const STRETCH: u32 = 500;
-const SAMPLES: u32 = 10;
-const GRANTS: u32 = 200;
+pub const SAMPLES: u32 = 10;
+pub const GRANTS: u32 = 200;
 /// One family of each layout.
-const LAYOUTS: [Family; 2] = [Family::F82599, Family::X552];
+pub const LAYOUTS: [Family; 2] = [Family::F82599, Family::X552];
 
 pub fn add(list: &mut List) {
     phys(list);
@@ -40,14 +40,19 @@ pub fn add(list: &mut List) {
 }
 
 #[derive(Clone, Copy)]
-struct Call {
-    function: u32,
-    args: [u32; 3],
+pub struct Call {
+    pub function: u32,
+    pub args: [u32; 3],
 }
 
 impl Call {
     fn locked(self) -> bool {
         self.function != SCRIPT && self.args[2] == 1
+    }
+
+    /// Asks for the QSFP grant where the port needs it.
+    fn asks_grant(self) -> bool {
+        matches!(self.function, READ_BYTE | WRITE_BYTE | IDENTIFY..=RATE_SELECT)
     }
 }
 
@@ -60,7 +65,7 @@ fn script_of(seed: u32, phrases: &[Phrase]) -> Call {
 }
 
 impl List {
-    fn word(&mut self) -> u32 {
+    pub fn word(&mut self) -> u32 {
         self.seeds.next()
     }
 
@@ -107,12 +112,12 @@ impl List {
     }
 
     /// As `good`, with these locks.
-    fn over(&mut self, call: Call, family: Family, lan: u32, device: u32, locks: Vec<Rule>) -> Case {
+    pub fn over(&mut self, call: Call, family: Family, lan: u32, device: u32, locks: Vec<Rule>) -> Case {
         let mut case = self.case(call.function, family, lan, 0, locks);
         case.args = call.args;
         case.device = device;
         case.lines = Some(Lines::plain(layout(family)));
-        if family == Family::F82599 && device == QSFP_DEVICE && call.function <= WRITE_BYTE {
+        if family == Family::F82599 && device == QSFP_DEVICE && call.asks_grant() {
             case.rules.push(always(ESDP, GRANT));
         }
         case
@@ -130,7 +135,7 @@ impl List {
     }
 }
 
-fn locks(family: Family, lan: u32) -> Vec<Rule> {
+pub fn locks(family: Family, lan: u32) -> Vec<Rule> {
     let mask = transfer_mask(family, lan);
     if lan == 0 {
         granting(family, mask)
@@ -140,19 +145,19 @@ fn locks(family: Family, lan: u32) -> Vec<Rule> {
 }
 
 /// The first PCI device of the family.
-fn usual(family: Family) -> u32 {
+pub fn usual(family: Family) -> u32 {
     DEVICES[FAMILIES.iter().position(|f| *f == family).expect("one of the five")][0]
 }
 
-fn touches(access: &Access, case: &Case) -> bool {
+pub fn touches(access: &Access, case: &Case) -> bool {
     let register = case.lines.expect("lines").layout.register;
     matches!(access, Access::Read(r, _) | Access::Write(r, _, _) if *r == register)
 }
 
 /// A read of I2CCTL: its number among these reads, its number among all
 /// accesses, and the lines before it.
-struct Seen {
-    number: u32,
+pub struct Seen {
+    pub number: u32,
     at: usize,
     wires: Wires,
 }
@@ -164,18 +169,18 @@ impl Seen {
     }
 
     /// A sample of an acknowledgement, from 1; SCL is not stretched.
-    fn sample(&self, number: u32) -> bool {
+    pub fn sample(&self, number: u32) -> bool {
         self.wires.scl && self.wires.slot == 9 && self.wires.since == number
     }
 
     /// No module drives SDA: a look at it after it was raised, or a read that
     /// begins an attempt or a start.
-    fn quiet(&self) -> bool {
+    pub fn quiet(&self) -> bool {
         !self.wires.scl || self.wires.slot == 0
     }
 }
 
-fn seen(case: &Case) -> Vec<Seen> {
+pub fn seen(case: &Case) -> Vec<Seen> {
     let layout = case.lines.expect("lines").layout;
     let mut wires = Wires::new();
     let mut all = Vec::new();
@@ -192,11 +197,11 @@ fn seen(case: &Case) -> Vec<Seen> {
     all
 }
 
-fn numbers_of(case: &Case, which: impl Fn(&Seen) -> bool) -> Vec<u32> {
+pub fn numbers_of(case: &Case, which: impl Fn(&Seen) -> bool) -> Vec<u32> {
     seen(case).into_iter().filter(which).map(|s| s.number).collect()
 }
 
-fn lined(case: &Case, change: impl Fn(&mut Lines)) -> Case {
+pub fn lined(case: &Case, change: impl Fn(&mut Lines)) -> Case {
     let mut case = case.clone();
     change(case.lines.as_mut().expect("lines"));
     case
@@ -206,11 +211,11 @@ fn window(case: &Case, at: u32, run: u32, bend: (u32, u32)) -> Case {
     lined(case, |lines| (lines.at, lines.run, lines.bend) = (at, run, bend))
 }
 
-fn sda_high(case: &Case, at: u32, run: u32) -> Case {
+pub fn sda_high(case: &Case, at: u32, run: u32) -> Case {
     window(case, at, run, (u32::MAX, case.lines.expect("lines").layout.sda_in))
 }
 
-fn sda_low(case: &Case, at: u32, run: u32) -> Case {
+pub fn sda_low(case: &Case, at: u32, run: u32) -> Case {
     window(case, at, run, (!case.lines.expect("lines").layout.sda_in, 0))
 }
 
@@ -219,11 +224,11 @@ fn scl_low(case: &Case, at: u32, run: u32) -> Case {
 }
 
 /// Acknowledgements first low at this sample; past 10, never.
-fn late(case: &Case, sample: u32) -> Case {
+pub fn late(case: &Case, sample: u32) -> Case {
     lined(case, |lines| lines.late = sample)
 }
 
-fn stretched(case: &Case, tries: u32) -> Case {
+pub fn stretched(case: &Case, tries: u32) -> Case {
     lined(case, |lines| (lines.stretch, lines.late) = (tries, tries.min(STRETCH - 1) + 1))
 }
 
@@ -575,7 +580,7 @@ fn grants(list: &mut List) {
 }
 
 /// The grant comes at this try; the first read of ESDP is before the tries.
-fn granted_at(case: &Case, tries: u32) -> Case {
+pub fn granted_at(case: &Case, tries: u32) -> Case {
     let rule = until(ESDP, tries, (GRANT.1, 0), GRANT);
     Case { rules: replaced(case.rules.clone(), rule), ..case.clone() }
 }

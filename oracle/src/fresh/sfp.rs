@@ -1,0 +1,65 @@
+//! Fresh cases of `sfp.rs`: as the locked transfers, with chosen bytes.
+
+use super::*;
+
+impl Choice {
+    pub fn module_call(&mut self) -> Case {
+        let function = self.one(&[IDENTIFY, IDENTIFY, IDENTIFY_QSFP, RATE_SELECT]);
+        let mut case = self.at_port(function);
+        case.args = [self.word(), self.word(), self.word()];
+        match function {
+            IDENTIFY => case.args = self.sent(|choice| choice.sfp_bytes()),
+            IDENTIFY_QSFP => case.args = self.sent(|choice| choice.qsfp_bytes()),
+            _ => case.args[0] = self.below(2),
+        }
+        self.bus(&mut case);
+        case
+    }
+
+    /// The bytes as the first of the queue, the others random.
+    fn sent(&mut self, bytes: impl Fn(&mut Self) -> Vec<u8>) -> [u32; 3] {
+        let mut queue = bytes(self);
+        queue.resize_with(12, || self.word() as u8);
+        [0, 4, 8].map(|i| u32::from_le_bytes([queue[i], queue[i + 1], queue[i + 2], queue[i + 3]]))
+    }
+
+    fn near(&mut self, values: &[u8]) -> u8 {
+        let any = self.word() as u8;
+        let value = self.one(values);
+        if self.percent(85) {
+            value
+        } else {
+            any
+        }
+    }
+
+    /// Byte 0 up to five times; 6, 3 and 8; then 60, or 12, 14 and 15.
+    fn sfp_bytes(&mut self) -> Vec<u8> {
+        let wrong = match self.below(10) {
+            0..=6 => 0,
+            7..=8 => 1 + self.below(4),
+            _ => 5,
+        };
+        let mut bytes: Vec<u8> = (0..wrong).map(|_| self.word() as u8).collect();
+        let cable = self.near(&[0, 0, 0, 0x04, 0x08]);
+        bytes.extend([3, self.near(&[0, 0, 0x01, 0x02, 0x08, 0x40]), self.near(&[0, 0, 0x10, 0x20]), cable]);
+        if cable & 0x0c == 0x08 {
+            bytes.push(self.near(&[0, 0x04]));
+        } else {
+            bytes.extend([self.near(&[0x67]), self.near(&[0, 0, 1]), self.near(&[0, 9, 10])]);
+        }
+        bytes
+    }
+
+    /// Bytes 0, 83, 86, 82, 92 and 93.
+    fn qsfp_bytes(&mut self) -> Vec<u8> {
+        vec![
+            self.near(&[0x0d]),
+            self.near(&[0, 0, 0, 0x01, 0x08, 0x10, 0x20]),
+            self.near(&[0, 0x01, 0x02]),
+            self.near(&[0x23]),
+            self.near(&[0, 1, 1]),
+            self.near(&[0, 0x0f, 0x10]),
+        ]
+    }
+}

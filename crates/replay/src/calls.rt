@@ -87,7 +87,7 @@ fn of_byte(h: Host, b: Byte) -> Ran {
     }
 }
 
-fn of_flag(h: Host, f: Flag) -> Ran {
+pub(crate) fn of_flag(h: Host, f: Flag) -> Ran {
     match f {
         Flag::Ok(v) => {
             if v {

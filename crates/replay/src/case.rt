@@ -3,6 +3,7 @@ use crate::calls;
 use crate::calls::Ran;
 use crate::host;
 use crate::host::Host;
+use crate::modules;
 use crate::parse;
 use crate::plain;
 use crate::scripts;
@@ -25,7 +26,7 @@ fn device(d: u32) -> u16 {
 // Whether the number names a call.
 fn known(call: u32) -> bool {
     match call {
-        0..=8 | 10..=17 => true,
+        0..=8 | 10..=17 | 20..=22 => true,
         _ => false,
     }
 }
@@ -103,6 +104,9 @@ fn call(words: &[u32; 45]) -> Ran {
         15 => scripts::script(h, family, device, lan, a, words[5]),
         16 => plain::ones_add(h, a, words[5]),
         17 => plain::port(h, family, device, lan, a),
+        20 => modules::identify(h, family, device, lan),
+        21 => modules::identify_qsfp(h, family, device, lan),
+        22 => modules::soft_rate_select(h, family, device, lan, a == 1),
         _ => transfer(words),
     }
 }

@@ -9,7 +9,9 @@ const EARLY: u32 = 0x0_0028;
 const LATE: u32 = 0x1_5f5c;
 
 // The rule, the reads of its register so far, and what the lines have come to. slot: 0 before a START and after a STOP, else
-// the SCL pulse, 1 to 8 for a byte's bits and 9 for its acknowledgement. since: the reads since SCL rose.
+// the SCL pulse, 1 to 8 for a byte's bits and 9 for its acknowledgement. since: the reads since SCL rose. first: the byte is
+// the address after a START. sends: that address asks the module to send. The queue of bytes that it sends: left is their
+// number, the next is the lowest byte of w1.
 pub struct Lines {
     pub used: bool,
     pub register: u32,
@@ -25,6 +27,12 @@ pub struct Lines {
     pub sda: bool,
     pub slot: u32,
     pub since: u32,
+    pub first: bool,
+    pub sends: bool,
+    pub left: u32,
+    pub w1: u32,
+    pub w2: u32,
+    pub w3: u32,
 }
 
 pub(crate) fn unused() -> Lines {
@@ -43,7 +51,33 @@ pub(crate) fn unused() -> Lines {
         sda: true,
         slot: 0,
         since: 0,
+        first: false,
+        sends: false,
+        left: 0,
+        w1: 0,
+        w2: 0,
+        w3: 0,
     }
+}
+
+// The lines with the queue that a call's arguments give.
+pub(crate) fn queued(l: Lines, call: u32, a1: u32, a2: u32, a3: u32) -> Lines {
+    let mut next = l;
+    match call {
+        20..=21 => {
+            next.left = 12;
+            next.w1 = a1;
+            next.w2 = a2;
+            next.w3 = a3;
+        }
+        22 => {
+            next.left = 8;
+            next.w1 = a2;
+            next.w2 = a3;
+        }
+        _ => {}
+    }
+    next
 }
 
 // Whether the register is I2CCTL.
@@ -106,17 +140,63 @@ fn turned(l: Lines, sda: bool) -> Lines {
             next.slot = 0;
         } else {
             next.slot = 9;
+            next.first = true;
+            next.sends = false;
         }
     }
     next
 }
 
-// SCL rose.
-fn risen(l: Lines) -> Lines {
+// The word without its lowest byte, and that of the next word on top.
+fn shifted(w: u32, next: u32) -> u32 {
+    w / 256 | next % 256 * 16777216
+}
+
+// The queue without the byte that was sent.
+fn sent(l: Lines) -> Lines {
     let mut next = l;
-    next.slot = pulsed(l.slot);
-    next.since = 0;
+    if 0 < l.left {
+        next.left = l.left - 1;
+    }
+    next.w1 = shifted(l.w1, l.w2);
+    next.w2 = shifted(l.w2, l.w3);
+    next.w3 = shifted(l.w3, 0);
     next
+}
+
+// The pulse of a byte's last bit: that of an address says who sends.
+fn addressed(l: Lines, sda: bool) -> Lines {
+    let mut next = l;
+    if l.first {
+        next.sends = sda;
+    }
+    next
+}
+
+// The pulse of an acknowledgement: the byte is over.
+fn ended(l: Lines) -> Lines {
+    if l.first {
+        let mut next = l;
+        next.first = false;
+        return next;
+    }
+    if l.sends {
+        return sent(l);
+    }
+    l
+}
+
+// SCL rose.
+fn risen(l: Lines, sda: bool) -> Lines {
+    let slot = pulsed(l.slot);
+    let mut next = l;
+    next.slot = slot;
+    next.since = 0;
+    match slot {
+        8 => addressed(next, sda),
+        9 => ended(next),
+        _ => next,
+    }
 }
 
 fn moved(l: Lines, scl: bool, sda: bool) -> Lines {
@@ -124,7 +204,7 @@ fn moved(l: Lines, scl: bool, sda: bool) -> Lines {
         if l.scl {
             return turned(l, sda);
         }
-        return risen(l);
+        return risen(l, sda);
     }
     l
 }
@@ -144,12 +224,38 @@ fn acknowledges(l: Lines) -> bool {
     l.scl && l.slot == 9 && l.late <= l.since
 }
 
-// SDA as it is read: the stream's in the slots of a byte's bits.
+// The bit of a byte in its slot.
+fn weight(slot: u32) -> u32 {
+    match slot {
+        1 => 128,
+        2 => 64,
+        3 => 32,
+        4 => 16,
+        5 => 8,
+        6 => 4,
+        7 => 2,
+        _ => 1,
+    }
+}
+
+// SDA in the slots of a byte's bits: the queue's where the module sends, else the stream's.
+fn data(l: Lines, v: u32) -> u32 {
+    if l.sends {
+        if !l.first {
+            if 0 < l.left {
+                return with(v, sda_in(l), l.w1 & weight(l.slot) != 0);
+            }
+        }
+    }
+    v
+}
+
+// SDA as it is read.
 fn sampled(l: Lines, v: u32) -> u32 {
     if l.scl {
         if 1 <= l.slot {
             if l.slot <= 8 {
-                return v;
+                return data(l, v);
             }
         }
     }

@@ -148,7 +148,7 @@ fn lines_at(words: &[u32; 45], i: usize) -> Lines
     l.or1 = words[i + 5];
     l.stretch = words[i + 6] % 65536;
     l.late = words[i + 6] / 65536;
-    l
+    lines::queued(l, words[0], words[4], words[5], words[6])
 }
 
 // The rules with that at i as number k.

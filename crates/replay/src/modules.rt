@@ -1,0 +1,116 @@
+// The calls of the module itself, each run to its end.
+use crate::calls;
+use crate::calls::Ran;
+use crate::host;
+use crate::host::Host;
+use hardware::Flag;
+use identify::calls::IdentifyTold;
+use identify::walk::Identified;
+use rate::calls::RateTold;
+use sfp::Kind;
+use sfp::Module;
+
+// By the place in the original's list.
+fn number(k: Kind) -> u32 {
+    match k {
+        Kind::DaCu => 0,
+        Kind::DaActiveLimiting => 1,
+        Kind::SrLr => 2,
+        Kind::Cu1g => 3,
+        Kind::Sx1g => 4,
+        Kind::Lx1g => 5,
+        Kind::Bx10g => 6,
+        Kind::Bx1g => 7,
+        Kind::Unknown => 8,
+        Kind::NotPresent => 9,
+    }
+}
+
+// The kind, with 256 for multispeed.
+fn class(m: Module) -> u32 {
+    let k = m.kind;
+    let n = number(k);
+    if m.multispeed {
+        return n | 256;
+    }
+    n
+}
+
+// The record's bytes, the identifier lowest.
+fn bytes(m: Module) -> u32 {
+    let low = m.identifier as u32 | m.comp10g as u32 * 256;
+    low | m.comp1g as u32 * 65536 | m.cable as u32 * 16777216
+}
+
+// The transfers made go with every result.
+fn ended(h: Host, i: Identified, made: u32) -> Ran {
+    match i {
+        Identified::Ok(m) => calls::good(h, class(m), bytes(m), made),
+        Identified::Err(e) => {
+            let mut ran = calls::failed(h, e);
+            ran.v3 = made;
+            ran
+        }
+    }
+}
+
+fn run(h: Host, first: IdentifyTold) -> Ran {
+    let mut host = h;
+    let mut told = first;
+    let mut left = calls::BUDGET;
+    while 0 < left {
+        match told {
+            IdentifyTold::Ask(x, s) => {
+                let p = host::answer(host, x);
+                let a = p.answer;
+                host = p.host;
+                told = identify::calls::identify_step(s, a);
+            }
+            IdentifyTold::End(i, made) => return ended(host, i, made),
+            IdentifyTold::Refused(_) => return calls::unended(host),
+        }
+        left -= 1;
+    }
+    calls::unended(host)
+}
+
+fn selected(h: Host, f: Flag, made: u32) -> Ran {
+    let mut ran = calls::of_flag(h, f);
+    ran.v3 = made;
+    ran
+}
+
+fn select(h: Host, first: RateTold) -> Ran {
+    let mut host = h;
+    let mut told = first;
+    let mut left = calls::BUDGET;
+    while 0 < left {
+        match told {
+            RateTold::Ask(x, s) => {
+                let p = host::answer(host, x);
+                let a = p.answer;
+                host = p.host;
+                told = rate::calls::soft_rate_select_step(s, a);
+            }
+            RateTold::End(f, made) => return selected(host, f, made),
+            RateTold::Refused(_) => return calls::unended(host),
+        }
+        left -= 1;
+    }
+    calls::unended(host)
+}
+
+pub(crate) fn identify(h: Host, family: u32, device: u16, lan: u32) -> Ran {
+    run(h, identify::calls::identify_open(family, device, lan))
+}
+
+pub(crate) fn identify_qsfp(h: Host, family: u32, device: u16, lan: u32) -> Ran {
+    run(h, identify::calls::identify_qsfp_open(family, device, lan))
+}
+
+pub(crate) fn soft_rate_select(h: Host, family: u32, device: u16, lan: u32, ten: bool) -> Ran {
+    select(
+        h,
+        rate::calls::soft_rate_select_open(family, device, lan, ten),
+    )
+}

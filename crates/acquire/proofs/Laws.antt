@@ -3,10 +3,10 @@ use Prim.Native.Nat.{ℕ, _-_, suc, zero}
 use mathlib.Core.Path.{_≡_, refl, ap}
 use native.Mathlib.Numerals.{sub-one}
 use borrow.Author.Tests.{eq-eqb, ne-eqb}
-use Rattle.hardware.specs.Prog.{ret, erase, orErr, R, Ok, Err, pick, _>>=_, _>>?_}
+use Rattle.hardware.specs.Prog.{erase, orErr, pick, _>>=_, _>>?_}
 use Rattle.hardware.specs.declared.Port.{Port}
 use Rattle.sync.specs.Resource.{acquireBits}
-use Rattle.acquire.specs.Acquire.{withBits, acquiredAll, acquireToken, tryToken}
+use Rattle.acquire.specs.Acquire.{withBits, acquireToken, tryToken}
 
 -- with a try left, the token's loop begins by the bits
 pub token-more : (port : Port) (hw tries : ℕ) → (tries ≡ 0 → ⊥)
@@ -24,9 +24,3 @@ pub token-bits : (port : Port) (hw tries : ℕ) → (hw ≡ 0 → ⊥) → (trie
     → erase (acquireBits port hw >>? λ _. tryToken port hw (tries - 1)) ≡ erase (acquireToken port hw tries)
 unfolding withBits pick
 token-bits port hw tries e h = rw (ne-eqb _ _ e) at (token-more port hw tries h)
-
--- once the bits are taken a plain acquire is over
-pub acquired-end : (r : R (Unit {0})) → ret r ≡ erase (orErr (λ _. acquiredAll) r)
-unfolding orErr acquiredAll erase
-acquired-end (Ok u) = refl
-acquired-end (Err e) = refl

@@ -12,7 +12,7 @@ use Rattle.hardware.specs.Prog.{Prog, ret, ask, note, Acquired, Released, erase
 use Rattle.hardware.specs.Registers.{noneOf, not32, micros, outcome, flag}
 use Rattle.acquire.specs.declared.acquire.Acquire.{Acquire}
 use Rattle.acquire.specs.declared.acquire.Stage.{Stage}
-use Rattle.acquire.specs.declared.acquire.Stage.the-variants.{Plain, Bits, Token, Releasing, Waiting}
+use Rattle.acquire.specs.declared.acquire.Stage.the-variants.{Bits, Token, Releasing, Waiting}
 use Rattle.acquire.specs.declared.acquire.AcquireNext.{AcquireNext}
 use Rattle.acquire.specs.declared.acquire.AcquireNext.the-variants.{Going as AcquireGoing, End as AcquireEnd}
 use Rattle.acquire.specs.declared.release.Release.{Release}
@@ -62,6 +62,10 @@ acquireToken port hw (suc left) =
 unfoldable pub tryToken : Port → ℕ → ℕ → Prog (R (Unit {0}))
 tryToken port hw left = token port true >>= tokenSeen port hw (λ _. acquireToken port hw left)
 
+-- the bits are ours; token: whether it is wanted too
+unfoldable pub afterBits : Port → ℕ → ℕ → Bool → Prog (R (Unit {0}))
+afterBits port hw left token = pick token (tryToken port hw left) acquiredAll
+
 unfoldable pub acquire : Port → ℕ → Prog (R (Unit {0}))
 acquire port mask =
     pick (noneOf mask TOKEN) (acquireBits port (hwOf mask) >>? λ _. acquiredAll) (acquireToken port (hwOf mask) TOKEN-TRIES)
@@ -85,8 +89,7 @@ release port mask =
 -- the machines
 
 unfoldable pub accessAcquireAt : Port → ℕ → Stage → Access
-accessAcquireAt port hw (Plain t) = accessAcquireBits port hw t
-accessAcquireAt port hw (Bits t) = accessAcquireBits port hw t
+accessAcquireAt port hw (Bits t token) = accessAcquireBits port hw t
 accessAcquireAt port hw (Token t) = accessToken port t
 accessAcquireAt port hw (Releasing t g) = accessReleaseBits port hw t
 accessAcquireAt port hw Waiting = Wait (micros 5000)
@@ -95,8 +98,7 @@ unfoldable pub accessAcquire : Port → ℕ → Acquire → Access
 accessAcquire port hw s = accessAcquireAt port hw (s .stage)
 
 unfoldable pub restAcquireAt : Port → ℕ → ℕ → Stage → Answer → Prog (R (Unit {0}))
-restAcquireAt port hw left (Plain t) a = restAcquireBits port hw t a >>? λ _. acquiredAll
-restAcquireAt port hw left (Bits t) a = restAcquireBits port hw t a >>? λ _. tryToken port hw left
+restAcquireAt port hw left (Bits t token) a = restAcquireBits port hw t a >>? λ _. afterBits port hw left token
 restAcquireAt port hw left (Token t) a = restToken port true t a >>= tokenSeen port hw (λ _. acquireToken port hw left)
 restAcquireAt port hw left (Releasing t g) a = restReleaseBits port hw t a >>? λ _. notGranted (λ _. acquireToken port hw left) (flag g)
 restAcquireAt port hw left Waiting a = acquireToken port hw left
@@ -109,8 +111,7 @@ acquireNext port hw (AcquireGoing s) = ask (accessAcquire port hw s) (λ a. eras
 acquireNext port hw (AcquireEnd o) = ret (outcome o)
 
 unfoldable pub validAcquireAt : Port → Stage → Bool
-validAcquireAt port (Plain t) = validAcquireBits (port .family) t
-validAcquireAt port (Bits t) = validAcquireBits (port .family) t
+validAcquireAt port (Bits t token) = validAcquireBits (port .family) t
 validAcquireAt port (Token t) = validToken port t
 validAcquireAt port (Releasing t g) = validReleaseBits t
 validAcquireAt port Waiting = true

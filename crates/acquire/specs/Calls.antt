@@ -31,15 +31,14 @@ stepAcquire AcquireOver a = no 11
 unfoldable pub saidAcquire : AcquireTold → Asked (Prog (R (Unit {0})))
 saidAcquire (AcquireAsk x (AcquireGoing port hw t)) = yes (ask x (λ a. erase (restAcquire port hw t a)))
 saidAcquire (AcquireAsk x AcquireOver) = no 0
-saidAcquire (AcquireEnd o AcquireOver) = yes (ret (outcome o))
-saidAcquire (AcquireEnd o (AcquireGoing port hw t)) = no 0
+saidAcquire (AcquireEnd o) = yes (ret (outcome o))
 saidAcquire (AcquireRefused q) = no (refusalNumber q)
 
 -- a state to go on from comes with the access it awaits, and passes question 10
 unfoldable pub standsAcquire : AcquireTold → Type 0
 standsAcquire (AcquireAsk x (AcquireGoing port hw t)) = (x ≡ accessAcquire port hw t) × (validPort port ≡ true) × (validAcquire port t ≡ true)
 standsAcquire (AcquireAsk x AcquireOver) = ⊥
-standsAcquire (AcquireEnd o s) = Unit {0}
+standsAcquire (AcquireEnd o) = Unit {0}
 standsAcquire (AcquireRefused q) = Unit {0}
 
 -- `release`: 1 and 2
@@ -55,12 +54,11 @@ stepRelease ReleaseOver a = no 11
 unfoldable pub saidRelease : ReleaseTold → Asked (Prog (R (Unit {0})))
 saidRelease (ReleaseAsk x (ReleaseGoing port hw t)) = yes (ask x (λ a. erase (restRelease port hw t a)))
 saidRelease (ReleaseAsk x ReleaseOver) = no 0
-saidRelease (ReleaseEnd o ReleaseOver) = yes (ret (outcome o))
-saidRelease (ReleaseEnd o (ReleaseGoing port hw t)) = no 0
+saidRelease (ReleaseEnd o) = yes (ret (outcome o))
 saidRelease (ReleaseRefused q) = no (refusalNumber q)
 
 unfoldable pub standsRelease : ReleaseTold → Type 0
 standsRelease (ReleaseAsk x (ReleaseGoing port hw t)) = (x ≡ accessRelease port hw t) × (validPort port ≡ true) × (validRelease port t ≡ true)
 standsRelease (ReleaseAsk x ReleaseOver) = ⊥
-standsRelease (ReleaseEnd o s) = Unit {0}
+standsRelease (ReleaseEnd o) = Unit {0}
 standsRelease (ReleaseRefused q) = Unit {0}

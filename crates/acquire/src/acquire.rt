@@ -21,16 +21,15 @@ ghost use Rattle.hardware.specs.Prog.{erase, followed, orErr};
 ghost use Rattle.hardware.specs.Registers.{flag};
 ghost use Rattle.sync.specs.Resource.{acquireBits, acquireBitsNext, validAcquireBitsNext, releaseBitsNext, validReleaseBitsNext};
 ghost use Rattle.hostif.specs.Hostif.{tokenNext, validTokenNext};
-ghost use Rattle.acquire.specs.Acquire.{TOKEN-TRIES, hwOf, notGranted, givenBack, acquiredAll, tokenSeen, acquireToken, tryToken, acquire, accessAcquireAt, accessAcquire, restAcquireAt, restAcquire, acquireNext, validAcquireAt, validAcquire, validAcquireNext};
+ghost use Rattle.acquire.specs.Acquire.{TOKEN-TRIES, hwOf, notGranted, givenBack, tokenSeen, acquireToken, tryToken, afterBits, acquire, accessAcquireAt, accessAcquire, restAcquireAt, restAcquire, acquireNext, validAcquireAt, validAcquire, validAcquireNext};
 
 pub const TOKEN_TRIES: u32 = 1000;
 
 pub const TOKEN_DELAY_MS: u16 = 5;
 
-// Plain: without the token. Releasing: with what the firmware said.
+// Bits: with whether the token comes after them. Releasing: with what the firmware said.
 pub enum Stage {
-    Plain(AcquireBits),
-    Bits(AcquireBits),
+    Bits(AcquireBits, bool),
     Token(Token),
     Releasing(ReleaseBits, Flag),
     Waiting,
@@ -129,32 +128,25 @@ fn try_token(port: Port, hw: u32, left: u32) -> AcquireNext
     token(port, hw, left, hostif::token::open(port, true))
 }
 
-fn bits(port: Port, hw: u32, left: u32, n: AcquireBitsNext) -> AcquireNext
-    ensures { λ r. ⌜ acquireNext port hw r ≡ followed (acquireBitsNext port hw n) (orErr (λ _. tryToken port hw left)) ⌝ }
+// token: whether it comes after the bits.
+fn bits(port: Port, hw: u32, left: u32, token: bool, n: AcquireBitsNext) -> AcquireNext
+    ensures { λ r. ⌜ acquireNext port hw r ≡ followed (acquireBitsNext port hw n) (orErr (λ _. afterBits port hw left token)) ⌝ }
     ensures { λ r. ⌜ (left < TOKEN-TRIES → validAcquireBitsNext (port .family) n ≡ true → validAcquireNext port r ≡ true) ⌝ }
 {
     match n {
         AcquireBitsNext::Going(t) => AcquireNext::Going(Acquire {
             left,
-            stage: Stage::Bits(t),
+            stage: Stage::Bits(t, token),
         }),
         AcquireBitsNext::End(o) => match o {
-            Outcome::Ok => try_token(port, hw, left),
+            Outcome::Ok => {
+                if token {
+                    return try_token(port, hw, left);
+                }
+                AcquireNext::End(Outcome::Ok)
+            }
             Outcome::Err(e) => AcquireNext::End(Outcome::Err(e)),
         },
-    }
-}
-
-fn plain(port: Port, hw: u32, left: u32, n: AcquireBitsNext) -> AcquireNext
-    ensures { λ r. ⌜ acquireNext port hw r ≡ followed (acquireBitsNext port hw n) (orErr (λ _. acquiredAll)) ⌝ }
-    ensures { λ r. ⌜ (left < TOKEN-TRIES → validAcquireBitsNext (port .family) n ≡ true → validAcquireNext port r ≡ true) ⌝ }
-{
-    match n {
-        AcquireBitsNext::Going(t) => AcquireNext::Going(Acquire {
-            left,
-            stage: Stage::Plain(t),
-        }),
-        AcquireBitsNext::End(o) => AcquireNext::End(o),
     }
 }
 
@@ -180,26 +172,25 @@ fn open_token(port: Port, hw: u32, tries: u32) -> AcquireNext
     if hw == 0 {
         return try_token(port, hw, tries - 1);
     }
-    bits(port, hw, tries - 1, first(port, hw))
+    bits(port, hw, tries - 1, true, first(port, hw))
 }
 
 pub fn open(port: Port, mask: u32) -> AcquireNext
     ensures { λ r. ⌜ acquireNext port (hwOf mask) r ≡ erase (acquire port mask) ⌝ }
     ensures { λ r. ⌜ validAcquireNext port r ≡ true ⌝ }
 {
-    let bits = hw(mask);
+    let m = hw(mask);
     if hardware::none_of(mask, TOKEN) {
-        return plain(port, bits, 0, first(port, bits));
+        return bits(port, m, 0, false, first(port, m));
     }
-    open_token(port, bits, TOKEN_TRIES)
+    open_token(port, m, TOKEN_TRIES)
 }
 
 fn stage_access(port: Port, hw: u32, s: Stage) -> Access
     ensures { λ r. ⌜ r ≡ accessAcquireAt port hw s ⌝ }
 {
     match s {
-        Stage::Plain(t) => sync::acquire_bits::access(port, hw, t),
-        Stage::Bits(t) => sync::acquire_bits::access(port, hw, t),
+        Stage::Bits(t, _) => sync::acquire_bits::access(port, hw, t),
         Stage::Token(t) => hostif::token::access(port, t),
         Stage::Releasing(t, _) => sync::release_bits::access(port, hw, t),
         Stage::Waiting => Access::Wait(hardware::delay_ms(Millis(TOKEN_DELAY_MS))),
@@ -218,8 +209,13 @@ fn stage_step(port: Port, hw: u32, left: u32, s: Stage, a: Answer) -> AcquireNex
     ensures { λ r. ⌜ (left < TOKEN-TRIES → validAcquireAt port s ≡ true → validAcquireNext port r ≡ true) ⌝ }
 {
     match s {
-        Stage::Plain(t) => plain(port, hw, left, sync::acquire_bits::step(port, hw, t, a)),
-        Stage::Bits(t) => bits(port, hw, left, sync::acquire_bits::step(port, hw, t, a)),
+        Stage::Bits(t, token) => bits(
+            port,
+            hw,
+            left,
+            token,
+            sync::acquire_bits::step(port, hw, t, a),
+        ),
         Stage::Token(t) => token(port, hw, left, hostif::token::step(port, true, t, a)),
         Stage::Releasing(t, g) => releasing(
             port,
@@ -245,8 +241,7 @@ fn stage_valid(port: Port, s: Stage) -> bool
 {
     let family = port.family;
     match s {
-        Stage::Plain(t) => sync::acquire_bits::valid(family, t),
-        Stage::Bits(t) => sync::acquire_bits::valid(family, t),
+        Stage::Bits(t, _) => sync::acquire_bits::valid(family, t),
         Stage::Token(t) => hostif::token::valid(port, t),
         Stage::Releasing(t, _) => sync::release_bits::valid(t),
         Stage::Waiting => true,

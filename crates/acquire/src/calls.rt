@@ -23,7 +23,7 @@ pub enum AcquireCall {
 
 pub enum AcquireTold {
     Ask(Access, AcquireCall),
-    End(Outcome, AcquireCall),
+    End(Outcome),
     Refused(Refusal),
 }
 
@@ -34,7 +34,7 @@ pub enum ReleaseCall {
 
 pub enum ReleaseTold {
     Ask(Access, ReleaseCall),
-    End(Outcome, ReleaseCall),
+    End(Outcome),
     Refused(Refusal),
 }
 
@@ -47,7 +47,7 @@ fn acquire_told(port: Port, hw: u32, n: AcquireNext) -> AcquireTold
             crate::acquire::access(port, hw, t),
             AcquireCall::Going(port, hw, t),
         ),
-        AcquireNext::End(o) => AcquireTold::End(o, AcquireCall::Over),
+        AcquireNext::End(o) => AcquireTold::End(o),
     }
 }
 
@@ -94,7 +94,7 @@ fn release_told(port: Port, hw: u32, n: ReleaseNext) -> ReleaseTold
             crate::release::access(port, hw, t),
             ReleaseCall::Going(port, hw, t),
         ),
-        ReleaseNext::End(o) => ReleaseTold::End(o, ReleaseCall::Over),
+        ReleaseNext::End(o) => ReleaseTold::End(o),
     }
 }
 

@@ -57,8 +57,7 @@ stepCommand s block a = asked (blockFits block) 8 block (stepped s block a)
 unfoldable pub saidCommand : CommandTold → List ℕ → Lent
 saidCommand (CommandAsk x (CommandGoing port t)) block = goes (ask x (λ a. erase (restCommand port t block a)))
 saidCommand (CommandAsk x CommandOver) block = refused 0 block
-saidCommand (CommandEnd b CommandOver) block = goes (ret (record { status = byte b; block = block }))
-saidCommand (CommandEnd b (CommandGoing port t)) block = refused 0 block
+saidCommand (CommandEnd b) block = goes (ret (record { status = byte b; block = block }))
 saidCommand (CommandRefused q) block = refused (refusalNumber q) block
 
 -- a state to go on from comes with the access it awaits, and passes question 10 with the block as it is then
@@ -66,7 +65,7 @@ unfoldable pub standsCommand : CommandTold → List ℕ → Type 0
 standsCommand (CommandAsk x (CommandGoing port t)) block =
     (x ≡ accessCommand port t block) × (validPort port ≡ true) × (validCommand port (length block) t ≡ true)
 standsCommand (CommandAsk x CommandOver) block = ⊥
-standsCommand (CommandEnd b s) block = Unit {0}
+standsCommand (CommandEnd b) block = Unit {0}
 standsCommand (CommandRefused q) block = Unit {0}
 
 -- `token`: 1 and 2
@@ -82,12 +81,11 @@ stepToken TokenOver a = no 11
 unfoldable pub saidToken : TokenTold → Asked (Prog (R Bool))
 saidToken (TokenAsk x (TokenGoing port take t)) = yes (ask x (λ a. erase (restToken port take t a)))
 saidToken (TokenAsk x TokenOver) = no 0
-saidToken (TokenEnd b TokenOver) = yes (ret (flag b))
-saidToken (TokenEnd b (TokenGoing port take t)) = no 0
+saidToken (TokenEnd b) = yes (ret (flag b))
 saidToken (TokenRefused q) = no (refusalNumber q)
 
 unfoldable pub standsToken : TokenTold → Type 0
 standsToken (TokenAsk x (TokenGoing port take t)) = (x ≡ accessToken port t) × (validPort port ≡ true) × (validToken port t ≡ true)
 standsToken (TokenAsk x TokenOver) = ⊥
-standsToken (TokenEnd b s) = Unit {0}
+standsToken (TokenEnd b) = Unit {0}
 standsToken (TokenRefused q) = Unit {0}

@@ -27,7 +27,7 @@ pub enum CommandCall {
 
 pub enum CommandTold {
     Ask(Access, CommandCall),
-    End(Byte, CommandCall),
+    End(Byte),
     Refused(Refusal),
 }
 
@@ -39,7 +39,7 @@ pub enum TokenCall {
 
 pub enum TokenTold {
     Ask(Access, TokenCall),
-    End(Flag, TokenCall),
+    End(Flag),
     Refused(Refusal),
 }
 
@@ -61,7 +61,7 @@ fn command_told(port: Port, block: &[u32], n: CommandNext) -> CommandTold
             crate::command::access(port, t, block),
             CommandCall::Going(port, t),
         ),
-        CommandNext::End(b) => CommandTold::End(b, CommandCall::Over),
+        CommandNext::End(b) => CommandTold::End(b),
     }
 }
 
@@ -127,7 +127,7 @@ fn token_told(port: Port, take: bool, n: TokenNext) -> TokenTold
             crate::token::access(port, t),
             TokenCall::Going(port, take, t),
         ),
-        TokenNext::End(b) => TokenTold::End(b, TokenCall::Over),
+        TokenNext::End(b) => TokenTold::End(b),
     }
 }
 

@@ -82,12 +82,11 @@ stepSetup SetupOver a = no 11
 unfoldable pub saidSetup : SetupTold → Asked (Prog (R (Unit {0})))
 saidSetup (SetupAsk x (SetupGoing u)) = yes (ask x (λ a. erase (restUpdate setupBus u a)))
 saidSetup (SetupAsk x SetupOver) = no 0
-saidSetup (SetupEnd o SetupOver) = yes (ret (outcome o))
-saidSetup (SetupEnd o (SetupGoing u)) = no 0
+saidSetup (SetupEnd o) = yes (ret (outcome o))
 saidSetup (SetupRefused q) = no (refusalNumber q)
 
 unfoldable pub standsSetup : SetupTold → Type 0
 standsSetup (SetupAsk x (SetupGoing u)) = x ≡ accessUpdate setupBus u
 standsSetup (SetupAsk x SetupOver) = ⊥
-standsSetup (SetupEnd o s) = Unit {0}
+standsSetup (SetupEnd o) = Unit {0}
 standsSetup (SetupRefused q) = Unit {0}

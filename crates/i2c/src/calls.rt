@@ -43,7 +43,7 @@ pub enum SetupCall {
 
 pub enum SetupTold {
     Ask(Access, SetupCall),
-    End(Outcome, SetupCall),
+    End(Outcome),
     Refused(Refusal),
 }
 
@@ -242,7 +242,7 @@ fn setup_told(n: UpdateNext) -> SetupTold
             hardware::change::access(setup_bus(), u),
             SetupCall::Going(u),
         ),
-        UpdateNext::End(o) => SetupTold::End(o, SetupCall::Over),
+        UpdateNext::End(o) => SetupTold::End(o),
     }
 }
 

@@ -111,7 +111,7 @@ pub(crate) fn lock(h: Host, family: u32) -> Ran {
                 host = p.host;
                 told = sync::calls::lock_step(s, a);
             }
-            LockTold::End(o, _) => return of_outcome(host, o),
+            LockTold::End(o) => return of_outcome(host, o),
             LockTold::Refused(_) => return unended(host),
         }
         left -= 1;
@@ -131,7 +131,7 @@ pub(crate) fn unlock(h: Host, family: u32) -> Ran {
                 host = p.host;
                 told = sync::calls::unlock_step(s, a);
             }
-            UnlockTold::End(o, _) => return of_outcome(host, o),
+            UnlockTold::End(o) => return of_outcome(host, o),
             UnlockTold::Refused(_) => return unended(host),
         }
         left -= 1;
@@ -151,7 +151,7 @@ pub(crate) fn acquire(h: Host, family: u32, device: u16, lan: u32, mask: u32) ->
                 host = p.host;
                 told = acquire::calls::acquire_step(s, a);
             }
-            AcquireTold::End(o, _) => return of_outcome(host, o),
+            AcquireTold::End(o) => return of_outcome(host, o),
             AcquireTold::Refused(_) => return unended(host),
         }
         left -= 1;
@@ -171,7 +171,7 @@ pub(crate) fn release(h: Host, family: u32, device: u16, lan: u32, mask: u32) ->
                 host = p.host;
                 told = acquire::calls::release_step(s, a);
             }
-            ReleaseTold::End(o, _) => return of_outcome(host, o),
+            ReleaseTold::End(o) => return of_outcome(host, o),
             ReleaseTold::Refused(_) => return unended(host),
         }
         left -= 1;
@@ -191,7 +191,7 @@ pub(crate) fn token(h: Host, family: u32, device: u16, lan: u32, take: bool) -> 
                 host = p.host;
                 told = hostif::calls::token_step(s, a);
             }
-            TokenTold::End(f, _) => return of_flag(host, f),
+            TokenTold::End(f) => return of_flag(host, f),
             TokenTold::Refused(_) => return unended(host),
         }
         left -= 1;
@@ -211,7 +211,7 @@ fn command_on(h: Host, family: u32, device: u16, lan: u32, block: &mut [u32]) ->
                 host = p.host;
                 told = hostif::calls::command_step(s, block, a);
             }
-            CommandTold::End(b, _) => return of_byte(host, b),
+            CommandTold::End(b) => return of_byte(host, b),
             CommandTold::Refused(_) => return unended(host),
         }
         left -= 1;

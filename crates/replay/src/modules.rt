@@ -6,9 +6,9 @@ use crate::host::Host;
 use hardware::Flag;
 use identify::calls::IdentifyTold;
 use identify::walk::Identified;
-use rate::calls::RateTold;
 use sfp::Kind;
 use sfp::Module;
+use softrate::calls::RateTold;
 
 // By the place in the original's list.
 fn number(k: Kind) -> u32 {
@@ -90,7 +90,7 @@ fn select(h: Host, first: RateTold) -> Ran {
                 let p = host::answer(host, x);
                 let a = p.answer;
                 host = p.host;
-                told = rate::calls::soft_rate_select_step(s, a);
+                told = softrate::calls::soft_rate_select_step(s, a);
             }
             RateTold::End(f, made) => return selected(host, f, made),
             RateTold::Refused(_) => return calls::unended(host),
@@ -111,6 +111,6 @@ pub(crate) fn identify_qsfp(h: Host, family: u32, device: u16, lan: u32) -> Ran 
 pub(crate) fn soft_rate_select(h: Host, family: u32, device: u16, lan: u32, ten: bool) -> Ran {
     select(
         h,
-        rate::calls::soft_rate_select_open(family, device, lan, ten),
+        softrate::calls::soft_rate_select_open(family, device, lan, ten),
     )
 }

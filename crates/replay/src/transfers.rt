@@ -129,7 +129,7 @@ pub(crate) fn qsfp_setup(h: Host) -> Ran {
                 host = p.host;
                 told = i2c::calls::qsfp_setup_step(s, a);
             }
-            SetupTold::End(o, _) => return calls::of_outcome(host, o),
+            SetupTold::End(o) => return calls::of_outcome(host, o),
             SetupTold::Refused(_) => return calls::unended(host),
         }
         left -= 1;

@@ -30,15 +30,14 @@ stepLock LockOver a = no 11
 unfoldable pub saidLock : LockTold → Asked (Prog (R (Unit {0})))
 saidLock (LockAsk x (LockGoing f t)) = yes (ask x (λ a. erase (restLock f t a)))
 saidLock (LockAsk x LockOver) = no 0
-saidLock (LockEnd o LockOver) = yes (ret (outcome o))
-saidLock (LockEnd o (LockGoing f t)) = no 0
+saidLock (LockEnd o) = yes (ret (outcome o))
 saidLock (LockRefused q) = no (refusalNumber q)
 
 -- a state to go on from comes with the access it awaits, and passes question 10
 unfoldable pub standsLock : LockTold → Type 0
 standsLock (LockAsk x (LockGoing f t)) = (x ≡ accessLock f t) × (validLock t ≡ true)
 standsLock (LockAsk x LockOver) = ⊥
-standsLock (LockEnd o s) = Unit {0}
+standsLock (LockEnd o) = Unit {0}
 standsLock (LockRefused q) = Unit {0}
 
 -- `unlock`: question 1
@@ -53,12 +52,11 @@ stepUnlock UnlockOver a = no 11
 unfoldable pub saidUnlock : UnlockTold → Asked (Prog (R (Unit {0})))
 saidUnlock (UnlockAsk x (UnlockGoing f t)) = yes (ask x (λ a. erase (restUnlock f t a)))
 saidUnlock (UnlockAsk x UnlockOver) = no 0
-saidUnlock (UnlockEnd o UnlockOver) = yes (ret (outcome o))
-saidUnlock (UnlockEnd o (UnlockGoing f t)) = no 0
+saidUnlock (UnlockEnd o) = yes (ret (outcome o))
 saidUnlock (UnlockRefused q) = no (refusalNumber q)
 
 unfoldable pub standsUnlock : UnlockTold → Type 0
 standsUnlock (UnlockAsk x (UnlockGoing f t)) = x ≡ accessUnlock f t
 standsUnlock (UnlockAsk x UnlockOver) = ⊥
-standsUnlock (UnlockEnd o s) = Unit {0}
+standsUnlock (UnlockEnd o) = Unit {0}
 standsUnlock (UnlockRefused q) = Unit {0}

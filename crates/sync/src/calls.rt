@@ -22,7 +22,7 @@ pub enum LockCall {
 
 pub enum LockTold {
     Ask(Access, LockCall),
-    End(Outcome, LockCall),
+    End(Outcome),
     Refused(Refusal),
 }
 
@@ -33,7 +33,7 @@ pub enum UnlockCall {
 
 pub enum UnlockTold {
     Ask(Access, UnlockCall),
-    End(Outcome, UnlockCall),
+    End(Outcome),
     Refused(Refusal),
 }
 
@@ -46,7 +46,7 @@ fn lock_told(family: Family, n: LockNext) -> LockTold
             crate::lock::access(family, t),
             LockCall::Going(family, t),
         ),
-        LockNext::End(o) => LockTold::End(o, LockCall::Over),
+        LockNext::End(o) => LockTold::End(o),
     }
 }
 
@@ -87,7 +87,7 @@ fn unlock_told(family: Family, n: UnlockNext) -> UnlockTold
             crate::unlock::access(family, t),
             UnlockCall::Going(family, t),
         ),
-        UnlockNext::End(o) => UnlockTold::End(o, UnlockCall::Over),
+        UnlockNext::End(o) => UnlockTold::End(o),
     }
 }
 

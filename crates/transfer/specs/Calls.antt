@@ -67,8 +67,7 @@ saidScript (Ask x (Going port t)) s = yes (ask x (λ a. tally 1 (restScript port
 saidScript (Ask x Over) s = no 0
 saidScript (Read b x (Going port t)) s = yes (give b (ask x (λ a. tally 1 (restScript port s t a))))
 saidScript (Read b x Over) s = no 0
-saidScript (End o n Over) s = yes (ret (record { transfers = n; result = outcome o }))
-saidScript (End o n (Going port t)) s = no 0
+saidScript (End o n) s = yes (ret (record { transfers = n; result = outcome o }))
 saidScript (Refused q) s = no (refusalNumber q)
 
 -- a state to go on from comes with the access it awaits, and passes question 10 with the script s
@@ -79,5 +78,5 @@ standsScript (Ask x Over) s = ⊥
 standsScript (Read b x (Going port t)) s =
     (x ≡ accessAttempt (layoutOf (port .family)) t) × (validPort port ≡ true) × (validAttempt (layoutOf (port .family)) s t ≡ true)
 standsScript (Read b x Over) s = ⊥
-standsScript (End o n c) s = Unit {0}
+standsScript (End o n) s = Unit {0}
 standsScript (Refused q) s = Unit {0}

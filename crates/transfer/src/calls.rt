@@ -34,7 +34,7 @@ pub enum ScriptCall {
 pub enum ScriptTold {
     Ask(Access, ScriptCall),
     Read(u8, Access, ScriptCall),
-    End(Outcome, u32, ScriptCall),
+    End(Outcome, u32),
     Refused(Refusal),
 }
 
@@ -63,7 +63,7 @@ fn told(port: Port, n: AttemptNext) -> ScriptTold
             crate::attempt::access(l, t),
             ScriptCall::Going(port, t),
         ),
-        AttemptNext::End(g) => ScriptTold::End(outcome_of(g), 1, ScriptCall::Over),
+        AttemptNext::End(g) => ScriptTold::End(outcome_of(g), 1),
     }
 }
 

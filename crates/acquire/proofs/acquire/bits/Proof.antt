@@ -1,10 +1,9 @@
 -- `bits` meets its contract.
-use Rattle.acquire.specs.Acquire.{accessAcquire, accessAcquireAt, accessRelease, acquireNext, releaseNext, restAcquire, restAcquireAt, restRelease, validAcquire, validAcquireAt, validAcquireNext}
+use Rattle.acquire.specs.Acquire.{accessAcquire, accessAcquireAt, acquireNext, acquiredAll, afterBits, restAcquire, restAcquireAt, validAcquire, validAcquireAt, validAcquireNext}
 use Rattle.hardware.specs.Prog.{_>>=_, erase, followed, going, orErr, pick}
 use Rattle.hardware.specs.Registers.{outcome}
 use Rattle.hardware.specs.Runs.{given}
-use Rattle.hostif.specs.Hostif.{tokenNext}
-use Rattle.sync.specs.Resource.{acquireBitsNext, releaseBitsNext, validAcquireBitsNext}
+use Rattle.sync.specs.Resource.{acquireBitsNext, taken, validAcquireBitsNext}
 use borrow.Author.Needs.{needs}
 use borrow.Author.Tests.{lt-ltb}
 use mathlib.Core.Path.{refl}
@@ -23,20 +22,24 @@ enum-told c = search needs
 try-token-requires : tie.Need-try-token-requires
 try-token-requires c κs = search needs
 
+returns : tie.Need-returns
+unfolding followed _>>=_ orErr outcome acquireBitsNext afterBits pick
+returns c = (rw (c .before .before .before .before .before .n2 .given .1, c .before .before .enum-told .given .1, c .before .if1 .taken) (c .try-token .ensures .0), λ h v. c .try-token .ensures .1 h)
+
 enum-known-o : tie.Need-enum-known-o
 enum-known-o c = search needs
 
-returns : tie.Need-returns
-unfolding acquireNext accessAcquire accessAcquireAt restAcquire restAcquireAt releaseNext accessRelease restRelease acquireBitsNext releaseBitsNext tokenNext validAcquireNext validAcquire validAcquireAt pick validAcquireBitsNext
-returns c = (rw (c .before .n .given .1) (going _ _ _), λ h v. rw (lt-ltb _ _ h) (rw (c .before .n .given .1) at v))
-
 returns-2 : tie.Need-returns-2
-unfolding followed _>>=_ orErr outcome acquireBitsNext
-returns-2 c = (rw (c .before .before .before .before .n2 .given .1, c .before .enum-told .given .1) (c .try-token .ensures .0), λ h v. c .try-token .ensures .1 h)
+unfolding acquireNext accessAcquire accessAcquireAt restAcquire restAcquireAt acquireBitsNext validAcquireNext validAcquire validAcquireAt pick validAcquireBitsNext
+returns-2 c = (rw (c .before .n .given .1) (going _ _ _), λ h v. rw (lt-ltb _ _ h) (rw (c .before .n .given .1) at v))
 
 returns-3 : tie.Need-returns-3
+unfolding followed _>>=_ orErr outcome acquireBitsNext afterBits acquiredAll pick erase acquireNext validAcquireNext
+returns-3 c = (rw (c .before .before .before .before .n2 .given .1, c .before .enum-told .given .1, c .if1 .left), λ h v. refl)
+
+returns-4 : tie.Need-returns-4
 unfolding followed _>>=_ orErr outcome acquireBitsNext erase acquireNext validAcquireNext
-returns-3 c = (rw (c .before .before .before .before .n2 .given .1, c .before .o .given .1), λ h v. refl)
+returns-4 c = (rw (c .before .before .before .before .n2 .given .1, c .before .o .given .1), λ h v. refl)
 
 pub bits-spec : {M : Type 1} → statement M
 bits-spec =
@@ -46,7 +49,8 @@ bits-spec =
     enum-known-n-2
     enum-told
     try-token-requires
-    enum-known-o
     returns
+    enum-known-o
     returns-2
-    returns-3)
+    returns-3
+    returns-4)

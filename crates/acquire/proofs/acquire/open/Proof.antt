@@ -1,6 +1,7 @@
 -- `open` meets its contract.
-use Rattle.acquire.specs.Acquire.{acquire}
+use Rattle.acquire.specs.Acquire.{acquire, afterBits}
 use Rattle.hardware.specs.Prog.{over, pick}
+use Rattle.sync.specs.Regs.{bits}
 use Rattle.sync.specs.Resource.{taken}
 use borrow.Author.Needs.{needs}
 use native.Mathlib.Omega.{arith}
@@ -16,12 +17,12 @@ none-of-requires c κs = search needs
 first-requires : tie.Need-first-requires
 first-requires c κs = search needs
 
-plain-requires : tie.Need-plain-requires
-plain-requires c κs = search needs
+bits-requires : tie.Need-bits-requires
+bits-requires c κs = search needs
 
 returns : tie.Need-returns
-unfolding acquire pick
-returns c = (rw (← c .before .before .before .none-of .ensures, c .before .before .if1 .taken) (over _ _ (rw (c .before .before .before .before .hw .ensures) at (c .plain .ensures .0)) (rw (c .before .before .before .before .hw .ensures) at (c .before .first .ensures .0))), c .plain .ensures .1 (omega arith) (c .before .first .ensures .1))
+unfolding acquire afterBits pick
+returns c = (rw (← c .before .before .before .none-of .ensures, c .before .before .if1 .taken) (over _ _ (rw (c .before .before .before .before .hw .ensures) at (c .bits .ensures .0)) (rw (c .before .before .before .before .hw .ensures) at (c .before .first .ensures .0))), c .bits .ensures .1 (omega arith) (c .before .first .ensures .1))
 
 open-token-requires : tie.Need-open-token-requires
 open-token-requires c κs = search needs
@@ -37,7 +38,7 @@ open-spec =
     hw-requires
     none-of-requires
     first-requires
-    plain-requires
+    bits-requires
     returns
     open-token-requires
     returns-2)

@@ -1,8 +1,8 @@
 -- `open_token` meets its contract.
 use Rattle.acquire.proofs.Laws.{token-alone, token-bits}
-use Rattle.acquire.specs.Acquire.{acquireNext, acquireToken, validAcquireNext}
+use Rattle.acquire.specs.Acquire.{acquireNext, acquireToken, afterBits, validAcquireNext}
 use Rattle.hardware.proofs.Laws.{one-less}
-use Rattle.hardware.specs.Prog.{erase, over}
+use Rattle.hardware.specs.Prog.{erase, over, pick}
 use Rattle.hardware.specs.Registers.{outcome}
 use Rattle.sync.specs.Regs.{bits}
 use Rattle.sync.specs.Resource.{taken}
@@ -34,6 +34,7 @@ bits-requires : tie.Need-bits-requires
 bits-requires c κs = search needs
 
 returns-3 : tie.Need-returns-3
+unfolding afterBits pick
 returns-3 c = (over _ _ (c .bits .ensures .0) (c .before .first .ensures .0) ∙ token-bits _ _ _ (c .before .before .if2 .left) (c .before .before .before .if1 .left), λ h. c .bits .ensures .1 (one-less _ _ (c .before .before .before .if1 .left) h) (c .before .first .ensures .1))
 
 pub open-token-spec : {M : Type 1} → statement M

@@ -1,9 +1,6 @@
 -- `stage_access` meets its contract.
-use Rattle.acquire.specs.Acquire.{accessAcquire, accessAcquireAt, accessRelease, gave, restAcquire, restAcquireAt, restRelease, tokenGiven, tryToken, validAcquireAt, validRelease}
-use Rattle.acquire.specs.Calls.{openAcquire, openRelease, stepAcquire, stepRelease}
-use Rattle.hardware.specs.Asked.{andThen, portOpened, question}
+use Rattle.acquire.specs.Acquire.{accessAcquireAt}
 use Rattle.hardware.specs.Runs.{given}
-use Rattle.sync.specs.Resource.{acquireBits}
 use borrow.Author.Needs.{needs}
 use Rattle.acquire.proofs.acquire.stage_access.Statement.{statement}
 use Rattle.acquire.proofs.acquire.stage_access.Tie as tie
@@ -26,12 +23,6 @@ enum-known-s-3 c = search needs
 access-requires-3 : tie.Need-access-requires-3
 access-requires-3 c κs = search needs
 
-enum-known-s-4 : tie.Need-enum-known-s-4
-enum-known-s-4 c = search needs
-
-access-requires-4 : tie.Need-access-requires-4
-access-requires-4 c κs = search needs
-
 enum-told : tie.Need-enum-told
 enum-told c = search needs
 
@@ -39,24 +30,20 @@ delay-ms-requires : tie.Need-delay-ms-requires
 delay-ms-requires c κs = search needs
 
 returns : tie.Need-returns
-unfolding restAcquire restAcquireAt accessAcquire accessAcquireAt restRelease accessRelease tryToken validAcquireAt validRelease stepAcquire stepRelease openAcquire openRelease question andThen portOpened acquireBits tokenGiven gave
+unfolding accessAcquireAt
 returns c = rw (c .before .before .s .given .1) (c .access .ensures)
 
 returns-2 : tie.Need-returns-2
-unfolding restAcquire restAcquireAt accessAcquire accessAcquireAt restRelease accessRelease tryToken validAcquireAt validRelease stepAcquire stepRelease openAcquire openRelease question andThen portOpened acquireBits tokenGiven gave
+unfolding accessAcquireAt
 returns-2 c = rw (c .before .before .s2 .given .1) (c .access2 .ensures)
 
 returns-3 : tie.Need-returns-3
-unfolding restAcquire restAcquireAt accessAcquire accessAcquireAt restRelease accessRelease tryToken validAcquireAt validRelease stepAcquire stepRelease openAcquire openRelease question andThen portOpened acquireBits tokenGiven gave
+unfolding accessAcquireAt
 returns-3 c = rw (c .before .before .s3 .given .1) (c .access3 .ensures)
 
 returns-4 : tie.Need-returns-4
-unfolding restAcquire restAcquireAt accessAcquire accessAcquireAt restRelease accessRelease tryToken validAcquireAt validRelease stepAcquire stepRelease openAcquire openRelease question andThen portOpened acquireBits tokenGiven gave
-returns-4 c = rw (c .before .before .s4 .given .1) (c .access4 .ensures)
-
-returns-5 : tie.Need-returns-5
 unfolding accessAcquireAt
-returns-5 c = rw (c .before .enum-told .given .1, ← c .delay-ms .ensures)
+returns-4 c = rw (c .before .enum-told .given .1, ← c .delay-ms .ensures)
 
 pub stage-access-spec : {M : Type 1} → statement M
 stage-access-spec =
@@ -68,12 +55,9 @@ stage-access-spec =
     access-requires-2
     enum-known-s-3
     access-requires-3
-    enum-known-s-4
-    access-requires-4
     enum-told
     delay-ms-requires
     returns
     returns-2
     returns-3
-    returns-4
-    returns-5)
+    returns-4)

@@ -1,12 +1,9 @@
 -- `stage_step` meets its contract.
-use Rattle.acquire.specs.Acquire.{accessAcquire, accessAcquireAt, accessRelease, gave, restAcquire, restAcquireAt, restRelease, tokenGiven, tryToken, validAcquireAt, validRelease}
-use Rattle.acquire.specs.Calls.{openAcquire, openRelease, stepAcquire, stepRelease}
-use Rattle.hardware.specs.Asked.{andThen, portOpened, question}
+use Rattle.acquire.specs.Acquire.{restAcquireAt, validAcquireAt}
 use Rattle.hardware.specs.Prog.{over}
 use Rattle.hardware.specs.Runs.{given}
 use Rattle.hostif.specs.Hostif.{token}
 use Rattle.sync.specs.Regs.{bits}
-use Rattle.sync.specs.Resource.{acquireBits}
 use borrow.Author.Needs.{needs}
 use native.Mathlib.Omega.{arith}
 use Rattle.acquire.proofs.acquire.stage_step.Statement.{statement}
@@ -18,8 +15,8 @@ enum-known-s c = search needs
 step-requires : tie.Need-step-requires
 step-requires c κs = search needs
 
-plain-requires : tie.Need-plain-requires
-plain-requires c κs = search needs
+bits-requires : tie.Need-bits-requires
+bits-requires c κs = search needs
 
 enum-known-s-2 : tie.Need-enum-known-s-2
 enum-known-s-2 c = search needs
@@ -27,23 +24,14 @@ enum-known-s-2 c = search needs
 step-requires-2 : tie.Need-step-requires-2
 step-requires-2 c κs = search needs
 
-bits-requires : tie.Need-bits-requires
-bits-requires c κs = search needs
+token-requires : tie.Need-token-requires
+token-requires c κs = search needs
 
 enum-known-s-3 : tie.Need-enum-known-s-3
 enum-known-s-3 c = search needs
 
 step-requires-3 : tie.Need-step-requires-3
 step-requires-3 c κs = search needs
-
-token-requires : tie.Need-token-requires
-token-requires c κs = search needs
-
-enum-known-s-4 : tie.Need-enum-known-s-4
-enum-known-s-4 c = search needs
-
-step-requires-4 : tie.Need-step-requires-4
-step-requires-4 c κs = search needs
 
 releasing-requires : tie.Need-releasing-requires
 releasing-requires c κs = search needs
@@ -55,24 +43,20 @@ open-token-requires : tie.Need-open-token-requires
 open-token-requires c κs = search needs
 
 returns : tie.Need-returns
-unfolding restAcquire restAcquireAt accessAcquire accessAcquireAt restRelease accessRelease tryToken validAcquireAt validRelease stepAcquire stepRelease openAcquire openRelease question andThen portOpened acquireBits tokenGiven gave
-returns c = (rw (c .before .before .before .s .given .1) (over _ _ (c .plain .ensures .0) (c .before .step .ensures .0)), λ h v. c .plain .ensures .1 h (c .before .step .ensures .1 (rw (c .before .before .before .s .given .1) at v)))
+unfolding restAcquireAt validAcquireAt
+returns c = (rw (c .before .before .before .s .given .1) (over _ _ (c .bits .ensures .0) (c .before .step .ensures .0)), λ h v. c .bits .ensures .1 h (c .before .step .ensures .1 (rw (c .before .before .before .s .given .1) at v)))
 
 returns-2 : tie.Need-returns-2
-unfolding restAcquire restAcquireAt accessAcquire accessAcquireAt restRelease accessRelease tryToken validAcquireAt validRelease stepAcquire stepRelease openAcquire openRelease question andThen portOpened acquireBits tokenGiven gave
-returns-2 c = (rw (c .before .before .before .s2 .given .1) (over _ _ (c .bits .ensures .0) (c .before .step2 .ensures .0)), λ h v. c .bits .ensures .1 h (c .before .step2 .ensures .1 (rw (c .before .before .before .s2 .given .1) at v)))
+unfolding restAcquireAt validAcquireAt
+returns-2 c = (rw (c .before .before .before .s2 .given .1) (over _ _ (c .token .ensures .0) (c .before .step2 .ensures .0)), λ h v. c .token .ensures .1 h (c .before .step2 .ensures .1 (rw (c .before .before .before .s2 .given .1) at v)))
 
 returns-3 : tie.Need-returns-3
-unfolding restAcquire restAcquireAt accessAcquire accessAcquireAt restRelease accessRelease tryToken validAcquireAt validRelease stepAcquire stepRelease openAcquire openRelease question andThen portOpened acquireBits tokenGiven gave
-returns-3 c = (rw (c .before .before .before .s3 .given .1) (over _ _ (c .token .ensures .0) (c .before .step3 .ensures .0)), λ h v. c .token .ensures .1 h (c .before .step3 .ensures .1 (rw (c .before .before .before .s3 .given .1) at v)))
+unfolding restAcquireAt validAcquireAt
+returns-3 c = (rw (c .before .before .before .s3 .given .1) (over _ _ (c .releasing .ensures .0) (c .before .step3 .ensures .0)), λ h v. c .releasing .ensures .1 h (c .before .step3 .ensures .1 (rw (c .before .before .before .s3 .given .1) at v)))
 
 returns-4 : tie.Need-returns-4
-unfolding restAcquire restAcquireAt accessAcquire accessAcquireAt restRelease accessRelease tryToken validAcquireAt validRelease stepAcquire stepRelease openAcquire openRelease question andThen portOpened acquireBits tokenGiven gave
-returns-4 c = (rw (c .before .before .before .s4 .given .1) (over _ _ (c .releasing .ensures .0) (c .before .step4 .ensures .0)), λ h v. c .releasing .ensures .1 h (c .before .step4 .ensures .1 (rw (c .before .before .before .s4 .given .1) at v)))
-
-returns-5 : tie.Need-returns-5
-unfolding restAcquire restAcquireAt accessAcquire accessAcquireAt restRelease accessRelease tryToken validAcquireAt validRelease stepAcquire stepRelease openAcquire openRelease question andThen portOpened acquireBits tokenGiven gave
-returns-5 c = (rw (c .before .enum-told .given .1) (c .open-token .ensures .0), λ h v. c .open-token .ensures .1 (omega arith))
+unfolding restAcquireAt
+returns-4 c = (rw (c .before .enum-told .given .1) (c .open-token .ensures .0), λ h v. c .open-token .ensures .1 (omega arith))
 
 pub stage-step-spec : {M : Type 1} → statement M
 stage-step-spec =
@@ -80,20 +64,16 @@ stage-step-spec =
     (tie.spec
     enum-known-s
     step-requires
-    plain-requires
+    bits-requires
     enum-known-s-2
     step-requires-2
-    bits-requires
+    token-requires
     enum-known-s-3
     step-requires-3
-    token-requires
-    enum-known-s-4
-    step-requires-4
     releasing-requires
     enum-told
     open-token-requires
     returns
     returns-2
     returns-3
-    returns-4
-    returns-5)
+    returns-4)

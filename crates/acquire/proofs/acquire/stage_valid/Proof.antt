@@ -1,9 +1,6 @@
 -- `stage_valid` meets its contract.
-use Rattle.acquire.specs.Acquire.{accessAcquire, accessAcquireAt, accessRelease, gave, restAcquire, restAcquireAt, restRelease, tokenGiven, tryToken, validAcquireAt, validRelease}
-use Rattle.acquire.specs.Calls.{openAcquire, openRelease, stepAcquire, stepRelease}
-use Rattle.hardware.specs.Asked.{andThen, portOpened, question}
+use Rattle.acquire.specs.Acquire.{validAcquireAt}
 use Rattle.hardware.specs.Runs.{given}
-use Rattle.sync.specs.Resource.{acquireBits}
 use borrow.Author.Needs.{needs}
 use Rattle.acquire.proofs.acquire.stage_valid.Statement.{statement}
 use Rattle.acquire.proofs.acquire.stage_valid.Tie as tie
@@ -26,34 +23,24 @@ enum-known-s-3 c = search needs
 valid-requires-3 : tie.Need-valid-requires-3
 valid-requires-3 c κs = search needs
 
-enum-known-s-4 : tie.Need-enum-known-s-4
-enum-known-s-4 c = search needs
-
-valid-requires-4 : tie.Need-valid-requires-4
-valid-requires-4 c κs = search needs
-
 enum-told : tie.Need-enum-told
 enum-told c = search needs
 
 returns : tie.Need-returns
-unfolding restAcquire restAcquireAt accessAcquire accessAcquireAt restRelease accessRelease tryToken validAcquireAt validRelease stepAcquire stepRelease openAcquire openRelease question andThen portOpened acquireBits tokenGiven gave
+unfolding validAcquireAt
 returns c = rw (c .before .before .s .given .1) (c .valid .ensures)
 
 returns-2 : tie.Need-returns-2
-unfolding restAcquire restAcquireAt accessAcquire accessAcquireAt restRelease accessRelease tryToken validAcquireAt validRelease stepAcquire stepRelease openAcquire openRelease question andThen portOpened acquireBits tokenGiven gave
+unfolding validAcquireAt
 returns-2 c = rw (c .before .before .s2 .given .1) (c .valid2 .ensures)
 
 returns-3 : tie.Need-returns-3
-unfolding restAcquire restAcquireAt accessAcquire accessAcquireAt restRelease accessRelease tryToken validAcquireAt validRelease stepAcquire stepRelease openAcquire openRelease question andThen portOpened acquireBits tokenGiven gave
+unfolding validAcquireAt
 returns-3 c = rw (c .before .before .s3 .given .1) (c .valid3 .ensures)
 
 returns-4 : tie.Need-returns-4
-unfolding restAcquire restAcquireAt accessAcquire accessAcquireAt restRelease accessRelease tryToken validAcquireAt validRelease stepAcquire stepRelease openAcquire openRelease question andThen portOpened acquireBits tokenGiven gave
-returns-4 c = rw (c .before .before .s4 .given .1) (c .valid4 .ensures)
-
-returns-5 : tie.Need-returns-5
 unfolding validAcquireAt
-returns-5 c = rw (c .enum-told .given .1)
+returns-4 c = rw (c .enum-told .given .1)
 
 pub stage-valid-spec : {M : Type 1} → statement M
 stage-valid-spec =
@@ -65,11 +52,8 @@ stage-valid-spec =
     valid-requires-2
     enum-known-s-3
     valid-requires-3
-    enum-known-s-4
-    valid-requires-4
     enum-told
     returns
     returns-2
     returns-3
-    returns-4
-    returns-5)
+    returns-4)

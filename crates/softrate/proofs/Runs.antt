@@ -1,0 +1,71 @@
+-- Whole calls of `soft_rate_select`: for every port that is accepted and every list of answers the library's run is the
+-- Rust's, the count of the attempts in it beside the result. A state that was handed out is not refused at its next step.
+-- Each successful acquire gets one release call.
+use Prim.Native.Nat.{ℕ, _≤_}
+use mathlib.Core.Path.{_≡_, refl, ap, _∙_}
+use mathlib.Core.Bool.{Bool, true, false}
+use mathlib.Core.List.{List}
+use lib.ListN.{length}
+use Rattle.hardware.specs.declared.Access.{Access}
+use Rattle.hardware.specs.declared.Answer.{Answer}
+use Rattle.hardware.specs.declared.Port.{Port}
+use Rattle.hardware.specs.Asked.{Asked, no, yes, andThen, question, openPort, fits}
+use Rattle.hardware.specs.Prog.{Prog, R, Ok, Err, tally, pick}
+use Rattle.hardware.specs.Runs.{run, ran, Awaited, ended, transfersIn, counted}
+use Rattle.hardware.proofs.Laws.{run-counted}
+use Rattle.hardware.proofs.Ends.{run-ends}
+use Rattle.i2c.specs.declared.once.Request.the-variants.{ReadByte, WriteByte}
+use Rattle.i2c.specs.I2c.{attempts}
+use Rattle.i2c.specs.Moves.{madeOf}
+use Rattle.i2c.specs.Paired.{Paired}
+use Rattle.i2c.proofs.Pairs.{Pairs, pairs-then, pairs-pick, pairs-ret, pairs-paired}
+use Rattle.i2c.proofs.Paired.{transferred-pairs}
+use Rattle.sfp.specs.Rate.{DIAG, orNot, selected, rateByte, softRateSelect}
+use Rattle.sfp.proofs.Ends.{RATE-STEPS, rate-ends}
+use Rattle.softrate.specs.declared.walk.Rate.{Rate}
+use Rattle.softrate.specs.declared.calls.RateCall.the-variants.{Going}
+use Rattle.softrate.specs.declared.calls.RateTold.{RateTold}
+use Rattle.softrate.specs.declared.calls.RateTold.the-variants.{Ask}
+use Rattle.softrate.specs.Walk.{restRate}
+use Rattle.softrate.specs.Calls.{openRate, stepRate, saidRate, standsRate}
+
+asked-runs : (o : Asked Port) (p : Port → Prog (R Bool)) (l : List Answer)
+    → ran (andThen o (λ port. yes (tally 0 (p port)))) l ≡ andThen o (λ port. yes (counted (transfersIn (p port) l) (run (p port) l)))
+unfolding ran andThen
+asked-runs (no n) p l = refl
+asked-runs (yes port) p l = ap yes (run-counted (p port) l)
+
+pub rate-runs : (family device lan : ℕ) (ten : Bool) (t : RateTold) → saidRate t ≡ openRate family device lan ten → (l : List Answer)
+    → ran (saidRate t) l ≡ andThen (openPort family device lan) (λ port. yes (counted (transfersIn (softRateSelect port ten) l) (run (softRateSelect port ten) l)))
+unfolding openRate
+rate-runs family device lan ten t e l = ap (λ x. ran x l) e ∙ asked-runs (openPort family device lan) (λ port. softRateSelect port ten) l
+
+-- a long enough list of answers of the awaited kinds brings the call to its end
+pub rate-finishes : (port : Port) (ten : Bool) (l : List Answer) → RATE-STEPS (port .family) ≤ length l → Awaited (softRateSelect port ten) l
+    → (v : R Bool) × ((run (softRateSelect port ten) l) .stand ≡ ended v)
+rate-finishes port ten l h w = run-ends (softRateSelect port ten) (RATE-STEPS (port .family)) l (rate-ends port ten) h w
+
+-- a state that was handed out, with any answer of the kind that its access awaits, is not refused
+pub rate-accepts : (x : Access) (port : Port) (ten : Bool) (s : Rate) (a : Answer) → standsRate (Ask x (Going port ten s)) → fits x a ≡ true
+    → stepRate (Going port ten s) a ≡ yes (tally (madeOf (s .moves)) (restRate port ten s a))
+unfolding standsRate stepRate question
+rate-accepts x port ten s a h e = rw (h .1, h .2, ← h .0, e)
+
+not-pairs : (k : Bool → Prog (R Bool)) (f : ℕ → Prog (R Bool)) → ((b : Bool) → Pairs false (k b) (λ _. false)) → ((v : ℕ) → Pairs false (f v) (λ _. false))
+    → (r : R ℕ) → Pairs false (orNot k f r) (λ _. false)
+unfolding orNot
+not-pairs k f e g (Ok v) = g v
+not-pairs k f e g (Err error) = pairs-pick false _ _ _ _ (e false) (pairs-ret false _)
+
+rate-byte-pairs : (port : Port) (ten ok : Bool) (offset : ℕ) (k : Bool → Prog (R Bool)) → ((b : Bool) → Pairs false (k b) (λ _. false))
+    → Pairs false (rateByte port ten ok offset k) (λ _. false)
+unfolding rateByte
+rate-byte-pairs port ten ok offset k e =
+    pairs-then false _ _ _ (transferred-pairs port (ReadByte DIAG offset) true (attempts port)) (not-pairs k _ e (λ v.
+    pairs-then false _ _ _ (transferred-pairs port (WriteByte DIAG offset (selected ten v)) true 2) (not-pairs k _ e (λ _. e ok))))
+
+-- each successful acquire gets one release call before the next acquire or the end, for every list of answers
+pub rate-paired : (port : Port) (ten : Bool) (l : List Answer) → Paired (softRateSelect port ten) l
+unfolding softRateSelect
+rate-paired port ten l =
+    pairs-paired _ l (rate-byte-pairs port ten true 0x6e _ (λ ok. rate-byte-pairs port ten ok 0x76 _ (λ both. pairs-ret false _)))

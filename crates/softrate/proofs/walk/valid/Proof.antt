@@ -1,0 +1,33 @@
+-- `valid` meets its contract.
+use Rattle.hardware.specs.Prog.{pick}
+use Rattle.hostif.specs.Hostif.{request}
+use Rattle.softrate.specs.Walk.{validRate}
+use Rattle.sync.specs.Resource.{taken}
+use borrow.Author.Needs.{needs}
+use Rattle.softrate.proofs.walk.valid.Statement.{statement}
+use Rattle.softrate.proofs.walk.valid.Tie as tie
+
+valid-requires : tie.Need-valid-requires
+valid-requires c κs = search needs
+
+cap-requires : tie.Need-cap-requires
+cap-requires c κs = search needs
+
+request-requires : tie.Need-request-requires
+request-requires c κs = search needs
+
+valid-requires-2 : tie.Need-valid-requires-2
+valid-requires-2 c κs = search needs
+
+returns : tie.Need-returns
+unfolding validRate pick
+returns c = rw (← c .before .before .before .before .valid .ensures, c .before .before .before .if1 .taken, ← c .before .before .cap .ensures, ← c .before .request .ensures) (c .valid2 .ensures)
+
+returns-2 : tie.Need-returns-2
+unfolding validRate pick
+returns-2 c = rw (← c .before .valid .ensures, c .if1 .left)
+
+pub valid-spec : {M : Type 1} → statement M
+valid-spec =
+    tie.close
+    (tie.spec valid-requires cap-requires request-requires valid-requires-2 returns returns-2)

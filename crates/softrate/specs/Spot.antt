@@ -1,0 +1,72 @@
+-- Where `soft_rate_select` stands: which of the two bytes, whether it is read or written back, and what is left then.
+use Prim.Native.Nat.{ℕ}
+use mathlib.Core.Bool.{Bool, true, false, _||_}
+use Rattle.hardware.specs.declared.Port.{Port}
+use Rattle.hardware.specs.Prog.{Prog, ret, R, Ok, _>>=_, pick}
+use Rattle.bus.specs.declared.Taken.{Taken}
+use Rattle.i2c.specs.declared.once.Request.{Request}
+use Rattle.i2c.specs.declared.once.Request.the-variants.{ReadByte, WriteByte}
+use Rattle.i2c.specs.I2c.{attempts, valueOf, transferred}
+use Rattle.sfp.specs.Rate.{DIAG, orNot, selected, rateByte}
+use Rattle.softrate.specs.declared.spot.Place.{Place}
+use Rattle.softrate.specs.declared.spot.Place.the-variants.{Reading, Writing}
+use Rattle.softrate.specs.declared.spot.Spot.{Spot}
+
+unfoldable pub offsetOf : Bool → ℕ
+offsetOf false = 0x6e
+offsetOf true = 0x76
+
+unfoldable pub requestOf : Bool → Bool → Place → Request
+requestOf ten second Reading = ReadByte DIAG (offsetOf second)
+requestOf ten second (Writing v) = WriteByte DIAG (offsetOf second) (selected ten v)
+
+unfoldable pub requestAt : Bool → Spot → Request
+requestAt ten s = requestOf ten (s .second) (s .place)
+
+unfoldable pub triesAt : Port → Place → ℕ
+triesAt port Reading = attempts port
+triesAt port (Writing v) = 2
+
+unfoldable pub isReading : Place → Bool
+isReading Reading = true
+isReading (Writing v) = false
+
+-- the most transfers of a request
+unfoldable pub needAt : Place → ℕ
+needAt Reading = 11
+needAt (Writing v) = 2
+
+-- the most transfers up to a request's end
+unfoldable pub capAt : Spot → ℕ
+capAt s = pick (s .second) (pick (isReading (s .place)) 24 26) (pick (isReading (s .place)) 11 13)
+
+-- and up to a byte's
+unfoldable pub doneAt : Bool → ℕ
+doneAt second = pick second 26 13
+
+-- before the first byte nothing has failed
+unfoldable pub validSpot : Spot → Bool
+validSpot s = pick (s .second) true (s .ok)
+
+-- what follows a byte; ok: whether all went well so far
+unfoldable pub nextByte : Port → Bool → Bool → Bool → Prog (R Bool)
+nextByte port ten false ok = rateByte port ten ok 0x76 (λ both. ret (Ok both))
+nextByte port ten true ok = ret (Ok ok)
+
+-- what is left once the request has succeeded: a byte that was read is changed and written
+unfoldable pub onPlace : Port → Bool → Bool → Bool → Place → ℕ → Prog (R Bool)
+onPlace port ten second ok Reading v =
+    transferred port (WriteByte DIAG (offsetOf second) (selected ten v)) true 2 >>= orNot (nextByte port ten second) (λ _. nextByte port ten second ok)
+onPlace port ten second ok (Writing w) v = nextByte port ten second ok
+
+unfoldable pub onAt : Port → Bool → Spot → ℕ → Prog (R Bool)
+onAt port ten s = onPlace port ten (s .second) (s .ok) (s .place)
+
+-- ... or has not
+unfoldable pub toldAt : Port → Bool → Spot → R Taken → Prog (R Bool)
+toldAt port ten s result = orNot (nextByte port ten (s .second)) (onAt port ten s) (valueOf (requestAt ten s) result)
+
+-- from the request on
+unfoldable pub placed : Port → Bool → Spot → Prog (R Bool)
+placed port ten s =
+    transferred port (requestAt ten s) true (triesAt port (s .place)) >>= orNot (nextByte port ten (s .second)) (onAt port ten s)

@@ -6,6 +6,7 @@ mod bench;
 mod case;
 mod driver;
 mod fresh;
+mod images;
 mod lines;
 mod list;
 mod rules;
@@ -19,7 +20,7 @@ use case::Case;
 use fresh::Fresh;
 
 const USAGE: &str =
-    "usage: oracle list | fresh SEED COUNT | replay FILE | trace FILE LINE | count FILE | bench SEED COUNT";
+    "usage: oracle list | fresh SEED COUNT | replay FILE | trace FILE LINE | count FILE | bench SEED COUNT | images DIR";
 /// Differing lines that `replay` shows.
 const SHOWN: usize = 10;
 
@@ -33,6 +34,7 @@ fn main() -> ExitCode {
         ["trace", file, line] => trace(file, line),
         ["count", file] => count(file),
         ["bench", seed, count] => bench(seed, count),
+        ["images", folder] => images::write(folder),
         _ => Err(USAGE.into()),
     };
     match done {

@@ -5,30 +5,19 @@ use mathlib.Core.Bool.{Bool, true, false}
 use Rattle.hardware.specs.declared.Port.{Port}
 use Rattle.hardware.specs.declared.change.Change.{Change}
 use Rattle.hardware.specs.Prog.{Prog, R, Ok, _>>?_, pick}
-use Rattle.hardware.specs.Registers.{ESDP, delayMs, noneOf}
+use Rattle.hardware.specs.Registers.{ESDP, delayMs}
 use Rattle.hardware.specs.Change.{change}
-use Rattle.sync.specs.Regs.{TOKEN, PHY0, PHY1, phy}
 use Rattle.acquire.specs.Acquire.{acquire, release}
 use Rattle.bus.specs.declared.Taken.{Taken}
-use Rattle.bus.specs.Layout.{x550em, layoutOf}
+use Rattle.bus.specs.Layout.{layoutOf}
 use Rattle.wire.specs.Always.{World, Always}
 use Rattle.wire.proofs.Always.{always-map, always-bind}
-use Rattle.i2c.specs.I2c.{SHARED-I2C, mask, askBus, giveBus, granting, granted, givenBus, onGrant, withBus, whenLock}
+use Rattle.i2c.specs.I2c.{mask, askBus, giveBus, granting, granted, givenBus, onGrant, withBus, whenLock}
+use Rattle.i2c.proofs.Masks.{mask-plain}
 use Rattle.demand.specs.Fine.{Fine}
 use Rattle.demand.specs.Claim.{staysIn, machine}
 use Rattle.demand.proofs.Fine.{fair-is, fine-map, fine-try, fine-pick, fine-ret, fine-lapsed, fine-read, fine-delay, fine-change, alone-then}
 use Rattle.demand.proofs.Locks.{aside, acquire-fine, release-fine, machine-unmoved}
-
--- the transfers' lock has no token
-plain : (a b : Bool) → noneOf (pick a SHARED-I2C (pick b PHY1 PHY0)) TOKEN ≡ true
-unfolding pick noneOf
-plain true b = refl
-plain false true = refl
-plain false false = refl
-
-pub mask-plain : (port : Port) → noneOf (mask port) TOKEN ≡ true
-unfolding mask phy
-mask-plain port = plain (x550em (port .family)) _
 
 module _ (port : Port) where
   pub mask-acquire-fine : Fine (layoutOf (port .family) .reg) staysIn (acquire port (mask port)) (λ r. r ≡ Ok tt)

@@ -15,3 +15,4 @@ pub mod Benched
 pub mod Claim
 pub mod Possible
 pub mod Ran
+pub mod Granted

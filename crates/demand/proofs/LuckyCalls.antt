@@ -28,7 +28,7 @@ use Rattle.sfp.specs.Identify.{EEPROM, orAbsent, byte, identifierOf, reachOf, b
 use Rattle.demand.specs.Fine.{Lucky}
 use Rattle.demand.specs.Luck.{luckyAt, lucky}
 use Rattle.demand.proofs.Locks.{aside}
-use Rattle.demand.proofs.Handshake.{mask-plain}
+use Rattle.i2c.proofs.Masks.{mask-plain}
 use Rattle.demand.proofs.Luck.{lucky-then, lucky-try, lucky-pick, lucky-ret, lucky-note, noteless-lucky, delay-lucky, read-lucky, change-lucky, acquire-lucky, release-lucky}
 
 -- nothing is asked of the result

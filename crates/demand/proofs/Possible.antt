@@ -73,14 +73,21 @@ dones-length : (n : ℕ) → length (dones n) ≡ n
 dones-length zero = refl
 dones-length (suc n) = ap suc (dones-length n)
 
--- For every port and every start, AckWrite included, a list of answers that meets the premises and is long enough
-pub possible : (port : Port) (b : Bench) (word : ℕ) → (answers : List Answer) × Premises port b word answers × (IDENTIFY-STEPS (port .family) ≤ length answers)
+-- the lucky answers to a whole identification, and more
+abbrev pub luckyAnswers : Port → Bench → ℕ → List Answer
+luckyAnswers port b word = played (layoutOf (port .family)) (identify port) (atStart word b) ++ dones (IDENTIFY-STEPS (port .family))
+
+pub lucky-meets : (port : Port) (b : Bench) (word : ℕ) → Premises port b word (luckyAnswers port b word)
 unfolding Premises
-possible port b word = (
-  played (layoutOf (port .family)) (identify port) (atStart word b) ++ dones (IDENTIFY-STEPS (port .family)),
-  lucky-premises (layoutOf (port .family)) (λ _. Unit {0}) (dones (IDENTIFY-STEPS (port .family))) (identify port) (atStart word b) (identify-lucky port),
-  long (played (layoutOf (port .family)) (identify port) (atStart word b)) (IDENTIFY-STEPS (port .family)),
-)
+lucky-meets port b word =
+    lucky-premises (layoutOf (port .family)) (λ _. Unit {0}) (dones (IDENTIFY-STEPS (port .family))) (identify port) (atStart word b) (identify-lucky port)
+
+pub lucky-long : (port : Port) (b : Bench) (word : ℕ) → IDENTIFY-STEPS (port .family) ≤ length (luckyAnswers port b word)
+lucky-long port b word = long (played (layoutOf (port .family)) (identify port) (atStart word b)) (IDENTIFY-STEPS (port .family))
   where
     long : (s : List Answer) (n : ℕ) → n ≤ length (s ++ dones n)
     long s n = omega (arith, length-append s (dones n), dones-length n)
+
+-- For every port and every start, AckWrite included, a list of answers that meets the premises and is long enough
+pub possible : (port : Port) (b : Bench) (word : ℕ) → (answers : List Answer) × Premises port b word answers × (IDENTIFY-STEPS (port .family) ≤ length answers)
+possible port b word = (luckyAnswers port b word, lucky-meets port b word, lucky-long port b word)

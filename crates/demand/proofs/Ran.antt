@@ -32,7 +32,7 @@ unfolding takesAll
 takes-forget [] s = refl
 takes-forget (e ∷ es) s = takes-forget es (machine .takes e s)
 
-wrote-forget : (l : Layout) (v : ℕ) (w : World machine) → forget (wrote l machine v w) ≡ wrote l side v (forget w)
+pub wrote-forget : (l : Layout) (v : ℕ) (w : World machine) → forget (wrote l machine v w) ≡ wrote l side v (forget w)
 unfolding wrote turn
 wrote-forget l v w = ap (λ b. record { word = v; other = b }) (takes-forget _ (w .other))
 

@@ -17,7 +17,8 @@ use Rattle.bench.specs.declared.Bench.{Bench}
 use Rattle.bench.specs.Register.{side}
 use Rattle.sfp.specs.declared.Module.{Module}
 use Rattle.sfp.specs.Identify.{identify}
-use Rattle.demand.specs.Claim.{machine, Outcome, ended, short, benched, atStart, Claimed}
+use Rattle.demand.specs.Claim.{machine, Outcome, ended, short, benched, atStart, Claimed, Premises}
+use Rattle.demand.specs.Luck.{lucky}
 
 -- it came to its end, the list was too short, or a question was answered with a number; I2CCTL and the module then
 pub data Ran (A : Type 0) : Type 0 where
@@ -57,3 +58,23 @@ Shown l b short o = ⊥
 
 unfoldable pub Demand3 : Port → Bench → ℕ → List Answer → Ran (Counted (R Module)) → Type 0
 Demand3 port b word answers o = Shown (layoutOf (port .family)) b (benched (layoutOf (port .family)) (identify port) (atStart word b) answers .outcome) o
+
+-- A call run on the bench where every lock and grant comes at once: all other accesses get the lucky answers
+unfoldable pub grantedAt : {A : Type 0} → Layout → Access → (Answer → World side → Ran A) → World side → Ran A
+grantedAt l (Read r) k w = pick (eqb r (l .reg)) (k (Value (reading l side w)) w) (k (lucky (Read r)) w)
+grantedAt l (Write r v) k w = pick (eqb r (l .reg)) (k Done (wrote l side v w)) (k (lucky (Write r v)) w)
+grantedAt l (Wait n) k w = k (lucky (Wait n)) w
+
+unfoldable pub granted : {A : Type 0} → Layout → Prog A → World side → Ran A
+granted l (ret a) w = came a w
+granted l (ask x f) w = grantedAt l x (λ a w′. granted l (f a) w′) w
+granted l (note n p) w = granted l p w
+granted l (give b p) w = granted l p w
+
+unfoldable pub grantedIdentify : Asked Port → World side → Ran (Counted (R Module))
+grantedIdentify (no n) w = stopped n w
+grantedIdentify (yes port) w = granted (layoutOf (port .family)) (tally 0 (identify port)) w
+
+-- Demand 3 of a result, by answers that meet the premises
+unfoldable pub Granted3 : Port → Bench → ℕ → Ran (Counted (R Module)) → Type 0
+Granted3 port b word o = (answers : List Answer) × Premises port b word answers × Demand3 port b word answers o

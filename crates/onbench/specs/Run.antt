@@ -19,7 +19,7 @@ use Rattle.identify.specs.declared.calls.IdentifyTold.{IdentifyTold}
 use Rattle.identify.specs.declared.calls.IdentifyTold.the-variants.{Ask, End, Refused}
 use Rattle.identify.specs.Walk.{foundOf}
 use Rattle.identify.specs.Calls.{saidIdentify, standsIdentify}
-use Rattle.demand.specs.Ran.{Ran, came, lacked, stopped, ran}
+use Rattle.demand.specs.Ran.{Ran, came, lacked, stopped, ran, granted}
 use Rattle.onbench.specs.declared.How.{How}
 use Rattle.onbench.specs.declared.How.the-variants.{Ended, Lacked, Stopped}
 use Rattle.onbench.specs.declared.Run.{Run}
@@ -46,29 +46,38 @@ unfoldable pub toldRan : Layout → Asked (Prog (Counted (R Module))) → World 
 toldRan l (no n) w answers = stopped n w
 toldRan l (yes p) w answers = ran l p w answers
 
-unfoldable pub leftOf : Layout → Stand → List ℕ → Ran (Counted (R Module))
-leftOf l s ns = toldRan l (saidIdentify (s .told)) (world (s .desk)) (decodedAll (drop (s .at) ns))
+unfoldable pub leftOf : Layout → List ℕ → Stand → Ran (Counted (R Module))
+leftOf l ns s = toldRan l (saidIdentify (s .told)) (world (s .desk)) (decodedAll (drop (s .at) ns))
+
+-- the same where every lock and grant comes at once
+unfoldable pub toldGranted : Layout → Asked (Prog (Counted (R Module))) → World side → Ran (Counted (R Module))
+toldGranted l (no n) w = stopped n w
+toldGranted l (yes p) w = granted l p w
+
+unfoldable pub grantedOf : Layout → Stand → Ran (Counted (R Module))
+grantedOf l s = toldGranted l (saidIdentify (s .told)) (world (s .desk))
 
 -- n more accesses are enough
 unfoldable pub Bounded : {A : Type 0} → Asked (Prog A) → ℕ → Type 0
 Bounded (no k) n = Unit {0}
 Bounded (yes p) n = Ends p n
 
--- a stand from which nothing more is done
-unfoldable pub FinalTold : IdentifyTold → Layout → Stand → List ℕ → Type 0
-FinalTold (Ask x c) l s ns = leftOf l s ns ≡ lacked (world (s .desk))
-FinalTold (End f made) l s ns = Unit {0}
-FinalTold (Refused q) l s ns = Unit {0}
+-- what a run comes to that stops at a stand
+unfoldable pub stopsAt : IdentifyTold → World side → Ran (Counted (R Module))
+stopsAt (Ask x c) w = lacked w
+stopsAt (End f made) w = came (record { transfers = made; result = foundOf f }) w
+stopsAt (Refused q) w = stopped (refusalNumber q) w
 
-unfoldable pub Final : Layout → Stand → List ℕ → Type 0
-Final l s ns = FinalTold (s .told) l s ns
+-- a stand from which nothing more is done; left: what is left of a run at each stand
+unfoldable pub Final : (Stand → Ran (Counted (R Module))) → Stand → Type 0
+Final left s = left s ≡ stopsAt (s .told) (world (s .desk))
 
 -- from one stand to the next: the run comes to the same, with one access less to go
-pub record Onward (l : Layout) (s : Stand) (ns : List ℕ) (t : Stand) : Type 0 where
-  pub same : leftOf l t ns ≡ leftOf l s ns
+pub record Onward (left : Stand → Ran (Counted (R Module))) (s t : Stand) : Type 0 where
+  pub same : left t ≡ left s
   pub stands : standsIdentify (t .told)
   pub less : t .over ≡ false → (n : ℕ) → Bounded (saidIdentify (s .told)) (suc n) → Bounded (saidIdentify (t .told)) n
-  pub final : t .over ≡ true → Final l t ns
+  pub final : t .over ≡ true → Final left t
 
-unfoldable pub Moved : Layout → Stand → List ℕ → Stand → Type 0
-Moved l s ns t = standsIdentify (s .told) → Onward l s ns t
+unfoldable pub Moved : (Stand → Ran (Counted (R Module))) → Stand → Stand → Type 0
+Moved left s t = standsIdentify (s .told) → Onward left s t

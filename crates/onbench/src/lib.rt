@@ -8,12 +8,10 @@ use hardware::Refusal;
 use identify::calls::IdentifyCall;
 use identify::calls::IdentifyTold;
 use identify::walk::Identified;
-ghost use Prim.Native.Nat.{_≤_, ℕ};
+ghost use Prim.Native.Nat.{_≤_};
 ghost use mathlib.Core.Path.{_≡_};
 ghost use mathlib.Core.Bool.{true, false};
 ghost use lib.ListN.{length};
-ghost use mathlib.Core.List.{List};
-ghost use Rattle.bus.specs.declared.Layout.{Layout};
 ghost use Rattle.hardware.specs.declared.Port.{Port};
 ghost use Rattle.hardware.specs.Asked.{yes, openPort};
 ghost use Rattle.bus.specs.Layout.{layoutOf};
@@ -21,8 +19,10 @@ ghost use Rattle.bench.specs.Register.{world};
 ghost use Rattle.sfp.proofs.Ends.{IDENTIFY-STEPS};
 ghost use Rattle.demand.specs.Claim.{Starts, Premises};
 ghost use Rattle.demand.specs.Ran.{ranIdentify, Demand3};
-ghost use Rattle.onbench.specs.Run.{decoded, decodedAll, ranOf, leftOf, Final, Moved, Bounded};
+ghost use Rattle.onbench.specs.Run.{decoded, decodedAll, ranOf, leftOf, stopsAt, Moved, Bounded};
 ghost use Rattle.identify.specs.Calls.{saidIdentify, standsIdentify};
+
+pub mod granted;
 
 // How a run ended: with the call's result and the transfers made, for want of answers, or by a refusal.
 pub enum How {
@@ -46,7 +46,7 @@ pub struct Stand {
 }
 
 // No identification has more accesses.
-const MOST: u64 = 1_600_450_488;
+pub(crate) const MOST: u64 = 1_600_450_488;
 
 // A number below 2^32 is a value that was read, 2^32 a write or a wait that is done, and any other a failed access.
 pub fn decode(n: u64) -> Answer
@@ -63,7 +63,7 @@ pub fn decode(n: u64) -> Answer
 
 // The access is I2CCTL's, and the module answers it; or it gets the next answer, if there is one.
 fn visit(family: Family, x: Access, c: IdentifyCall, d: Desk, at: usize, answers: &[u64]) -> Stand
-    ensures { λ s. ⌜ Moved (layoutOf family) (record { told = IdentifyTold.Ask x c; desk = d; at = at; over = false }) (now (answers .entry)) s ⌝ }
+    ensures { λ s. ⌜ Moved (leftOf (layoutOf family) (now (answers .entry))) (record { told = IdentifyTold.Ask x c; desk = d; at = at; over = false }) s ⌝ }
 {
     let r = bench::register::access(family, d, x);
     let after = r.desk;
@@ -93,7 +93,7 @@ fn visit(family: Family, x: Access, c: IdentifyCall, d: Desk, at: usize, answers
 }
 
 fn one(family: Family, s: Stand, answers: &[u64]) -> Stand
-    ensures { λ t. ⌜ (s .over ≡ false → Moved (layoutOf family) s (now (answers .entry)) t) ⌝ }
+    ensures { λ t. ⌜ (s .over ≡ false → Moved (leftOf (layoutOf family) (now (answers .entry))) s t) ⌝ }
 {
     let told = s.told;
     let d = s.desk;
@@ -115,8 +115,8 @@ fn one(family: Family, s: Stand, answers: &[u64]) -> Stand
     }
 }
 
-fn finish(s: Stand) -> Run
-    ensures { λ r. ⌜ ((l : Layout) (ns : List ℕ) → Final l s ns → ranOf r ≡ leftOf l s ns) ⌝ }
+pub(crate) fn finish(s: Stand) -> Run
+    ensures { λ r. ⌜ ranOf r ≡ stopsAt (s .told) (world (s .desk)) ⌝ }
 {
     let told = s.told;
     let d = s.desk;
@@ -137,7 +137,7 @@ fn finish(s: Stand) -> Run
 }
 
 fn play(family: Family, told: IdentifyTold, d: Desk, answers: &[u64]) -> Run
-    ensures { λ r. ⌜ (standsIdentify told → Bounded (saidIdentify told) 1600450488 → ranOf r ≡ leftOf (layoutOf family) (record { told = told; desk = d; at = 0; over = false }) (now (answers .entry))) ⌝ }
+    ensures { λ r. ⌜ (standsIdentify told → Bounded (saidIdentify told) 1600450488 → ranOf r ≡ leftOf (layoutOf family) (now (answers .entry)) (record { told = told; desk = d; at = 0; over = false })) ⌝ }
 {
     let mut s = Stand {
         told,

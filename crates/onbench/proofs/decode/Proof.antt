@@ -1,8 +1,9 @@
 -- `decode` meets its contract.
-use borrow.Author.Needs.{needs}
-use borrow.Author.Tests.{eq-eqb, le-ltb, lt-ltb, ne-eqb}
 use Rattle.hardware.specs.Prog.{pick}
 use Rattle.onbench.specs.Run.{decoded}
+use Rattle.sync.specs.Resource.{taken}
+use borrow.Author.Needs.{needs}
+use borrow.Author.Tests.{eq-eqb, le-ltb, lt-ltb, ne-eqb}
 use Rattle.onbench.proofs.decode.Statement.{statement}
 use Rattle.onbench.proofs.decode.Tie as tie
 

@@ -1,6 +1,8 @@
 -- `finish` meets its contract.
+use Rattle.demand.proofs.Benched.{told}
+use Rattle.hardware.specs.Runs.{given}
+use Rattle.onbench.specs.Run.{howOf, ranOf, stopsAt}
 use borrow.Author.Needs.{needs}
-use Rattle.onbench.proofs.Laws.{finish-ask, finish-end, finish-refused}
 use Rattle.onbench.proofs.finish.Statement.{statement}
 use Rattle.onbench.proofs.finish.Tie as tie
 
@@ -14,13 +16,16 @@ enum-known-told-2 : tie.Need-enum-known-told-2
 enum-known-told-2 c = search needs
 
 returns : tie.Need-returns
-returns c = λ l ns f. finish-ask l (c .before .before .before .args .s) ns _ _ (c .enum-told .given .1) f
+unfolding ranOf howOf stopsAt
+returns c = rw (c .enum-told .given .1)
 
 returns-2 : tie.Need-returns-2
-returns-2 c = λ l ns f. finish-end l (c .before .before .before .before .args .s) ns _ _ (c .before .told .given .1)
+unfolding ranOf howOf stopsAt
+returns-2 c = rw (c .before .told .given .1)
 
 returns-3 : tie.Need-returns-3
-returns-3 c = λ l ns f. finish-refused l (c .before .before .before .before .args .s) ns _ (c .before .told2 .given .1)
+unfolding ranOf howOf stopsAt
+returns-3 c = rw (c .before .told2 .given .1)
 
 pub finish-spec : {M : Type 1} → statement M
 finish-spec =

@@ -1,6 +1,8 @@
 -- `identify_on_bench` meets its contract.
-use borrow.Author.Needs.{needs}
+use Rattle.hardware.specs.Runs.{given}
 use Rattle.onbench.proofs.Laws.{opened-both, refused-both}
+use Rattle.script.specs.Script.{device}
+use borrow.Author.Needs.{needs}
 use Rattle.onbench.proofs.identify_on_bench.Statement.{statement}
 use Rattle.onbench.proofs.identify_on_bench.Tie as tie
 

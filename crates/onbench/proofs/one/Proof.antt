@@ -1,7 +1,11 @@
 -- `one` meets its contract.
-use borrow.Author.Needs.{needs}
 use Rattle.bus.specs.Layout.{layoutOf}
+use Rattle.demand.proofs.Benched.{told}
+use Rattle.demand.specs.Claim.{visit}
+use Rattle.hardware.specs.Runs.{given}
 use Rattle.onbench.proofs.Laws.{one-ask, one-end, one-refused}
+use Rattle.onbench.specs.Run.{leftOf}
+use borrow.Author.Needs.{needs}
 use Rattle.onbench.proofs.one.Statement.{statement}
 use Rattle.onbench.proofs.one.Tie as tie
 
@@ -18,7 +22,7 @@ enum-known-told-3 : tie.Need-enum-known-told-3
 enum-known-told-3 c = search needs
 
 returns : tie.Need-returns
-returns c = one-ask (layoutOf (c .before .before .before .before .before .before .args .family)) (c .before .before .before .before .before .before .args .s) (c .before .before .before .before .before .before .args .answers .now) (c .visit .result) _ _ (c .before .before .told .given .1) (c .visit .ensures)
+returns c = one-ask (leftOf (layoutOf (c .before .before .before .before .before .before .args .family)) (c .before .before .before .before .before .before .args .answers .now)) (c .before .before .before .before .before .before .args .s) (c .visit .result) _ _ (c .before .before .told .given .1) (c .visit .ensures)
 
 returns-2 : tie.Need-returns-2
 returns-2 c = λ _. one-end (layoutOf (c .before .before .before .before .before .args .family)) (c .before .before .before .before .before .args .s) (c .before .before .before .before .before .args .answers .now) _ _ (c .before .told2 .given .1)

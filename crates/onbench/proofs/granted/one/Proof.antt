@@ -1,0 +1,44 @@
+-- `one` meets its contract.
+use Rattle.bench.specs.Receiver.{at}
+use Rattle.bus.specs.Layout.{layoutOf}
+use Rattle.demand.proofs.Benched.{told}
+use Rattle.demand.specs.Claim.{visit}
+use Rattle.hardware.specs.Runs.{given}
+use Rattle.onbench.proofs.Laws.{granted-end, granted-refused, one-ask}
+use Rattle.onbench.specs.Run.{grantedOf}
+use borrow.Author.Needs.{needs}
+use Rattle.onbench.proofs.granted.one.Statement.{statement}
+use Rattle.onbench.proofs.granted.one.Tie as tie
+
+enum-known-told : tie.Need-enum-known-told
+enum-known-told c = search needs
+
+visit-requires : tie.Need-visit-requires
+visit-requires c κs = search needs
+
+enum-known-told-2 : tie.Need-enum-known-told-2
+enum-known-told-2 c = search needs
+
+enum-known-told-3 : tie.Need-enum-known-told-3
+enum-known-told-3 c = search needs
+
+returns : tie.Need-returns
+returns c = one-ask (grantedOf (layoutOf (c .before .before .before .before .before .args .family))) (c .before .before .before .before .before .args .s) (c .visit .result) _ _ (c .before .before .told .given .1) (c .visit .ensures (c .before .before .before .before .before .args .s .at))
+
+returns-2 : tie.Need-returns-2
+returns-2 c = λ _. granted-end (layoutOf (c .before .before .before .before .args .family)) (c .before .before .before .before .args .s) _ _ (c .before .told2 .given .1)
+
+returns-3 : tie.Need-returns-3
+returns-3 c = λ _. granted-refused (layoutOf (c .before .before .before .before .args .family)) (c .before .before .before .before .args .s) _ (c .before .told3 .given .1)
+
+pub one-spec : {M : Type 1} → statement M
+one-spec =
+    tie.close
+    (tie.spec
+    enum-known-told
+    visit-requires
+    enum-known-told-2
+    enum-known-told-3
+    returns
+    returns-2
+    returns-3)

@@ -1,0 +1,203 @@
+// The record of one image, a field to a line.
+use crate::ends;
+use crate::files::Image;
+use crate::print;
+use bench::Bench;
+use bench::Page;
+use bench::receiver::Receiver;
+use bench::register::Desk;
+use hardware::Port;
+use identify::walk::Identified;
+use onbench::How;
+use onbench::Run;
+use sfp::Module;
+use std::num::wrapping_add_u8;
+ghost use Prim.Native.Nat.{_≤_};
+ghost use lib.ListN.{length};
+ghost use mathlib.Core.Path.{_≡_};
+ghost use Rattle.report.specs.Text.{sumOf};
+
+// The low eight bits of the sum.
+fn sum(bytes: &[u8]) -> u8
+    ensures { λ r. ⌜ r ≡ sumOf (now (bytes .entry)) ⌝ }
+{
+    let mut total = 0;
+    let mut i = 0;
+    while i < bytes.len() {
+        total = wrapping_add_u8(total, bytes[i]);
+        i += 1;
+    }
+    total
+}
+
+// Bytes 63 and 95 of A0 are the sums of the bytes before them, the second from byte 64 on.
+fn sums(a0: [u8; 256]) {
+    let base = sum(&a0[..63]) == a0[63];
+    let extended = sum(&a0[64..95]) == a0[95];
+    text_of_sums(base, extended);
+}
+
+fn text_of_sums(base: bool, extended: bool) {
+    print::text(b"sums        ");
+    if base {
+        print::either(extended, b"both right\n", b"extended wrong\n");
+    } else {
+        print::either(extended, b"base wrong\n", b"both wrong\n");
+    }
+}
+
+// The length without the blanks at the end.
+fn trimmed(bytes: &[u8]) -> usize
+    ensures { λ n. ⌜ n ≤ length (now (bytes .entry)) ⌝ }
+{
+    let mut n = bytes.len();
+    while 0 < n {
+        if bytes[n - 1] != b' ' {
+            return n;
+        }
+        n -= 1;
+    }
+    n
+}
+
+fn field(bytes: &[u8]) {
+    let n = trimmed(bytes);
+    print::shown(print::STDOUT, &bytes[..n]);
+}
+
+// Vendor, part and serial number.
+fn names<'a>(a0: &'a [u8; 256], a2: &'a [u8; 256]) {
+    print::text(b"vendor      ");
+    field(bench::view::view(a0, a2, 0xa0, 20, 16));
+    print::text(b"\npart        ");
+    field(bench::view::view(a0, a2, 0xa0, 40, 16));
+    print::text(b"\nserial      ");
+    field(bench::view::view(a0, a2, 0xa0, 68, 16));
+    print::text(b"\n");
+}
+
+fn port(p: Port) {
+    let f = p.family;
+    print::text(b"port        ");
+    print::family(f);
+    print::text(b", port number ");
+    print::decimal(p.lan as u64);
+    print::text(b", PCI device ");
+    print::hex(p.device as u64, 4);
+    print::text(b"\n");
+}
+
+fn offsets(a0: Page, a2: Page) {
+    print::text(b", a0 ");
+    print::hex(a0.offset as u64, 2);
+    print::text(b", a2 ");
+    print::hex(a2.offset as u64, 2);
+    print::text(b"\n");
+}
+
+fn kept(r: Receiver) {
+    let s = r.stage;
+    let c = r.page;
+    print::stage(s);
+    print::text(b", taken ");
+    print::hex(r.bits as u64, 2);
+    print::text(b", page ");
+    print::page(c);
+    print::either(r.first, b", next offset", b", next data");
+    print::either(r.noted, b", sda high", b", sda low");
+}
+
+fn start(d: Desk) {
+    let b = d.bench;
+    print::text(b"start       ");
+    kept(b.receiver);
+    offsets(b.a0, b.a2);
+    print::text(b"control     ");
+    print::hex(d.word as u64, 8);
+    print::either(
+        bench::pulls_low(b),
+        b"; the module pulls SDA\n",
+        b"; the module does not pull SDA\n",
+    );
+}
+
+fn byte(name: &[u8], b: u8) {
+    print::text(name);
+    print::hex(b as u64, 2);
+    print::text(b"\n");
+}
+
+fn module(p: Port, m: Module) {
+    let k = m.kind;
+    let f = p.family;
+    print::text(b"kind        ");
+    print::kind(k, 0);
+    print::text(b"\nmultispeed  ");
+    print::either(m.multispeed, b"yes\n", b"no\n");
+    byte(b"identifier  ", m.identifier);
+    byte(b"comp_10g    ", m.comp10g);
+    byte(b"comp_1g     ", m.comp1g);
+    byte(b"cable       ", m.cable);
+    print::text(b"supported   ");
+    print::either(sfp::methods::supported(m, f), b"yes\n", b"no\n");
+}
+
+fn identified(p: Port, i: Identified) {
+    match i {
+        Identified::Ok(m) => module(p, m),
+        Identified::Err(e) => {
+            print::text(b"failed      ");
+            print::decimal(hardware::error_number(e) as u64);
+            print::text(b"\n");
+        }
+    }
+}
+
+// Only the first is met: every lock and grant comes, and the port was opened before.
+fn how(p: Port, h: How) {
+    match h {
+        How::Ended(i, made) => {
+            identified(p, i);
+            print::text(b"transfers   ");
+            print::decimal(made as u64);
+            print::text(b"\n");
+        }
+        How::Lacked => print::text(b"the call did not end\n"),
+        How::Stopped(_) => print::text(b"the call was refused\n"),
+    }
+}
+
+fn end(p: Port, before: Bench, d: Desk) {
+    let after = d.bench;
+    let r = after.receiver;
+    let f = p.family;
+    let s = r.stage;
+    print::text(b"module      ");
+    print::stage(s);
+    print::either(
+        ends::released(f, d),
+        b", both lines released",
+        b", a line held low",
+    );
+    print::either(
+        ends::same(before, after),
+        b", bytes same",
+        b", bytes changed",
+    );
+    offsets(after.a0, after.a2);
+}
+
+pub(crate) fn all(path: &[u8], image: Image, p: Port, before: Desk, r: Run) {
+    let a0 = image.a0;
+    let a2 = image.a2;
+    print::text(b"image       ");
+    print::shown(print::STDOUT, path);
+    print::text(b"\n");
+    names(&a0, &a2);
+    sums(a0);
+    port(p);
+    start(before);
+    let h = r.how;
+    how(p, h);
+    end(p, before.bench, r.desk);
+}

@@ -1,0 +1,318 @@
+// The shipped images, each from every state of the receiver.
+use crate::ends;
+use crate::faults;
+use crate::files;
+use crate::files::Image;
+use crate::files::Size;
+use crate::print;
+use crate::start;
+use bench::register::Desk;
+use hardware::Family;
+use identify::walk::Identified;
+use onbench::How;
+use onbench::Run;
+use sfp::Kind;
+use sfp::Module;
+use std::num::wrapping_add_u32;
+ghost use Prim.Native.Nat.{_≤_};
+
+// The port: 82599, number 0.
+const NUMBER: u32 = 0;
+
+const DEVICE: u16 = 0x10fb;
+
+// Shipped images.
+const IMAGES: u8 = 14;
+
+// ended: with a record, after so many transfers.
+pub struct Seen {
+    pub ended: bool,
+    pub module: Module,
+    pub made: u32,
+}
+
+// right: the states with the record of Idle. more: those among them with one transfer more.
+pub struct Tally {
+    pub right: u32,
+    pub more: u32,
+}
+
+fn nothing() -> Seen {
+    Seen {
+        ended: false,
+        module: sfp::methods::absent(),
+        made: 0,
+    }
+}
+
+fn identified(i: Identified, made: u32) -> Seen {
+    match i {
+        Identified::Ok(module) => Seen {
+            ended: true,
+            module,
+            made,
+        },
+        Identified::Err(_) => nothing(),
+    }
+}
+
+fn outcome(h: How) -> Seen {
+    match h {
+        How::Ended(i, made) => identified(i, made),
+        How::Lacked => nothing(),
+        How::Stopped(_) => nothing(),
+    }
+}
+
+fn identify(d: Desk) -> Run {
+    onbench::granted::identify_granted(NUMBER, DEVICE, 0, d)
+}
+
+fn desk(image: Image, n: u8) -> Desk {
+    let a0 = image.a0;
+    let a2 = image.a2;
+    start::state(Family::F82599, n, a0, a2)
+}
+
+fn kind_number(k: Kind) -> u8 {
+    match k {
+        Kind::DaCu => 0,
+        Kind::DaActiveLimiting => 1,
+        Kind::SrLr => 2,
+        Kind::Cu1g => 3,
+        Kind::Sx1g => 4,
+        Kind::Lx1g => 5,
+        Kind::Bx10g => 6,
+        Kind::Bx1g => 7,
+        Kind::Unknown => 8,
+        Kind::NotPresent => 9,
+    }
+}
+
+fn same_class(m: Module, n: Module) -> bool {
+    let one = m.kind;
+    let other = n.kind;
+    if kind_number(one) == kind_number(other) {
+        return m.multispeed == n.multispeed;
+    }
+    false
+}
+
+// No byte changed, and at the end Idle with both lines released.
+fn left_alone(before: Desk, after: Desk) -> bool {
+    if ends::same(before.bench, after.bench) {
+        if ends::idle(after) {
+            return ends::released(Family::F82599, after);
+        }
+    }
+    false
+}
+
+fn right(idle: Seen, before: Desk, s: Seen, after: Desk) -> bool {
+    if s.ended {
+        if same_class(idle.module, s.module) {
+            return left_alone(before, after);
+        }
+    }
+    false
+}
+
+fn longer(idle: Seen, before: Desk, s: Seen) -> bool {
+    if bench::pulls_low(before.bench) {
+        return s.made == wrapping_add_u32(idle.made, 1);
+    }
+    false
+}
+
+fn one_if(yes: bool) -> u32
+    ensures { λ r. ⌜ r ≤ 1 ⌝ }
+{
+    if yes {
+        return 1;
+    }
+    0
+}
+
+fn counted(t: Tally, idle: Seen, image: Image, n: u8) -> Tally {
+    let before = desk(image, n);
+    let r = identify(before);
+    let h = r.how;
+    let s = outcome(h);
+    if right(idle, before, s, r.desk) {
+        return Tally {
+            right: wrapping_add_u32(t.right, 1),
+            more: wrapping_add_u32(t.more, one_if(longer(idle, before, s))),
+        };
+    }
+    t
+}
+
+fn tallied(idle: Seen, image: Image) -> Tally {
+    let mut t = Tally { right: 0, more: 0 };
+    for n in 0..start::STATES {
+        t = counted(t, idle, image, n);
+    }
+    t
+}
+
+fn byte(b: u8) {
+    print::hex(b as u64, 2);
+    print::text(b" ");
+}
+
+fn supports(m: Module, f: Family) -> u32
+    ensures { λ r. ⌜ r ≤ 1 ⌝ }
+{
+    one_if(sfp::methods::supported(m, f))
+}
+
+fn support(m: Module) -> u32 {
+    let early = supports(m, Family::F82599) + supports(m, Family::X540) + supports(m, Family::X550);
+    early + supports(m, Family::X552) + supports(m, Family::X553)
+}
+
+fn family(m: Module, f: Family) {
+    if sfp::methods::supported(m, f) {
+        print::family(f);
+        print::text(b" ");
+    }
+}
+
+// By name where it is a part of them.
+fn families(m: Module) {
+    match support(m) {
+        0 => print::left(b"none", 16),
+        5 => print::left(b"all", 16),
+        _ => {
+            family(m, Family::F82599);
+            family(m, Family::X540);
+            family(m, Family::X550);
+            family(m, Family::X552);
+            family(m, Family::X553);
+        }
+    }
+}
+
+fn module(m: Module) {
+    let k = m.kind;
+    print::kind(k, 17);
+    print::either(m.multispeed, b"y ", b"n ");
+    byte(m.identifier);
+    byte(m.comp10g);
+    byte(m.comp1g);
+    byte(m.cable);
+    families(m);
+}
+
+fn ending(s: Seen) {
+    let m = s.module;
+    let k = m.kind;
+    print::kind(k, 0);
+    print::text(b" ");
+    print::decimal(s.made as u64);
+    print::text(b"\n");
+}
+
+fn counts(idle: Seen, t: Tally) {
+    print::decimal(idle.made as u64);
+    print::text(b" ");
+    print::decimal(t.right as u64);
+    print::text(b" ");
+    print::decimal(t.more as u64);
+    print::text(b"  ");
+}
+
+fn run(image: Image, n: u8) -> Seen {
+    let r = identify(desk(image, n));
+    let h = r.how;
+    outcome(h)
+}
+
+fn row(name: &[u8], image: Image) {
+    let idle = run(image, start::IDLE);
+    let t = tallied(idle, image);
+    print::left(name, 10);
+    module(idle.module);
+    counts(idle, t);
+    ending(run(image, start::ACK_WRITE));
+}
+
+fn title() {
+    print::text(
+        b"Images of modules (made, not dumped) identified on the bench, each from the 39\n",
+    );
+    print::text(
+        b"states in which a reset can leave the receiver; 82599, port 0, PCI device 10fb.\n",
+    );
+    print::text(b"  m         multispeed; 0, 3, 6, 8: these bytes of A0, as recorded\n");
+    print::text(b"  T         transfers made from the state Idle\n");
+    print::text(b"  OK        states with the same kind and multispeed, no byte of the module\n");
+    print::text(b"            changed, and at the end the module Idle and both lines released\n");
+    print::text(b"  +1        those of them with one transfer more, as the module pulled SDA\n");
+    print::text(b"  AckWrite  what this state gave, and after how many transfers\n");
+    print::text(b"image     kind             m 0  3  6  8  supported by    T OK +1 AckWrite\n");
+}
+
+// Whether the image can be read; if so and `printed`, its line.
+fn one(name: &[u8], printed: bool) -> bool {
+    let image = files::read(name);
+    let size = image.size;
+    match size {
+        Size::Whole => {
+            if printed {
+                row(name, image);
+            }
+            true
+        }
+        Size::Short(_) => refused(name, size),
+        Size::Long => refused(name, size),
+        Size::Unread => refused(name, size),
+    }
+}
+
+fn refused(name: &[u8], size: Size) -> bool {
+    faults::shipped(name, size);
+    false
+}
+
+fn shipped(n: u8, printed: bool) -> bool {
+    match n {
+        0 => one(b"dacu.bin", printed),
+        1 => one(b"daact.bin", printed),
+        2 => one(b"sr.bin", printed),
+        3 => one(b"srsx.bin", printed),
+        4 => one(b"lr.bin", printed),
+        5 => one(b"lrlx.bin", printed),
+        6 => one(b"t.bin", printed),
+        7 => one(b"sx.bin", printed),
+        8 => one(b"lx.bin", printed),
+        9 => one(b"bx10g.bin", printed),
+        10 => one(b"bx1g.bin", printed),
+        11 => one(b"lrm.bin", printed),
+        12 => one(b"dalin.bin", printed),
+        _ => one(b"sff.bin", printed),
+    }
+}
+
+// Nothing is printed where one cannot be read.
+fn readable() -> bool {
+    for n in 0..IMAGES {
+        if !shipped(n, false) {
+            return false;
+        }
+    }
+    true
+}
+
+fn rows() {
+    for n in 0..IMAGES {
+        shipped(n, true);
+    }
+}
+
+pub(crate) fn all() {
+    if readable() {
+        title();
+        rows();
+    }
+}

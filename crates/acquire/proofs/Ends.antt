@@ -14,7 +14,7 @@ use Rattle.sync.specs.Regs.{tries}
 use Rattle.sync.specs.Resource.{acquireBits}
 use Rattle.sync.proofs.Ends.{ACQUIRE-BITS-STEPS, RELEASE-BITS-STEPS, acquire-bits-ends, release-bits-ends}
 use Rattle.hostif.proofs.Ends.{TOKEN-STEPS, token-ends}
-use Rattle.acquire.specs.Acquire.{TOKEN-TRIES, hwOf, withBits, acquiredAll, notGranted, givenBack, tokenSeen, acquireToken, acquire, giveBits, tokenGiven, release}
+use Rattle.hostif.specs.Acquire.{TOKEN-TRIES, hwOf, withBits, acquiredAll, notGranted, givenBack, tokenSeen, acquireToken, acquire, giveBits, tokenGiven, release}
 
 -- a try that the firmware refuses: the bits, the token, the bits back, a wait
 abbrev pub TOKEN-TRY-STEPS : Family → ℕ

@@ -6,7 +6,7 @@ use borrow.Author.Tests.{eq-eqb, ne-eqb}
 use Rattle.hardware.specs.Prog.{erase, orErr, pick, _>>=_, _>>?_}
 use Rattle.hardware.specs.declared.Port.{Port}
 use Rattle.sync.specs.Resource.{acquireBits}
-use Rattle.acquire.specs.Acquire.{withBits, acquireToken, tryToken}
+use Rattle.hostif.specs.Acquire.{withBits, acquireToken, tryToken}
 
 -- with a try left, the token's loop begins by the bits
 pub token-more : (port : Port) (hw tries : ℕ) → (tries ≡ 0 → ⊥)

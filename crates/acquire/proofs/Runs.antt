@@ -22,7 +22,8 @@ use Rattle.acquire.specs.declared.calls.AcquireTold.the-variants.{Ask as
 use Rattle.acquire.specs.declared.calls.ReleaseCall.the-variants.{Going as ReleaseGoing}
 use Rattle.acquire.specs.declared.calls.ReleaseTold.{ReleaseTold}
 use Rattle.acquire.specs.declared.calls.ReleaseTold.the-variants.{Ask as ReleaseAsk}
-use Rattle.acquire.specs.Acquire.{acquire, restAcquire, release, restRelease}
+use Rattle.hostif.specs.Acquire.{acquire, release}
+use Rattle.acquire.specs.Acquire.{restAcquire, restRelease}
 use Rattle.acquire.specs.Calls.{openAcquire, stepAcquire, saidAcquire, standsAcquire, openRelease, stepRelease, saidRelease, standsRelease}
 use Rattle.acquire.proofs.Ends.{ACQUIRE-STEPS, acquire-ends, RELEASE-STEPS, release-ends}
 

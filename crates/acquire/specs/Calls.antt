@@ -15,7 +15,8 @@ use Rattle.acquire.specs.declared.calls.ReleaseCall.{ReleaseCall}
 use Rattle.acquire.specs.declared.calls.ReleaseCall.the-variants.{Going as ReleaseGoing, Over as ReleaseOver}
 use Rattle.acquire.specs.declared.calls.ReleaseTold.{ReleaseTold}
 use Rattle.acquire.specs.declared.calls.ReleaseTold.the-variants.{Ask as ReleaseAsk, End as ReleaseEnd, Refused as ReleaseRefused}
-use Rattle.acquire.specs.Acquire.{acquire, accessAcquire, restAcquire, validAcquire, release, accessRelease, restRelease, validRelease}
+use Rattle.hostif.specs.Acquire.{acquire, release}
+use Rattle.acquire.specs.Acquire.{accessAcquire, restAcquire, validAcquire, accessRelease, restRelease, validRelease}
 
 -- `acquire`: 1 and 2. The mask is any 32 bits
 unfoldable pub openAcquire : ℕ → ℕ → ℕ → ℕ → Asked (Prog (R (Unit {0})))

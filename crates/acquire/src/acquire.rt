@@ -21,7 +21,8 @@ ghost use Rattle.hardware.specs.Prog.{erase, followed, orErr};
 ghost use Rattle.hardware.specs.Registers.{flag};
 ghost use Rattle.sync.specs.Resource.{acquireBits, acquireBitsNext, validAcquireBitsNext, releaseBitsNext, validReleaseBitsNext};
 ghost use Rattle.hostif.specs.Hostif.{tokenNext, validTokenNext};
-ghost use Rattle.acquire.specs.Acquire.{TOKEN-TRIES, hwOf, notGranted, givenBack, tokenSeen, acquireToken, tryToken, afterBits, acquire, accessAcquireAt, accessAcquire, restAcquireAt, restAcquire, acquireNext, validAcquireAt, validAcquire, validAcquireNext};
+ghost use Rattle.hostif.specs.Acquire.{TOKEN-TRIES, hwOf, notGranted, givenBack, tokenSeen, acquireToken, tryToken, afterBits, acquire};
+ghost use Rattle.acquire.specs.Acquire.{accessAcquireAt, accessAcquire, restAcquireAt, restAcquire, acquireNext, validAcquireAt, validAcquire, validAcquireNext};
 
 pub const TOKEN_TRIES: u32 = 1000;
 

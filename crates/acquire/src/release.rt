@@ -17,7 +17,8 @@ ghost use Rattle.hardware.specs.Prog.{erase, followed, orErr, ret};
 ghost use Rattle.hardware.specs.Registers.{flag, outcome};
 ghost use Rattle.sync.specs.Resource.{releaseBitsNext, validReleaseBitsNext};
 ghost use Rattle.hostif.specs.Hostif.{tokenNext, validTokenNext};
-ghost use Rattle.acquire.specs.Acquire.{hwOf, giveBits, tokenGiven, release, accessRelease, restRelease, releaseNext, validRelease, validReleaseNext};
+ghost use Rattle.hostif.specs.Acquire.{hwOf, giveBits, tokenGiven, release};
+ghost use Rattle.acquire.specs.Acquire.{accessRelease, restRelease, releaseNext, validRelease, validReleaseNext};
 
 // Bits: with how the token's release ended.
 pub enum Release {

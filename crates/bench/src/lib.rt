@@ -5,6 +5,7 @@ ghost use Rattle.bench.specs.Bench.{onward, under, acted, pageOf, withPa
 ghost use Rattle.bench.specs.Edges.{edgeOf};
 
 pub mod lent;
+pub mod luck;
 pub mod receiver;
 pub mod register;
 pub mod view;

@@ -18,7 +18,7 @@ use Rattle.bench.specs.declared.Bench.{Bench}
 use Rattle.bench.specs.Register.{side}
 use Rattle.sfp.specs.Identify.{identify}
 use Rattle.demand.specs.Fine.{names}
-use Rattle.demand.specs.Luck.{lucky}
+use Rattle.bench.specs.Luck.{lucky}
 use Rattle.demand.specs.Claim.{machine, atStart, Starts, Premises}
 use Rattle.demand.specs.Ran.{Ran, nextAnswer, ranAt, ran, forget, Demand3, grantedAt, granted, Granted3}
 use Rattle.demand.proofs.Benched.{wrote-made}

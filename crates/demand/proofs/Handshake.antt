@@ -7,7 +7,7 @@ use Rattle.hardware.specs.declared.change.Change.{Change}
 use Rattle.hardware.specs.Prog.{Prog, R, Ok, _>>?_, pick}
 use Rattle.hardware.specs.Registers.{ESDP, delayMs}
 use Rattle.hardware.specs.Change.{change}
-use Rattle.acquire.specs.Acquire.{acquire, release}
+use Rattle.hostif.specs.Acquire.{acquire, release}
 use Rattle.bus.specs.declared.Taken.{Taken}
 use Rattle.bus.specs.Layout.{layoutOf}
 use Rattle.wire.specs.Always.{World, Always}

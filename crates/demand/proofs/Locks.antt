@@ -14,7 +14,7 @@ use Rattle.hardware.specs.Change.{change}
 use Rattle.sync.specs.Regs.{TOKEN, TRIES, swsm, swFwSync, tries, smbiWatch, regsmpWatch, setSwesmbi, backSwsm, clearSync, setMux}
 use Rattle.sync.specs.Lock.{swesmbi, swesmbiSeen, lapsed, swesmbiDone, regsmpDone, second, smbiDone, lock, unlock}
 use Rattle.sync.specs.Resource.{muxed, taken, free, syncSeen, acquireTries, acquireBits, settle, cleared, clearBits, clearing, unmuxed, releaseBits}
-use Rattle.acquire.specs.Acquire.{hwOf, withBits, acquiredAll, acquire, giveBits, release}
+use Rattle.hostif.specs.Acquire.{hwOf, withBits, acquiredAll, acquire, giveBits, release}
 use Rattle.bus.specs.Layout.{x550em, layoutOf}
 use Rattle.wire.specs.Lines.{distinct}
 use Rattle.demand.specs.Fine.{Fine}

@@ -21,12 +21,12 @@ use Rattle.hardware.specs.Poll.{polled, poll}
 use Rattle.sync.specs.Regs.{TOKEN, SMBI, REGSMP, swsm, swFwSync, tries, smbiWatch, regsmpWatch, setSwesmbi, backSwsm, clearSync, setMux}
 use Rattle.sync.specs.Lock.{swesmbi, swesmbiSeen, swesmbiDone, regsmpDone, second, smbiDone, lock, unlock}
 use Rattle.sync.specs.Resource.{against, muxed, taken, free, syncSeen, acquireTries, acquireBits, settle, cleared, clearBits, clearing, unmuxed, releaseBits}
-use Rattle.acquire.specs.Acquire.{hwOf, withBits, acquiredAll, acquire, giveBits, release}
+use Rattle.hostif.specs.Acquire.{hwOf, withBits, acquiredAll, acquire, giveBits, release}
 use Rattle.bus.specs.Layout.{layoutOf}
 use Rattle.bus.proofs.Noteless.{Noteless}
 use Rattle.demand.specs.Fine.{names, Chosen, Unlapsed, Lucky}
 use Rattle.demand.specs.Claim.{staysIn}
-use Rattle.demand.specs.Luck.{luckyAt, lucky}
+use Rattle.bench.specs.Luck.{luckyAt, lucky}
 use Rattle.demand.proofs.Locks.{Aside, aside}
 
 chosen-map : (b : Bool) {X Y X′ Y′ : Type 0} → (X → X′) → (Y → Y′) → Chosen b X Y → Chosen b X′ Y′

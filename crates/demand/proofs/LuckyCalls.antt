@@ -7,7 +7,7 @@ use Rattle.hardware.specs.declared.change.Change.{Change}
 use Rattle.hardware.specs.Prog.{Prog, ret, Attempt, R, Ok, Err, _>>=_, pick}
 use Rattle.hardware.specs.Registers.{ESDP, noneOf}
 use Rattle.hardware.specs.Change.{change}
-use Rattle.acquire.specs.Acquire.{acquire, release}
+use Rattle.hostif.specs.Acquire.{acquire, release}
 use Rattle.bus.specs.declared.Layout.{Layout}
 use Rattle.bus.specs.declared.Taken.{Taken}
 use Rattle.bus.specs.Layout.{layoutOf}
@@ -26,7 +26,7 @@ use Rattle.sfp.specs.declared.Module.{Module}
 use Rattle.sfp.specs.declared.Codes.{Codes}
 use Rattle.sfp.specs.Identify.{EEPROM, orAbsent, byte, identifierOf, reachOf, bx10gOf, kindBy, classify, recorded, known, identified, identify}
 use Rattle.demand.specs.Fine.{Lucky}
-use Rattle.demand.specs.Luck.{luckyAt, lucky}
+use Rattle.bench.specs.Luck.{luckyAt, lucky}
 use Rattle.demand.proofs.Locks.{aside}
 use Rattle.i2c.proofs.Masks.{mask-plain}
 use Rattle.demand.proofs.Luck.{lucky-then, lucky-try, lucky-pick, lucky-ret, lucky-note, noteless-lucky, delay-lucky, read-lucky, change-lucky, acquire-lucky, release-lucky}

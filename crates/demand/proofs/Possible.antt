@@ -19,7 +19,7 @@ use Rattle.bench.specs.declared.Bench.{Bench}
 use Rattle.sfp.specs.Identify.{identify}
 use Rattle.sfp.proofs.Ends.{IDENTIFY-STEPS}
 use Rattle.demand.specs.Fine.{names, Chosen, Unlapsed, Lucky}
-use Rattle.demand.specs.Luck.{lucky}
+use Rattle.bench.specs.Luck.{lucky}
 use Rattle.demand.specs.Claim.{machine, Event, answered, moved, noticed, Story, saw, elsewhere, visit, benched, Each, Works, Comes, Premise, atStart, Starts, Premises}
 use Rattle.demand.proofs.Luck.{lucky-stays}
 use Rattle.demand.proofs.LuckyCalls.{identify-lucky}

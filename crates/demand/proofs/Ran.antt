@@ -1,6 +1,6 @@
 -- What the library's call comes to on the bench is what the Rust's comes to there, where the answers meet the premises.
 use Prim.Native.Nat.{ℕ, _≤_}
-use mathlib.Core.Path.{_≡_, refl, ap, ap₂, subst}
+use mathlib.Core.Path.{_≡_, refl, ap, subst, subst⁻¹}
 use mathlib.Core.Bool.{Bool, true, false}
 use mathlib.Core.List.{List, [], _∷_}
 use lib.Dec.{T, eqb}
@@ -23,9 +23,9 @@ use Rattle.sfp.specs.Identify.{identify}
 use Rattle.sfp.proofs.Ends.{IDENTIFY-STEPS}
 use Rattle.demand.specs.Fine.{names}
 use Rattle.demand.specs.Claim.{Met, machine, Outcome, ended, short, Story, elsewhere, visit, benched, Each, Works, Premise, atStart, Claimed, Holds, Claim, Starts, Premises}
-use Rattle.demand.specs.Ran.{Ran, came, lacked, stopped, nextAnswer, ranAt, ran, forget, Shown, Demand3}
+use Rattle.demand.specs.Ran.{Ran, came, lacked, stopped, Came, nextAnswer, ranAt, ran, forget, Shown, Demand3}
 use Rattle.demand.proofs.Benched.{works-fits, wrote-made}
-use Rattle.demand.proofs.Claim.{identified}
+use Rattle.demand.proofs.Claim.{identified, identified-ended}
 
 takes-forget : (es : List Edge) (s : Met) → takesAll machine es s .bench ≡ takesAll side es (s .bench)
 unfolding takesAll
@@ -36,10 +36,10 @@ pub wrote-forget : (l : Layout) (v : ℕ) (w : World machine) → forget (wrote 
 unfolding wrote turn
 wrote-forget l v w = ap (λ b. record { word = v; other = b }) (takes-forget _ (w .other))
 
--- an outcome that is reached is the library's too, with the transfers made beside the result
+-- both runs come to the same end, the library's with the transfers made beside the result, or both lack answers
 unfoldable pub Agrees : {A : Type 0} → Outcome A → Ran (Counted A) → Type 0
 Agrees (ended a w) o = o ≡ came (record { transfers = w .other .made; result = a }) (forget w)
-Agrees short o = Unit {0}
+Agrees short o = (u : World side) × (o ≡ lacked u)
 
 true-fits : (x : Access) (a : Answer) → Works x a → fits x a ≡ true
 true-fits x a m = is (fits x a) (works-fits x a m)
@@ -53,7 +53,7 @@ module _ (l : Layout) {A : Type 0} where
       → ((a : Answer) (rest : List Answer) → Each Premise (k a rest .events) → Agrees (k a rest .outcome) (h a rest))
       → Each Premise (elsewhere x k answers .events) → Agrees (elsewhere x k answers .outcome) (nextAnswer x h w answers)
   unfolding elsewhere nextAnswer Each Premise Agrees pick
-  by-list x k h w [] e m = tt
+  by-list x k h w [] e m = (w, refl)
   by-list x k h w (a ∷ rest) e m = rw (true-fits x a (m .0)) (e a rest (m .1))
 
   agrees-at : (x : Access) (b : Bool) (f : Answer → Prog A) (w : World machine) (answers : List Answer) → names (l .reg) x ≡ b
@@ -79,17 +79,31 @@ module _ (l : Layout) {A : Type 0} where
   agrees (note k p) w answers m = agrees p (noted machine k w) answers (m .1)
   agrees (give b p) w answers m = agrees p w answers m
 
-shown : (l : Layout) (b : Bench) (o : Outcome (R Module)) (p : Outcome (Counted (R Module))) (r : Ran (Counted (R Module)))
-    → Holds l b o p → Agrees o r → Shown l b o r
-unfolding Holds Agrees Shown
-shown l b (ended a w) (ended c v) r h e = (e, subst (λ (d : Counted (R Module)). Claimed l b d w) (ap₂ (λ t x. record { transfers = t; result = x }) (h .1 .count) (h .0)) (h .1))
-shown l b (ended a w) short r h e = absurd h
-shown l b short p r h e = absurd h
+shown : (l : Layout) (b : Bench) (o : Outcome (R Module)) (r : Ran (Counted (R Module))) → Agrees o r → Came r
+    → ((a : R Module) (w : World machine) → o ≡ ended a w → Claimed l b (record { transfers = w .other .made; result = a }) w) → Shown l b o r
+unfolding Agrees Came Shown
+shown l b (ended a w) r e c h = (e, h a w refl)
+shown l b short r e c h = absurd (subst Came (e .1) c)
 
--- Demand 3 of whatever the library's `identify` comes to on the bench
-pub demand-3 : (port : Port) (b : Bench) (word : ℕ) (answers : List Answer) → Starts port b word → Premises port b word answers
-    → IDENTIFY-STEPS (port .family) ≤ length answers
-    → Demand3 port b word answers (ran (layoutOf (port .family)) (tally 0 (identify port)) (record { word = word; other = b }) answers)
-unfolding Demand3 Claim Premises
-demand-3 port b word answers s m n =
-    shown (layoutOf (port .family)) b _ _ _ (identified port b word answers s m n) (agrees (layoutOf (port .family)) (identify port) (atStart word b) answers m)
+reached : (l : Layout) (b : Bench) (o : Outcome (R Module)) (p : Outcome (Counted (R Module))) (r : Ran (Counted (R Module))) → Holds l b o p → Agrees o r → Came r
+unfolding Holds Agrees Came
+reached l b (ended a w) p r h e = subst⁻¹ Came e tt
+reached l b short p r h e = absurd h
+
+module _ (port : Port) (b : Bench) (word : ℕ) (answers : List Answer) (s : Starts port b word) (m : Premises port b word answers) where
+  abbrev run : Ran (Counted (R Module))
+  run = ran (layoutOf (port .family)) (tally 0 (identify port)) (record { word = word; other = b }) answers
+
+  same : Agrees (benched (layoutOf (port .family)) (identify port) (atStart word b) answers .outcome) run
+  unfolding Premises
+  same = agrees (layoutOf (port .family)) (identify port) (atStart word b) answers m
+
+  -- Demand 3 of the library's `identify` on the bench, whenever it has come to its end
+  pub demand-3-ended : Came run → Demand3 port b word answers run
+  unfolding Demand3
+  demand-3-ended c = shown (layoutOf (port .family)) b _ _ same c (identified-ended port b word answers s m)
+
+  -- as it has for every list that is long enough
+  pub demand-3 : IDENTIFY-STEPS (port .family) ≤ length answers → Demand3 port b word answers run
+  unfolding Claim
+  demand-3 n = demand-3-ended (reached (layoutOf (port .family)) b _ _ _ (identified port b word answers s m n) same)

@@ -1,4 +1,3 @@
 pub mod Claim
 pub mod Fine
-pub mod Luck
 pub mod Ran

@@ -18,13 +18,18 @@ use Rattle.bench.specs.Register.{side}
 use Rattle.sfp.specs.declared.Module.{Module}
 use Rattle.sfp.specs.Identify.{identify}
 use Rattle.demand.specs.Claim.{machine, Outcome, ended, short, benched, atStart, Claimed, Premises}
-use Rattle.demand.specs.Luck.{lucky}
+use Rattle.bench.specs.Luck.{lucky}
 
 -- it came to its end, the list was too short, or a question was answered with a number; I2CCTL and the module then
 pub data Ran (A : Type 0) : Type 0 where
   came : A → World side → Ran A
   lacked : World side → Ran A
   stopped : ℕ → World side → Ran A
+
+unfoldable pub Came : {A : Type 0} → Ran A → Type 0
+Came (came a w) = Unit {0}
+Came (lacked w) = ⊥
+Came (stopped n w) = ⊥
 
 -- 12: the answer is of another kind than the awaited
 unfoldable pub nextAnswer : {A : Type 0} → Access → (Answer → List Answer → Ran A) → World side → List Answer → Ran A

@@ -9,10 +9,10 @@ use Rattle.hardware.specs.declared.Answer.{Answer}
 use Rattle.hardware.specs.declared.change.Bits.{Bits}
 use Rattle.hardware.specs.declared.change.Bits.the-variants.{Set, Clear, SetClear}
 use Rattle.hardware.specs.declared.change.Change.{Change}
-use Rattle.hardware.specs.declared.change.Update.{Update}
-use Rattle.hardware.specs.declared.change.Update.the-variants.{Reading, Writing, Flushing}
-use Rattle.hardware.specs.declared.change.UpdateNext.{UpdateNext}
-use Rattle.hardware.specs.declared.change.UpdateNext.the-variants.{Going, End}
+use Rattle.hardware.specs.declared.Update.{Update}
+use Rattle.hardware.specs.declared.Update.the-variants.{Reading, Writing, Flushing}
+use Rattle.hardware.specs.declared.UpdateNext.{UpdateNext}
+use Rattle.hardware.specs.declared.UpdateNext.the-variants.{Going, End}
 use Rattle.hardware.specs.Prog.{Prog, ret, ask, erase, R, Ok, Err, orErr, _>>=_, _>>?_, pick}
 use Rattle.hardware.specs.Registers.{STATUS, not32, read, write, flush, checked, written, flushed, outcome}
 

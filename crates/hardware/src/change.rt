@@ -2,6 +2,8 @@
 use crate::Access;
 use crate::Answer;
 use crate::Outcome;
+use crate::Update;
+use crate::UpdateNext;
 use crate::Word;
 ghost use mathlib.Core.Path.{_≡_};
 ghost use Rattle.hardware.specs.Prog.{erase, orErr};
@@ -18,18 +20,6 @@ pub struct Change {
     pub register: u32,
     pub bits: Bits,
     pub flushed: bool,
-}
-
-// Writing: with the value that is written.
-pub enum Update {
-    Reading,
-    Writing(u32),
-    Flushing,
-}
-
-pub enum UpdateNext {
-    Going(Update),
-    End(Outcome),
 }
 
 pub fn apply(bits: Bits, v: u32) -> u32

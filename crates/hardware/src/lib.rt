@@ -97,6 +97,18 @@ pub enum Flag {
     Err(Error),
 }
 
+// The state of a change to a register (`change`). Writing: with the value that is written.
+pub enum Update {
+    Reading,
+    Writing(u32),
+    Flushing,
+}
+
+pub enum UpdateNext {
+    Going(Update),
+    End(Outcome),
+}
+
 pub enum FamilyOpening {
     Family(Family),
     Refused(Refusal),

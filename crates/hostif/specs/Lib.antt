@@ -1,2 +1,3 @@
 pub mod Hostif
+pub mod Acquire
 pub mod Calls

@@ -14,7 +14,7 @@ use Rattle.hardware.specs.Runs.{Ends}
 use Rattle.hardware.proofs.Ends.{ends-more, ends-bind, ends-try, ends-pick, ret-ends, note-ends, read-ends, delay-ends, change-ends}
 use Rattle.sync.specs.Regs.{tries}
 use Rattle.sync.proofs.Ends.{ACQUIRE-BITS-STEPS, RELEASE-BITS-STEPS, acquire-bits-ends, release-bits-ends}
-use Rattle.acquire.specs.Acquire.{hwOf, withBits, acquiredAll, acquire, giveBits, release}
+use Rattle.hostif.specs.Acquire.{hwOf, withBits, acquiredAll, acquire, giveBits, release}
 use Rattle.bus.specs.declared.Layout.{Layout}
 use Rattle.bus.specs.declared.Taken.{Taken}
 use Rattle.bus.specs.Layout.{layoutOf}

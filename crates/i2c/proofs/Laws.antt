@@ -10,7 +10,7 @@ use Rattle.hardware.specs.declared.Access.the-variants.{Read}
 use Rattle.hardware.specs.declared.Port.{Port}
 use Rattle.hardware.specs.Prog.{Prog, ret, ask, R, Err, orErr, tally, erase, bind-assoc, bind-ret, pick, _>>=_, _>>?_}
 use Rattle.hardware.specs.Registers.{raw}
-use Rattle.acquire.specs.Acquire.{acquire, release}
+use Rattle.hostif.specs.Acquire.{acquire, release}
 use Rattle.bus.specs.declared.Layout.{Layout}
 use Rattle.bus.specs.declared.Taken.{Taken}
 use Rattle.bus.specs.Layout.{layoutOf}
@@ -29,7 +29,7 @@ use Rattle.i2c.specs.declared.tries.Stage.the-variants.{Trying}
 use Rattle.i2c.specs.declared.tries.TriesNext.the-variants.{Going}
 use Rattle.i2c.specs.I2c.{mask, deviceOf, scriptOf, isWrite, body, failedI2c, once, whenLock, readTries, writeTries, givenUp, writes, moves, qsfp, askBus, granted, givenBus, onGrant, withBus, handshaken}
 use Rattle.hardware.specs.declared.Error.the-variants.{I2c}
-use Rattle.hardware.specs.declared.change.Update.the-variants.{Reading}
+use Rattle.hardware.specs.declared.Update.the-variants.{Reading}
 use Rattle.hardware.specs.Change.{change, accessUpdate, restUpdate}
 use Rattle.i2c.specs.declared.moves.Moves.the-variants.{Asking, Granting}
 use Rattle.i2c.specs.declared.moves.MovesNext.the-variants.{Going as MovesGoing}

@@ -9,7 +9,7 @@ use Rattle.hardware.specs.Prog.{Prog, ret, note, Released, R, Ok, Err, orErr, e
 use Rattle.hardware.specs.Registers.{noneOf}
 use Rattle.sync.specs.Regs.{PHY0, PHY1, TOKEN, phy}
 use Rattle.sync.specs.Resource.{acquireBits, releaseBits}
-use Rattle.acquire.specs.Acquire.{hwOf, withBits, acquiredAll, acquire, giveBits, release}
+use Rattle.hostif.specs.Acquire.{hwOf, withBits, acquiredAll, acquire, giveBits, release}
 use Rattle.bus.specs.declared.Taken.{Taken}
 use Rattle.bus.specs.Layout.{x550em}
 use Rattle.i2c.specs.I2c.{SHARED-I2C, mask}

@@ -11,7 +11,7 @@ use Rattle.hardware.specs.Prog.{Prog, R, Ok, Err, orErr, _>>?_, pick}
 use Rattle.hardware.specs.Runs.{run, ended}
 use Rattle.sync.specs.Regs.{SW-MNG}
 use Rattle.hostif.specs.Hostif.{Left, closed, released, requested, acquired, command, tokenBlock, tokened, token}
-use Rattle.acquire.specs.Acquire.{TOKEN-TRIES, hwOf, withBits, acquiredAll, notGranted, givenBack, tokenSeen, acquireToken, acquire, giveBits, tokenGiven, release}
+use Rattle.hostif.specs.Acquire.{TOKEN-TRIES, hwOf, withBits, acquiredAll, notGranted, givenBack, tokenSeen, acquireToken, acquire, giveBits, tokenGiven, release}
 use Rattle.bus.specs.declared.Layout.{Layout}
 use Rattle.bus.specs.declared.Taken.{Taken}
 use Rattle.bus.specs.Layout.{layoutOf}

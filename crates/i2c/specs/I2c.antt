@@ -14,7 +14,7 @@ use Rattle.hardware.specs.Prog.{Prog, ret, note, Lapsed, R, Ok, Err, orErr, _>>
 use Rattle.hardware.specs.Registers.{ESDP, read, delayMs, noneOf}
 use Rattle.hardware.specs.Change.{change}
 use Rattle.sync.specs.Regs.{phy}
-use Rattle.acquire.specs.Acquire.{acquire, release}
+use Rattle.hostif.specs.Acquire.{acquire, release}
 use Rattle.bus.specs.declared.Layout.{Layout}
 use Rattle.bus.specs.declared.Taken.{Taken}
 use Rattle.bus.specs.Layout.{x550em, layoutOf}

@@ -11,7 +11,7 @@ use Rattle.hardware.specs.declared.Port.{Port}
 use Rattle.hardware.specs.Prog.{Prog, ret, ask, R, Err, Counted, tally, _>>=_, _>>?_, pick}
 use Rattle.hardware.specs.Registers.{micros}
 use Rattle.sync.specs.Resource.{accessAcquireBits, restAcquireBits, validAcquireBits, accessReleaseBits, restReleaseBits, validReleaseBits}
-use Rattle.acquire.specs.Acquire.{acquire, release}
+use Rattle.hostif.specs.Acquire.{acquire, release}
 use Rattle.bus.specs.declared.Taken.{Taken}
 use Rattle.bus.specs.Layout.{layoutOf}
 use Rattle.transfer.specs.declared.attempt.Sequence.the-variants.{Pulses}

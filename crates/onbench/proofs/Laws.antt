@@ -3,6 +3,7 @@ use Prim.Native.Nat.{ℕ, _+_, _-_, _<_, _≤_, suc}
 use mathlib.Core.Path.{_≡_, refl, ap, ap₂, _∙_, sym, subst, subst⁻¹}
 use mathlib.Core.Bool.{Bool, true, false, false≢true}
 use mathlib.Core.List.{List, [], _∷_}
+use mathlib.Core.Logic.{_⊎_, ⊎-elim}
 use native.Mathlib.Omega.{arith}
 use native.Mathlib.Numerals.{add-one}
 use lib.Dec.{T, lit≤}
@@ -42,9 +43,9 @@ use Rattle.identify.specs.Walk.{restIdentify}
 use Rattle.identify.specs.Calls.{openIdentify, stepIdentify, saidIdentify, standsIdentify}
 use Rattle.demand.specs.Fine.{names}
 use Rattle.demand.specs.Claim.{Starts, Premises}
-use Rattle.demand.specs.Luck.{lucky}
-use Rattle.demand.specs.Ran.{Ran, lacked, stopped, nextAnswer, ranAt, ran, ranIdentify, Demand3, grantedAt, granted, grantedIdentify, Granted3}
-use Rattle.demand.proofs.Ran.{demand-3}
+use Rattle.bench.specs.Luck.{lucky}
+use Rattle.demand.specs.Ran.{Ran, lacked, stopped, Came, nextAnswer, ranAt, ran, ranIdentify, Demand3, grantedAt, granted, grantedIdentify, Granted3}
+use Rattle.demand.proofs.Ran.{demand-3-ended, demand-3}
 use Rattle.demand.proofs.Granted.{granted-3}
 use Rattle.onbench.specs.declared.Stand.{Stand}
 use Rattle.onbench.specs.declared.Run.{Run}
@@ -392,20 +393,23 @@ unfolding openIdentify andThen
 opened-said family device lan p t y said = said ∙ ap (λ q. andThen q (λ port. yes (tally 0 (identify port)))) (sym y)
 
 module _ (family device lan : ℕ) (d : Desk) (ns : List ℕ) where
-  demanded : (r : Ran (Counted (R Module))) → r ≡ ranIdentify (openPort family device lan) (world d) (decodedAll ns)
-      → (port : Port) → yes port ≡ openPort family device lan → Starts port (d .bench) (d .word) → Premises port (d .bench) (d .word) (decodedAll ns)
-      → IDENTIFY-STEPS (port .family) ≤ length ns → Demand3 port (d .bench) (d .word) (decodedAll ns) r
-  unfolding ranIdentify
-  demanded r e port y s m n =
-      subst⁻¹ (Demand3 port (d .bench) (d .word) (decodedAll ns)) (e ∙ ap (λ q. ranIdentify q (world d) (decodedAll ns)) (sym y))
-      (demand-3 port (d .bench) (d .word) (decodedAll ns) s m (subst⁻¹ (λ k. IDENTIFY-STEPS (port .family) ≤ k) (decoded-length ns) n))
-
-  -- both promises, from the first
-  both : (r : Ran (Counted (R Module))) → r ≡ ranIdentify (openPort family device lan) (world d) (decodedAll ns)
-      → (r ≡ ranIdentify (openPort family device lan) (world d) (decodedAll ns))
+  -- both promises
+  abbrev Both : Ran (Counted (R Module)) → Type 0
+  Both r =
+      (r ≡ ranIdentify (openPort family device lan) (world d) (decodedAll ns))
       × ((port : Port) → yes port ≡ openPort family device lan → Starts port (d .bench) (d .word) → Premises port (d .bench) (d .word) (decodedAll ns)
-      → IDENTIFY-STEPS (port .family) ≤ length ns → Demand3 port (d .bench) (d .word) (decodedAll ns) r)
-  both r e = (e, demanded r e)
+      → Came r ⊎ (IDENTIFY-STEPS (port .family) ≤ length ns) → Demand3 port (d .bench) (d .word) (decodedAll ns) r)
+
+  -- from the first
+  both : (r : Ran (Counted (R Module))) → r ≡ ranIdentify (openPort family device lan) (world d) (decodedAll ns) → Both r
+  unfolding ranIdentify
+  both r e = (
+    e,
+    λ port y s m.
+        subst⁻¹ (λ o. Came o ⊎ (IDENTIFY-STEPS (port .family) ≤ length ns) → Demand3 port (d .bench) (d .word) (decodedAll ns) o) (e ∙ ap (λ q. ranIdentify q (world d) (decodedAll ns)) (sym y))
+        (⊎-elim (demand-3-ended port (d .bench) (d .word) (decodedAll ns) s m)
+        (λ n. demand-3 port (d .bench) (d .word) (decodedAll ns) s m (subst⁻¹ (λ k. IDENTIFY-STEPS (port .family) ≤ k) (decoded-length ns) n))),
+  )
 
   opened : (p : Port) (t : IdentifyTold) (r : Run) → yes p ≡ openPort family device lan → saidIdentify t ≡ openIdentify family device lan → standsIdentify t
       → (standsIdentify t → Bounded (saidIdentify t) 1600450488 → ranOf r ≡ leftOf (layoutOf (p .family)) ns (record { told = t; desk = d; at = 0; over = false }))
@@ -419,16 +423,11 @@ module _ (family device lan : ℕ) (d : Desk) (ns : List ℕ) where
   pub opened-both : (o : Opening) (p : Port) (t : IdentifyTold) (r : Run) → o ≡ Opened p → portOpened o ≡ openPort family device lan
       → saidIdentify t ≡ openIdentify family device lan → standsIdentify t
       → (standsIdentify t → Bounded (saidIdentify t) 1600450488 → ranOf r ≡ leftOf (layoutOf (p .family)) ns (record { told = t; desk = d; at = 0; over = false }))
-      → (ranOf r ≡ ranIdentify (openPort family device lan) (world d) (decodedAll ns))
-      × ((port : Port) → yes port ≡ openPort family device lan → Starts port (d .bench) (d .word) → Premises port (d .bench) (d .word) (decodedAll ns)
-      → IDENTIFY-STEPS (port .family) ≤ length ns → Demand3 port (d .bench) (d .word) (decodedAll ns) (ranOf r))
+      → Both (ranOf r)
   unfolding portOpened
   opened-both o p t r e h said st played = both (ranOf r) (opened p t r (ap portOpened (sym e) ∙ h) said st played)
 
-  pub refused-both : (o : Opening) (q : Refusal) → o ≡ Unopened q → portOpened o ≡ openPort family device lan
-      → (ranOf (record { how = Stopped q; desk = d }) ≡ ranIdentify (openPort family device lan) (world d) (decodedAll ns))
-      × ((port : Port) → yes port ≡ openPort family device lan → Starts port (d .bench) (d .word) → Premises port (d .bench) (d .word) (decodedAll ns)
-      → IDENTIFY-STEPS (port .family) ≤ length ns → Demand3 port (d .bench) (d .word) (decodedAll ns) (ranOf (record { how = Stopped q; desk = d })))
+  pub refused-both : (o : Opening) (q : Refusal) → o ≡ Unopened q → portOpened o ≡ openPort family device lan → Both (ranOf (record { how = Stopped q; desk = d }))
   unfolding portOpened ranOf howOf ranIdentify
   refused-both o q e h =
       both (ranOf (record { how = Stopped q; desk = d })) (ap (λ z. ranIdentify z (world d) (decodedAll ns)) (ap portOpened (sym e) ∙ h))

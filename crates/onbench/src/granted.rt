@@ -5,7 +5,6 @@ use crate::Run;
 use crate::Stand;
 use bench::register::Desk;
 use hardware::Access;
-use hardware::Answer;
 use hardware::Family;
 use hardware::Opening;
 use identify::calls::IdentifyCall;
@@ -19,34 +18,8 @@ ghost use Rattle.bus.specs.Layout.{layoutOf};
 ghost use Rattle.bench.specs.Register.{world};
 ghost use Rattle.identify.specs.Calls.{saidIdentify, standsIdentify};
 ghost use Rattle.demand.specs.Claim.{Starts};
-ghost use Rattle.demand.specs.Luck.{luckyAt, lucky};
 ghost use Rattle.demand.specs.Ran.{grantedIdentify, Granted3};
 ghost use Rattle.onbench.specs.Run.{ranOf, grantedOf, Moved, Bounded};
-
-// SWSM, in which SWESMBI is set and SMBI clear; SDP1 of ESDP is set likewise.
-const SWSM: u32 = 0x1_0140;
-
-fn lucky_at(register: u32) -> u32
-    ensures { λ r. ⌜ r ≡ luckyAt register ⌝ }
-{
-    if register == SWSM {
-        return 2;
-    }
-    if register == hardware::ESDP {
-        return 2;
-    }
-    0
-}
-
-fn lucky(x: Access) -> Answer
-    ensures { λ a. ⌜ a ≡ lucky x ⌝ }
-{
-    match x {
-        Access::Read(register) => Answer::Value(lucky_at(register)),
-        Access::Write(_, _) => Answer::Done,
-        Access::Wait(_) => Answer::Done,
-    }
-}
 
 // The access is I2CCTL's, and the module answers it; any other gets its fixed answer.
 fn visit(family: Family, x: Access, c: IdentifyCall, d: Desk) -> Stand
@@ -64,7 +37,7 @@ fn visit(family: Family, x: Access, c: IdentifyCall, d: Desk) -> Stand
         };
     }
     Stand {
-        told: identify::calls::identify_step(c, lucky(x)),
+        told: identify::calls::identify_step(c, bench::luck::lucky(x)),
         desk: d,
         at: 0,
         over: false,

@@ -94,7 +94,7 @@ pub(crate) fn control(place: usize) {
     let mut bytes = io::buffer();
     let n = os::arg(place, &mut bytes);
     at(place, &bytes[..n]);
-    text(b"on the X552 and X553 the start has BB_EN (100) or both enables off (800, 2000)\n");
+    text(b"on the X552 and X553 the start has BB_EN (100) or both enables off (800 and 2000)\n");
 }
 
 pub(crate) fn too_many(words: usize) {

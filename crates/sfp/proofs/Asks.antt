@@ -12,7 +12,7 @@ use Rattle.hardware.specs.Poll.{poll}
 use Rattle.sync.specs.Regs.{TOKEN, tries}
 use Rattle.sync.specs.Lock.{lock}
 use Rattle.sync.specs.Resource.{acquireTries, acquireBits}
-use Rattle.acquire.specs.Acquire.{hwOf, acquire}
+use Rattle.hostif.specs.Acquire.{hwOf, acquire}
 use Rattle.bus.specs.declared.Taken.{Taken}
 use Rattle.i2c.specs.declared.once.Request.the-variants.{ReadByte, WriteByte}
 use Rattle.i2c.specs.I2c.{mask, isWrite, whenLock, readTries, writes, moves, withBus, handshaken}

@@ -5,7 +5,7 @@ use native.Mathlib.Numerals.{sub-one}
 use Rattle.hardware.specs.Prog.{ask, erase, orErr, _>>=_, _>>?_}
 use Rattle.hardware.specs.declared.Port.{Port}
 use Rattle.hardware.specs.Change.{change, accessUpdate, restUpdate}
-use Rattle.hardware.specs.declared.change.Update.the-variants.{Reading}
+use Rattle.hardware.specs.declared.Update.the-variants.{Reading}
 use Rattle.sync.specs.Lock.{swesmbi, swesmbiNext, swesmbiCheck, accessSwesmbi, restSwesmbi}
 use Rattle.sync.specs.Lock.{lock}
 use Rattle.sync.specs.Resource.{acquireTries, tryRead}

@@ -13,8 +13,8 @@ use Rattle.hardware.specs.declared.Access.the-variants.{Read, Write}
 use Rattle.hardware.specs.declared.Answer.{Answer}
 use Rattle.hardware.specs.declared.Answer.the-variants.{Value, Done, Failed}
 use Rattle.hardware.specs.declared.Error.the-variants.{Io, Removed}
-use Rattle.hardware.specs.declared.change.Update.{Update}
-use Rattle.hardware.specs.declared.change.Update.the-variants.{Reading, Writing, Flushing}
+use Rattle.hardware.specs.declared.Update.{Update}
+use Rattle.hardware.specs.declared.Update.the-variants.{Reading, Writing, Flushing}
 use Rattle.hardware.specs.Asked.{is}
 use Rattle.hardware.specs.Prog.{ret, ask, Ok, Err, orErr, _>>=_, _>>?_, pick}
 use Rattle.hardware.specs.Registers.{ESDP, noneOf, checked, written, flushed}

@@ -17,7 +17,7 @@ use Rattle.hardware.specs.Change.{change, accessUpdate, restUpdate}
 use Rattle.hardware.specs.declared.change.Change.{Change}
 use Rattle.sync.specs.declared.acquire_bits.AcquireBits.{AcquireBits}
 use Rattle.sync.specs.declared.acquire_bits.Stage.{Stage}
-use Rattle.sync.specs.declared.acquire_bits.Stage.the-variants.{Locking, Reading, Failing, Taking, Taken, Muxing, Unlocking, Waiting}
+use Rattle.sync.specs.declared.acquire_bits.Stage.the-variants.{Locking, Reading, Taking, Taken, Muxing, Unlocking, Waiting}
 use Rattle.sync.specs.declared.acquire_bits.AcquireBitsNext.{AcquireBitsNext}
 use Rattle.sync.specs.declared.acquire_bits.AcquireBitsNext.the-variants.{Going as AcquireGoing, End as AcquireEnd}
 use Rattle.sync.specs.declared.release_bits.ReleaseBits.{ReleaseBits}
@@ -95,7 +95,6 @@ releaseBits port mask = muxed port mask false >>? λ _. unmuxed port mask
 unfoldable pub accessAcquireStage : Port → ℕ → Stage → Access
 accessAcquireStage port mask (Locking t) = accessLock (port .family) t
 accessAcquireStage port mask Reading = Read (swFwSync (port .family))
-accessAcquireStage port mask (Failing t e) = accessUnlock (port .family) t
 accessAcquireStage port mask (Taking v) = Write (swFwSync (port .family)) v
 accessAcquireStage port mask (Taken t w) = accessUnlock (port .family) t
 accessAcquireStage port mask (Muxing t) = accessUpdate (setMux true) t
@@ -109,7 +108,6 @@ unfoldable pub restAcquireStage : Port → ℕ → ℕ → Stage → Answer → 
 restAcquireStage port mask left (Locking t) a =
     restLock (port .family) t a >>? λ _. tryRead port mask left
 restAcquireStage port mask left Reading a = syncSeen port mask (acquireTries port mask left) (checked a)
-restAcquireStage port mask left (Failing t e) a = restUnlock (port .family) t a >>? λ _. ret (Err e)
 restAcquireStage port mask left (Taking v) a = unlock (port .family) >>? λ _. taken port mask (written a)
 restAcquireStage port mask left (Taken t w) a = restUnlock (port .family) t a >>? λ _. taken port mask (outcome w)
 restAcquireStage port mask left (Muxing t) a = restUpdate (setMux true) t a
@@ -126,7 +124,6 @@ acquireBitsNext port mask (AcquireEnd o) = ret (outcome o)
 unfoldable pub validAcquireStage : Stage → Bool
 validAcquireStage (Locking t) = validLock t
 validAcquireStage Reading = true
-validAcquireStage (Failing t e) = true
 validAcquireStage (Taking v) = true
 validAcquireStage (Taken t w) = true
 validAcquireStage (Muxing t) = true

@@ -11,9 +11,9 @@ use hardware::Family;
 use hardware::Millis;
 use hardware::Outcome;
 use hardware::Port;
+use hardware::Update;
+use hardware::UpdateNext;
 use hardware::Word;
-use hardware::change::Update;
-use hardware::change::UpdateNext;
 ghost use Prim.Native.Nat.{_<_, _≤_};
 ghost use mathlib.Core.Path.{_≡_};
 ghost use mathlib.Core.Bool.{true};
@@ -24,12 +24,11 @@ ghost use Rattle.sync.specs.Regs.{setMux, tries as triesOf};
 ghost use Rattle.sync.specs.Lock.{lockNext, validLockNext, unlockNext};
 ghost use Rattle.sync.specs.Resource.{accessAcquireStage, restAcquireStage, against, muxed, taken, tryRead, tryAgain, syncSeen, acquireTries, acquireBits, accessAcquireBits, restAcquireBits, acquireBitsNext, validAcquireStage, validAcquireBits, validAcquireBitsNext};
 
-// Failing: the read failed, and the semaphore goes back before the failure is reported. Taken: with how the write of
-// the bits ended. Unlocking and Waiting: with the bits that were found held.
+// Taken: with how the write of the bits ended, or the read before it where that failed: the semaphore goes back before
+// it is reported. Unlocking and Waiting: with the bits that were found held.
 pub enum Stage {
     Locking(Lock),
     Reading,
-    Failing(Unlock, Error),
     Taking(u32),
     Taken(Unlock, Outcome),
     Muxing(Update),
@@ -84,22 +83,6 @@ pub fn open(port: Port, mask: u32, tries: u32, held: u32) -> AcquireBitsNext
     }
     let family = port.family;
     locking(port, mask, tries - 1, crate::lock::open(family))
-}
-
-fn failing(port: Port, mask: u32, left: u32, e: Error, n: UnlockNext) -> AcquireBitsNext
-    ensures { λ r. ⌜ acquireBitsNext port mask r ≡ followed (unlockNext (port .family) n) (orErr (λ _. ret (Err e))) ⌝ }
-    ensures { λ r. ⌜ (left < triesOf (port .family) → validAcquireBitsNext (port .family) r ≡ true) ⌝ }
-{
-    match n {
-        UnlockNext::Going(t) => AcquireBitsNext::Going(AcquireBits {
-            left,
-            stage: Stage::Failing(t, e),
-        }),
-        UnlockNext::End(o) => match o {
-            Outcome::Ok => AcquireBitsNext::End(Outcome::Err(e)),
-            Outcome::Err(f) => AcquireBitsNext::End(Outcome::Err(f)),
-        },
-    }
 }
 
 fn mux(port: Port, mask: u32, left: u32) -> AcquireBitsNext
@@ -196,7 +179,13 @@ fn seen(port: Port, mask: u32, left: u32, w: Word) -> AcquireBitsNext
                 crate::unlock::open(family),
             )
         }
-        Word::Err(e) => failing(port, mask, left, e, crate::unlock::open(family)),
+        Word::Err(e) => taking(
+            port,
+            mask,
+            left,
+            Outcome::Err(e),
+            crate::unlock::open(family),
+        ),
     }
 }
 
@@ -207,7 +196,6 @@ fn stage_access(port: Port, mask: u32, s: Stage) -> Access
     match s {
         Stage::Locking(t) => crate::lock::access(family, t),
         Stage::Reading => Access::Read(crate::regs::regs(family).sw_fw_sync),
-        Stage::Failing(t, _) => crate::unlock::access(family, t),
         Stage::Taking(v) => Access::Write(crate::regs::regs(family).sw_fw_sync, v),
         Stage::Taken(t, _) => crate::unlock::access(family, t),
         Stage::Muxing(t) => hardware::change::access(crate::regs::set_mux(true), t),
@@ -231,7 +219,6 @@ fn stage_step(port: Port, mask: u32, left: u32, s: Stage, a: Answer) -> AcquireB
     match s {
         Stage::Locking(t) => locking(port, mask, left, crate::lock::step(family, t, a)),
         Stage::Reading => seen(port, mask, left, hardware::read(a)),
-        Stage::Failing(t, e) => failing(port, mask, left, e, crate::unlock::step(family, t, a)),
         Stage::Taking(_) => taking(
             port,
             mask,
@@ -271,7 +258,6 @@ fn stage_valid(s: Stage) -> bool
     match s {
         Stage::Locking(t) => crate::lock::valid(t),
         Stage::Reading => true,
-        Stage::Failing(_, _) => true,
         Stage::Taking(_) => true,
         Stage::Taken(_, _) => true,
         Stage::Muxing(_) => true,

@@ -9,13 +9,10 @@ ghost use mathlib.Core.Path.{_≡_};
 ghost use Rattle.hardware.specs.Prog.{pick};
 ghost use Rattle.bus.specs.Layout.{layoutOf};
 ghost use Rattle.bench.specs.Register.{accessed};
-ghost use Rattle.trial.specs.Host.{luckyAt, lucky};
+ghost use Rattle.bench.specs.Luck.{lucky};
 
 // The byte of A0 that is read.
 pub const OFFSET: u8 = 0x2a;
-
-// SWSM, in which SWESMBI is set and SMBI clear; SDP1 of ESDP is set likewise.
-const SWSM: u32 = 0x1_0140;
 
 // More accesses than any of the calls makes.
 const BUDGET: u32 = 20_000;
@@ -33,28 +30,6 @@ pub struct Ran {
     pub desk: Desk,
 }
 
-fn lucky_at(register: u32) -> u32
-    ensures { λ r. ⌜ r ≡ luckyAt register ⌝ }
-{
-    if register == SWSM {
-        return 2;
-    }
-    if register == hardware::ESDP {
-        return 2;
-    }
-    0
-}
-
-fn lucky(x: Access) -> Answer
-    ensures { λ a. ⌜ a ≡ lucky x ⌝ }
-{
-    match x {
-        Access::Read(register) => Answer::Value(lucky_at(register)),
-        Access::Write(_, _) => Answer::Done,
-        Access::Wait(_) => Answer::Done,
-    }
-}
-
 fn meet(port: Port, d: Desk, x: Access) -> Met
     ensures { λ m. ⌜ m .desk ≡ accessed (layoutOf (port .family)) x d .desk ⌝ }
     ensures { λ m. ⌜ m .answer ≡ pick (accessed (layoutOf (port .family)) x d .here) (accessed (layoutOf (port .family)) x d .answer) (lucky x) ⌝ }
@@ -66,7 +41,7 @@ fn meet(port: Port, d: Desk, x: Access) -> Met
         let answer = reply.answer;
         return Met { answer, desk };
     }
-    let answer = lucky(x);
+    let answer = bench::luck::lucky(x);
     Met { answer, desk }
 }
 

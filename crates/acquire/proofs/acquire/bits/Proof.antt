@@ -1,5 +1,6 @@
 -- `bits` meets its contract.
-use Rattle.acquire.specs.Acquire.{accessAcquire, accessAcquireAt, acquireNext, acquiredAll, afterBits, restAcquire, restAcquireAt, validAcquire, validAcquireAt, validAcquireNext}
+use Rattle.hostif.specs.Acquire.{acquiredAll, afterBits}
+use Rattle.acquire.specs.Acquire.{accessAcquire, accessAcquireAt, acquireNext, restAcquire, restAcquireAt, validAcquire, validAcquireAt, validAcquireNext}
 use Rattle.hardware.specs.Prog.{_>>=_, erase, followed, going, orErr, pick}
 use Rattle.hardware.specs.Registers.{outcome}
 use Rattle.hardware.specs.Runs.{given}

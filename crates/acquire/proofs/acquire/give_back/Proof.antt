@@ -1,5 +1,5 @@
 -- `give_back` meets its contract.
-use Rattle.acquire.specs.Acquire.{givenBack, withBits}
+use Rattle.hostif.specs.Acquire.{givenBack, withBits}
 use Rattle.hardware.specs.Prog.{_>>=_, orErr, over, pick}
 use Rattle.sync.specs.Resource.{taken}
 use borrow.Author.Needs.{needs}

@@ -1,5 +1,6 @@
 -- `hw` meets its contract.
-use Rattle.acquire.specs.Acquire.{accessAcquire, accessAcquireAt, accessRelease, acquire, acquireNext, acquiredAll, gave, giveBits, givenBack, hwOf, notGranted, release, releaseNext, restAcquire, restAcquireAt, restRelease, tokenGiven, tokenSeen, validAcquire, validAcquireAt, validRelease, withBits}
+use Rattle.hostif.specs.Acquire.{acquire, acquiredAll, gave, giveBits, givenBack, hwOf, notGranted, release, tokenGiven, tokenSeen, withBits}
+use Rattle.acquire.specs.Acquire.{accessAcquire, accessAcquireAt, accessRelease, acquireNext, releaseNext, restAcquire, restAcquireAt, restRelease, validAcquire, validAcquireAt, validRelease}
 use Rattle.acquire.specs.Calls.{openAcquire, openRelease, saidAcquire, saidRelease, stepAcquire, stepRelease}
 use Rattle.hardware.specs.Asked.{andThen, portOpened, question}
 use Rattle.hardware.specs.Prog.{_>>=_, erase, followed, orErr, pick}

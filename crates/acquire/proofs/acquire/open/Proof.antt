@@ -1,5 +1,5 @@
 -- `open` meets its contract.
-use Rattle.acquire.specs.Acquire.{acquire, afterBits}
+use Rattle.hostif.specs.Acquire.{acquire, afterBits}
 use Rattle.hardware.specs.Prog.{over, pick}
 use Rattle.sync.specs.Regs.{bits}
 use Rattle.sync.specs.Resource.{taken}

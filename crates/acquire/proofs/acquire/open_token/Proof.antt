@@ -1,6 +1,7 @@
 -- `open_token` meets its contract.
 use Rattle.acquire.proofs.Laws.{token-alone, token-bits}
-use Rattle.acquire.specs.Acquire.{acquireNext, acquireToken, afterBits, validAcquireNext}
+use Rattle.hostif.specs.Acquire.{acquireToken, afterBits}
+use Rattle.acquire.specs.Acquire.{acquireNext, validAcquireNext}
 use Rattle.hardware.proofs.Laws.{one-less}
 use Rattle.hardware.specs.Prog.{erase, over, pick}
 use Rattle.hardware.specs.Registers.{outcome}

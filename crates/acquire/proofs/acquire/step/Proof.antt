@@ -1,5 +1,6 @@
 -- `step` meets its contract.
-use Rattle.acquire.specs.Acquire.{accessAcquire, accessAcquireAt, accessRelease, gave, restAcquire, restAcquireAt, restRelease, tokenGiven, tryToken, validAcquire, validAcquireAt, validRelease}
+use Rattle.hostif.specs.Acquire.{gave, tokenGiven, tryToken}
+use Rattle.acquire.specs.Acquire.{accessAcquire, accessAcquireAt, accessRelease, restAcquire, restAcquireAt, restRelease, validAcquire, validAcquireAt, validRelease}
 use Rattle.acquire.specs.Calls.{openAcquire, openRelease, stepAcquire, stepRelease}
 use Rattle.hardware.proofs.Laws.{both-true}
 use Rattle.hardware.specs.Asked.{andThen, portOpened, question}

@@ -1,5 +1,6 @@
 -- `token_done` meets its contract.
-use Rattle.acquire.specs.Acquire.{acquireNext, acquiredAll, tokenSeen, validAcquireNext}
+use Rattle.hostif.specs.Acquire.{acquiredAll, tokenSeen}
+use Rattle.acquire.specs.Acquire.{acquireNext, validAcquireNext}
 use Rattle.hardware.specs.Prog.{erase}
 use Rattle.hardware.specs.Registers.{flag, outcome}
 use Rattle.hardware.specs.Runs.{given}

@@ -1,5 +1,6 @@
 -- `token_refused` meets its contract.
-use Rattle.acquire.specs.Acquire.{accessAcquire, accessAcquireAt, acquireNext, notGranted, restAcquire, restAcquireAt, validAcquire, validAcquireAt, validAcquireNext}
+use Rattle.hostif.specs.Acquire.{notGranted}
+use Rattle.acquire.specs.Acquire.{accessAcquire, accessAcquireAt, acquireNext, restAcquire, restAcquireAt, validAcquire, validAcquireAt, validAcquireNext}
 use Rattle.hardware.specs.Prog.{erase, pick}
 use Rattle.hardware.specs.Registers.{flag, outcome}
 use Rattle.hardware.specs.Runs.{given}

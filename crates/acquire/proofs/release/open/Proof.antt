@@ -1,5 +1,5 @@
 -- `open` meets its contract.
-use Rattle.acquire.specs.Acquire.{release}
+use Rattle.hostif.specs.Acquire.{release}
 use Rattle.hardware.specs.Prog.{erase, over, pick}
 use Rattle.hardware.specs.Registers.{outcome}
 use Rattle.hostif.specs.Hostif.{token}

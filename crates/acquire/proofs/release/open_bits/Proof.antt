@@ -1,5 +1,6 @@
 -- `open_bits` meets its contract.
-use Rattle.acquire.specs.Acquire.{giveBits, releaseNext, validReleaseNext, withBits}
+use Rattle.hostif.specs.Acquire.{giveBits, withBits}
+use Rattle.acquire.specs.Acquire.{releaseNext, validReleaseNext}
 use Rattle.hardware.specs.Prog.{_>>=_, erase, orErr, over, pick}
 use Rattle.sync.specs.Regs.{bits}
 use Rattle.sync.specs.Resource.{taken}

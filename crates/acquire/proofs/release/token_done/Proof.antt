@@ -1,5 +1,5 @@
 -- `token_done` meets its contract.
-use Rattle.acquire.specs.Acquire.{gave, tokenGiven}
+use Rattle.hostif.specs.Acquire.{gave, tokenGiven}
 use Rattle.hardware.specs.Registers.{flag, outcome}
 use Rattle.hardware.specs.Runs.{given}
 use borrow.Author.Needs.{needs}

@@ -1,5 +1,6 @@
 -- `valid` meets its contract.
-use Rattle.acquire.specs.Acquire.{accessAcquire, accessAcquireAt, accessRelease, gave, restAcquire, restAcquireAt, restRelease, tokenGiven, tryToken, validAcquireAt, validRelease}
+use Rattle.hostif.specs.Acquire.{gave, tokenGiven, tryToken}
+use Rattle.acquire.specs.Acquire.{accessAcquire, accessAcquireAt, accessRelease, restAcquire, restAcquireAt, restRelease, validAcquireAt, validRelease}
 use Rattle.acquire.specs.Calls.{openAcquire, openRelease, stepAcquire, stepRelease}
 use Rattle.hardware.specs.Asked.{andThen, portOpened, question}
 use Rattle.hardware.specs.Runs.{given}

@@ -1,5 +1,5 @@
 -- `give_back` meets its contract.
-use Rattle.acquire.specs.Acquire.{release}
+use Rattle.hostif.specs.Acquire.{release}
 use Rattle.hardware.specs.Prog.{over-tally, tally}
 use Rattle.hostif.specs.Hostif.{released}
 use Rattle.i2c.proofs.Laws.{when-no, when-yes}

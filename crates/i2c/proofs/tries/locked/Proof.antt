@@ -1,5 +1,5 @@
 -- `locked` meets its contract.
-use Rattle.acquire.specs.Acquire.{acquire}
+use Rattle.hostif.specs.Acquire.{acquire}
 use Rattle.hardware.specs.Prog.{over-tally, tally}
 use Rattle.hostif.specs.Hostif.{acquired}
 use Rattle.i2c.proofs.Laws.{when-no, when-yes}

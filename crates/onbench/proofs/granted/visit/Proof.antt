@@ -1,7 +1,7 @@
 -- `visit` meets its contract.
 use Rattle.bench.specs.Receiver.{at}
 use Rattle.bus.specs.Layout.{layoutOf}
-use Rattle.demand.specs.Luck.{lucky}
+use Rattle.bench.specs.Luck.{lucky}
 use Rattle.onbench.proofs.Laws.{granted-visit-away, granted-visit-here}
 use Rattle.sync.specs.Resource.{taken}
 use borrow.Author.Needs.{needs}

@@ -1,6 +1,6 @@
 -- `seen` meets its contract.
-use Rattle.hardware.specs.Prog.{_>>=_, erase, over, pick}
-use Rattle.hardware.specs.Registers.{word}
+use Rattle.hardware.specs.Prog.{_>>=_, erase, orErr, over, pick}
+use Rattle.hardware.specs.Registers.{outcome, word}
 use Rattle.hardware.specs.Runs.{given}
 use Rattle.sync.specs.Regs.{bits}
 use Rattle.sync.specs.Resource.{accessAcquireBits, accessAcquireStage, acquireBitsNext, free, restAcquireBits, restAcquireStage, syncSeen, taken, tryAgain, validAcquireBits, validAcquireBitsNext, validAcquireStage}
@@ -37,16 +37,16 @@ enum-known-w-2 c = search needs
 open-requires-2 : tie.Need-open-requires-2
 open-requires-2 c κs = search needs
 
-failing-requires : tie.Need-failing-requires
-failing-requires c κs = search needs
+taking-requires : tie.Need-taking-requires
+taking-requires c κs = search needs
 
 returns-2 : tie.Need-returns-2
 unfolding word syncSeen pick tryAgain
 returns-2 c = (rw (c .before .before .before .before .before .before .w .given .1, ← c .before .before .before .before .all .ensures, ← c .before .before .before .none-of .ensures, c .before .before .if1 .left) (over _ _ (c .unlocking .ensures .0) (c .before .«open» .ensures)), c .unlocking .ensures .1)
 
 returns-3 : tie.Need-returns-3
-unfolding word syncSeen
-returns-3 c = (rw (c .before .before .before .w2 .given .1) (over _ _ (c .failing .ensures .0) (c .before .open2 .ensures)), c .failing .ensures .1)
+unfolding word syncSeen taken orErr outcome
+returns-3 c = (rw (c .before .before .before .w2 .given .1) (over _ _ (c .taking .ensures .0) (c .before .open2 .ensures)), c .taking .ensures .1)
 
 pub seen-spec : {M : Type 1} → statement M
 seen-spec =
@@ -61,6 +61,6 @@ seen-spec =
     unlocking-requires
     enum-known-w-2
     open-requires-2
-    failing-requires
+    taking-requires
     returns-2
     returns-3)

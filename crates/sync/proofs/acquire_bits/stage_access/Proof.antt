@@ -20,17 +20,20 @@ regs-requires c κs = search needs
 enum-known-s-2 : tie.Need-enum-known-s-2
 enum-known-s-2 c = search needs
 
-access-requires-2 : tie.Need-access-requires-2
-access-requires-2 c κs = search needs
+regs-requires-2 : tie.Need-regs-requires-2
+regs-requires-2 c κs = search needs
 
 enum-known-s-3 : tie.Need-enum-known-s-3
 enum-known-s-3 c = search needs
 
-regs-requires-2 : tie.Need-regs-requires-2
-regs-requires-2 c κs = search needs
+access-requires-2 : tie.Need-access-requires-2
+access-requires-2 c κs = search needs
 
 enum-known-s-4 : tie.Need-enum-known-s-4
 enum-known-s-4 c = search needs
+
+set-mux-requires : tie.Need-set-mux-requires
+set-mux-requires c κs = search needs
 
 access-requires-3 : tie.Need-access-requires-3
 access-requires-3 c κs = search needs
@@ -38,17 +41,8 @@ access-requires-3 c κs = search needs
 enum-known-s-5 : tie.Need-enum-known-s-5
 enum-known-s-5 c = search needs
 
-set-mux-requires : tie.Need-set-mux-requires
-set-mux-requires c κs = search needs
-
 access-requires-4 : tie.Need-access-requires-4
 access-requires-4 c κs = search needs
-
-enum-known-s-6 : tie.Need-enum-known-s-6
-enum-known-s-6 c = search needs
-
-access-requires-5 : tie.Need-access-requires-5
-access-requires-5 c κs = search needs
 
 enum-told-2 : tie.Need-enum-told-2
 enum-told-2 c = search needs
@@ -65,28 +59,24 @@ unfolding accessAcquireBits accessAcquireStage
 returns-2 c = cc
 
 returns-3 : tie.Need-returns-3
-unfolding accessAcquireStage accessAcquireBits
-returns-3 c = rw (c .before .before .s2 .given .1) (c .access2 .ensures)
+unfolding accessAcquireStage
+returns-3 c = rw (c .before .before .s2 .given .1, ← c .regs2 .ensures .1)
 
 returns-4 : tie.Need-returns-4
-unfolding accessAcquireStage
-returns-4 c = rw (c .before .before .s3 .given .1, ← c .regs2 .ensures .1)
+unfolding accessAcquireStage accessAcquireBits
+returns-4 c = rw (c .before .before .s3 .given .1) (c .access2 .ensures)
 
 returns-5 : tie.Need-returns-5
 unfolding accessAcquireStage accessAcquireBits
-returns-5 c = rw (c .before .before .s4 .given .1) (c .access3 .ensures)
+returns-5 c = rw (c .before .before .before .s4 .given .1, ← c .before .set-mux .ensures) (c .access3 .ensures)
 
 returns-6 : tie.Need-returns-6
 unfolding accessAcquireStage accessAcquireBits
-returns-6 c = rw (c .before .before .before .s5 .given .1, ← c .before .set-mux .ensures) (c .access4 .ensures)
+returns-6 c = rw (c .before .before .s5 .given .1) (c .access4 .ensures)
 
 returns-7 : tie.Need-returns-7
-unfolding accessAcquireStage accessAcquireBits
-returns-7 c = rw (c .before .before .s6 .given .1) (c .access5 .ensures)
-
-returns-8 : tie.Need-returns-8
 unfolding accessAcquireBits accessAcquireStage
-returns-8 c = rw (c .before .enum-told2 .given .1, ← c .delay-ms .ensures)
+returns-7 c = rw (c .before .enum-told2 .given .1, ← c .delay-ms .ensures)
 
 pub stage-access-spec : {M : Type 1} → statement M
 stage-access-spec =
@@ -97,16 +87,14 @@ stage-access-spec =
     enum-told
     regs-requires
     enum-known-s-2
-    access-requires-2
-    enum-known-s-3
     regs-requires-2
+    enum-known-s-3
+    access-requires-2
     enum-known-s-4
+    set-mux-requires
     access-requires-3
     enum-known-s-5
-    set-mux-requires
     access-requires-4
-    enum-known-s-6
-    access-requires-5
     enum-told-2
     delay-ms-requires
     returns
@@ -115,5 +103,4 @@ stage-access-spec =
     returns-4
     returns-5
     returns-6
-    returns-7
-    returns-8)
+    returns-7)

@@ -30,9 +30,6 @@ enum-told-5 c = search needs
 enum-told-6 : tie.Need-enum-told-6
 enum-told-6 c = search needs
 
-enum-told-7 : tie.Need-enum-told-7
-enum-told-7 c = search needs
-
 returns : tie.Need-returns
 unfolding validAcquireStage
 returns c = rw (c .before .before .s .given .1) (c .valid .ensures)
@@ -61,10 +58,6 @@ returns-7 : tie.Need-returns-7
 unfolding pick validAcquireStage validAcquireBits
 returns-7 c = rw (c .enum-told6 .given .1)
 
-returns-8 : tie.Need-returns-8
-unfolding pick validAcquireStage validAcquireBits
-returns-8 c = rw (c .enum-told7 .given .1)
-
 pub stage-valid-spec : {M : Type 1} → statement M
 stage-valid-spec =
     tie.close
@@ -77,12 +70,10 @@ stage-valid-spec =
     enum-told-4
     enum-told-5
     enum-told-6
-    enum-told-7
     returns
     returns-2
     returns-3
     returns-4
     returns-5
     returns-6
-    returns-7
-    returns-8)
+    returns-7)

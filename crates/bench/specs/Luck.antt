@@ -1,4 +1,4 @@
--- Answers with which every lock and grant comes at once.
+-- Fixed answers of the other registers, with which every lock and grant comes at once.
 use Prim.Native.Nat.{ℕ}
 use mathlib.Core.Bool.{_||_}
 use lib.Dec.{eqb}
@@ -9,7 +9,7 @@ use Rattle.hardware.specs.declared.Answer.the-variants.{Value, Done}
 use Rattle.hardware.specs.Prog.{pick}
 use Rattle.hardware.specs.Registers.{ESDP}
 
--- SWSM with SMBI clear and SWESMBI set, ESDP with the grant on SDP1, and 0 of every other register
+-- SWSM with SMBI clear and SWESMBI set, ESDP with the grant on SDP1, and 0 of every other register: SW_FW_SYNC is free
 unfoldable pub luckyAt : ℕ → ℕ
 luckyAt register = pick (eqb register 0x10140 || eqb register ESDP) 2 0
 

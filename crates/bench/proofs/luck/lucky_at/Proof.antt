@@ -1,10 +1,9 @@
 -- `lucky_at` meets its contract.
-use Rattle.demand.specs.Luck.{luckyAt}
+use Rattle.bench.specs.Luck.{luckyAt}
 use Rattle.hardware.specs.Prog.{pick}
-use Rattle.sync.specs.Resource.{taken}
 use borrow.Author.Tests.{eq-eqb, ne-eqb}
-use Rattle.onbench.proofs.granted.lucky_at.Statement.{statement}
-use Rattle.onbench.proofs.granted.lucky_at.Tie as tie
+use Rattle.bench.proofs.luck.lucky_at.Statement.{statement}
+use Rattle.bench.proofs.luck.lucky_at.Tie as tie
 
 returns : tie.Need-returns
 unfolding luckyAt pick

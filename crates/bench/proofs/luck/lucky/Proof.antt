@@ -1,8 +1,8 @@
 -- `lucky` meets its contract.
-use Rattle.trial.specs.Host.{lucky}
+use Rattle.bench.specs.Luck.{lucky}
 use borrow.Author.Needs.{needs}
-use Rattle.trial.proofs.host.lucky.Statement.{statement}
-use Rattle.trial.proofs.host.lucky.Tie as tie
+use Rattle.bench.proofs.luck.lucky.Statement.{statement}
+use Rattle.bench.proofs.luck.lucky.Tie as tie
 
 enum-known-x : tie.Need-enum-known-x
 enum-known-x c = search needs

@@ -1,5 +1,5 @@
 -- I2CCTL with the bench module at the lines.
-use mathlib.Core.Bool.{true, false}
+use mathlib.Core.Bool.{Bool, true, false, _&&_}
 use lib.Dec.{eqb}
 use Rattle.hardware.specs.declared.Access.{Access}
 use Rattle.hardware.specs.declared.Access.the-variants.{Read, Write, Wait}
@@ -7,6 +7,7 @@ use Rattle.hardware.specs.declared.Answer.{Answer}
 use Rattle.hardware.specs.declared.Answer.the-variants.{Value, Done}
 use Rattle.hardware.specs.Prog.{pick}
 use Rattle.bus.specs.declared.Layout.{Layout}
+use Rattle.wire.specs.Lines.{master, levels}
 use Rattle.wire.specs.Always.{Side, World, wrote, reading}
 use Rattle.bench.specs.declared.Bench.{Bench}
 use Rattle.bench.specs.declared.register.Desk.{Desk}
@@ -42,3 +43,7 @@ unfoldable pub accessed : Layout → Access → Desk → Reply
 accessed l (Read r) d = pick (eqb r (l .reg)) (here (Value (reading l side (world d))) d) (elsewhere d)
 accessed l (Write r v) d = pick (eqb r (l .reg)) (here Done (desk (wrote l side v (world d)))) (elsewhere d)
 accessed l (Wait us) d = elsewhere d
+
+-- both lines are released: neither side pulls either
+unfoldable pub released : Layout → Desk → Bool
+released l d = levels (master l (d .word)) (benchPulls (d .bench)) .scl && levels (master l (d .word)) (benchPulls (d .bench)) .sda

@@ -1,5 +1,6 @@
 // The bench module: a pluggable module's two pages and its receiver, on the two lines that I2CCTL drives.
 ghost use mathlib.Core.Path.{_≡_};
+ghost use mathlib.Core.Bool.{true};
 ghost use lib.ListN.{set};
 ghost use Rattle.bench.specs.Bench.{onward, under, acted, pageOf, withPage, takesEdge, pullsLow};
 ghost use Rattle.bench.specs.Edges.{edgeOf};
@@ -121,4 +122,22 @@ pub fn pulls_low(b: Bench) -> bool
 {
     let receiver = b.receiver;
     receiver::pulls(receiver, under(current(b)))
+}
+
+fn same_page(p: Page, q: Page) -> bool
+    ensures { λ r. ⌜ (r ≡ true → p .bytes ≡ q .bytes) × (p .bytes ≡ q .bytes → r ≡ true) ⌝ }
+{
+    let a = p.bytes;
+    let b = q.bytes;
+    check::same(&a, &b)
+}
+
+// Whether no byte differs.
+pub fn same(before: Bench, after: Bench) -> bool
+    ensures { λ r. ⌜ (r ≡ true → (before .a0 .bytes ≡ after .a0 .bytes) × (before .a2 .bytes ≡ after .a2 .bytes)) × ((before .a0 .bytes ≡ after .a0 .bytes) × (before .a2 .bytes ≡ after .a2 .bytes) → r ≡ true) ⌝ }
+{
+    if same_page(before.a0, after.a0) {
+        return same_page(before.a2, after.a2);
+    }
+    false
 }

@@ -10,7 +10,7 @@ ghost use mathlib.Core.Bool.{not, _||_, false};
 ghost use Rattle.bus.specs.Layout.{layoutOf};
 ghost use Rattle.wire.specs.Lines.{banging, pulling, pullsSda, pullsScl, ready, input, sclEdge, sdaEdge, master};
 ghost use Rattle.wire.specs.Always.{takesAll, turn, wrote, reading};
-ghost use Rattle.bench.specs.Register.{side, world, desk, elsewhere, accessed};
+ghost use Rattle.bench.specs.Register.{side, world, desk, elsewhere, accessed, released};
 
 // I2CCTL as last written, and the module.
 pub struct Desk {
@@ -194,4 +194,16 @@ pub fn ready(family: Family, word: u32) -> bool
         return false;
     }
     !hardware::none_of(word, l.scloen)
+}
+
+// Whether both lines are released.
+pub fn released(family: Family, d: Desk) -> bool
+    ensures { λ r. ⌜ r ≡ released (layoutOf family) d ⌝ }
+{
+    let l = bus::layout_of(family);
+    let bench = d.bench;
+    if scl_high(l, d.word) {
+        return sda_high(l, d.word, crate::pulls_low(bench));
+    }
+    false
 }

@@ -1,5 +1,4 @@
 // The record of one image, a field to a line.
-use crate::ends;
 use crate::files::Image;
 use crate::print;
 use bench::Bench;
@@ -175,12 +174,12 @@ fn end(p: Port, before: Bench, d: Desk) {
     print::text(b"module      ");
     print::stage(s);
     print::either(
-        ends::released(f, d),
+        bench::register::released(f, d),
         b", both lines released",
         b", a line held low",
     );
     print::either(
-        ends::same(before, after),
+        bench::same(before, after),
         b", bytes same",
         b", bytes changed",
     );

@@ -100,9 +100,9 @@ fn same_class(m: Module, n: Module) -> bool {
 
 // No byte changed, and at the end Idle with both lines released.
 fn left_alone(before: Desk, after: Desk) -> bool {
-    if ends::same(before.bench, after.bench) {
+    if bench::same(before.bench, after.bench) {
         if ends::idle(after) {
-            return ends::released(Family::F82599, after);
+            return bench::register::released(Family::F82599, after);
         }
     }
     false

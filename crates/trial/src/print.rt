@@ -1,5 +1,4 @@
 // The lines that are printed.
-use crate::ends;
 use crate::host;
 use crate::host::Ran;
 use crate::start;
@@ -92,8 +91,8 @@ fn module(port: Port, before: Desk, after: Desk) {
     let s = receiver.stage;
     text(b" ");
     stage(s);
-    either(ends::released(family, after), b" free", b" held");
-    either(ends::same(b, a), b" same", b" changed");
+    either(bench::register::released(family, after), b" free", b" held");
+    either(bench::same(b, a), b" same", b" changed");
 }
 
 fn cell(number: u32, port: Port, row: Row, column: u8) {

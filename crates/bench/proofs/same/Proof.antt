@@ -2,8 +2,8 @@
 use mathlib.Core.Bool.{false≢true}
 use mathlib.Core.Path.{sym, _∙_}
 use borrow.Author.Needs.{needs}
-use Rattle.report.proofs.ends.same.Statement.{statement}
-use Rattle.report.proofs.ends.same.Tie as tie
+use Rattle.bench.proofs.same.Statement.{statement}
+use Rattle.bench.proofs.same.Tie as tie
 
 same-page-requires : tie.Need-same-page-requires
 same-page-requires c κs = search needs

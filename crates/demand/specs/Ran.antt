@@ -26,6 +26,7 @@ pub data Ran (A : Type 0) : Type 0 where
   lacked : World side → Ran A
   stopped : ℕ → World side → Ran A
 
+-- it came to its end
 unfoldable pub Came : {A : Type 0} → Ran A → Type 0
 Came (came a w) = Unit {0}
 Came (lacked w) = ⊥

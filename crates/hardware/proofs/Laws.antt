@@ -92,3 +92,10 @@ run-tally n (give b p) l = ap (given b) (run-tally n p l)
 
 pub run-counted : {A : Type 0} (p : Prog A) (l : List Answer) → run (tally 0 p) l ≡ counted (transfersIn p l) (run p l)
 run-counted p l = run-tally 0 p l ∙ ap (λ m. counted m (run p l)) (zero-add (transfersIn p l))
+
+-- the questions about a port and then the run
+pub asked-runs : {A : Type 0} (o : Asked Port) (p : Port → Prog A) (l : List Answer)
+    → ran (andThen o (λ port. yes (tally 0 (p port)))) l ≡ andThen o (λ port. yes (counted (transfersIn (p port) l) (run (p port) l)))
+unfolding ran andThen
+asked-runs (no n) p l = refl
+asked-runs (yes port) p l = ap yes (run-counted (p port) l)

@@ -12,7 +12,7 @@ use Rattle.hardware.specs.declared.Port.{Port}
 use Rattle.hardware.specs.Asked.{Asked, no, yes, andThen, question, openPort, fits}
 use Rattle.hardware.specs.Prog.{Prog, R, Ok, Err, tally, pick}
 use Rattle.hardware.specs.Runs.{run, ran, Awaited, ended, transfersIn, counted}
-use Rattle.hardware.proofs.Laws.{run-counted}
+use Rattle.hardware.proofs.Laws.{asked-runs}
 use Rattle.hardware.proofs.Ends.{run-ends}
 use Rattle.i2c.specs.declared.once.Request.the-variants.{ReadByte}
 use Rattle.i2c.specs.Moves.{madeOf}
@@ -31,13 +31,6 @@ use Rattle.identify.specs.declared.calls.IdentifyTold.{IdentifyTold}
 use Rattle.identify.specs.declared.calls.IdentifyTold.the-variants.{Ask}
 use Rattle.identify.specs.Walk.{restIdentify}
 use Rattle.identify.specs.Calls.{openIdentify, openQsfp, stepIdentify, saidIdentify, standsIdentify}
-
--- an opening's questions and then the run
-asked-runs : (o : Asked Port) (p : Port → Prog (R Module)) (l : List Answer)
-    → ran (andThen o (λ port. yes (tally 0 (p port)))) l ≡ andThen o (λ port. yes (counted (transfersIn (p port) l) (run (p port) l)))
-unfolding ran andThen
-asked-runs (no n) p l = refl
-asked-runs (yes port) p l = ap yes (run-counted (p port) l)
 
 pub identify-runs : (family device lan : ℕ) (t : IdentifyTold) → saidIdentify t ≡ openIdentify family device lan → (l : List Answer)
     → ran (saidIdentify t) l ≡ andThen (openPort family device lan) (λ port. yes (counted (transfersIn (identify port) l) (run (identify port) l)))

@@ -12,7 +12,7 @@ use Rattle.hardware.specs.declared.Port.{Port}
 use Rattle.hardware.specs.Asked.{Asked, no, yes, andThen, question, openPort, fits}
 use Rattle.hardware.specs.Prog.{Prog, R, Ok, Err, tally, pick}
 use Rattle.hardware.specs.Runs.{run, ran, Awaited, ended, transfersIn, counted}
-use Rattle.hardware.proofs.Laws.{run-counted}
+use Rattle.hardware.proofs.Laws.{asked-runs}
 use Rattle.hardware.proofs.Ends.{run-ends}
 use Rattle.i2c.specs.declared.once.Request.the-variants.{ReadByte, WriteByte}
 use Rattle.i2c.specs.I2c.{attempts}
@@ -28,12 +28,6 @@ use Rattle.softrate.specs.declared.calls.RateTold.{RateTold}
 use Rattle.softrate.specs.declared.calls.RateTold.the-variants.{Ask}
 use Rattle.softrate.specs.Walk.{restRate}
 use Rattle.softrate.specs.Calls.{openRate, stepRate, saidRate, standsRate}
-
-asked-runs : (o : Asked Port) (p : Port → Prog (R Bool)) (l : List Answer)
-    → ran (andThen o (λ port. yes (tally 0 (p port)))) l ≡ andThen o (λ port. yes (counted (transfersIn (p port) l) (run (p port) l)))
-unfolding ran andThen
-asked-runs (no n) p l = refl
-asked-runs (yes port) p l = ap yes (run-counted (p port) l)
 
 pub rate-runs : (family device lan : ℕ) (ten : Bool) (t : RateTold) → saidRate t ≡ openRate family device lan ten → (l : List Answer)
     → ran (saidRate t) l ≡ andThen (openPort family device lan) (λ port. yes (counted (transfersIn (softRateSelect port ten) l) (run (softRateSelect port ten) l)))

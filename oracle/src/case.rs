@@ -2,7 +2,7 @@
 //! outcome as numbers, and the line that holds both.
 
 use crate::answers::{Failed, Fnv, Player, Rule, Stream};
-use crate::driver::sfp::{self, Module};
+use crate::driver::sfp::{self, Kind, Module};
 use crate::driver::{hostif, i2c, sync, Error, Family, Port};
 use crate::lines::{Lines, MARK};
 use crate::script::script;
@@ -28,6 +28,7 @@ pub const PLAIN: u32 = 17;
 pub const IDENTIFY: u32 = 20;
 pub const IDENTIFY_QSFP: u32 = 21;
 pub const RATE_SELECT: u32 = 22;
+pub const METHOD: u32 = 23;
 
 /// The functions that `PLAIN` chooses from.
 pub const X550EM: u32 = 0;
@@ -35,8 +36,31 @@ pub const MASK: u32 = 1;
 pub const ATTEMPTS: u32 = 2;
 pub const QSFP: u32 = 3;
 
+/// The methods of `Module` that `METHOD` chooses from.
+pub const PRESENT: u32 = 0;
+pub const ONE_GIG: u32 = 1;
+pub const LINEAR: u32 = 2;
+pub const SUPPORTED: u32 = 3;
+pub const NVM_KEY: u32 = 4;
+
+/// In the order of the original.
+pub const KINDS: [Kind; 10] = [
+    Kind::DaCu,
+    Kind::DaActiveLimiting,
+    Kind::SrLr,
+    Kind::Cu1g,
+    Kind::Sx1g,
+    Kind::Lx1g,
+    Kind::Bx10g,
+    Kind::Bx1g,
+    Kind::Unknown,
+    Kind::NotPresent,
+];
+
 pub const FAMILIES: [Family; 5] = [Family::F82599, Family::X540, Family::X550, Family::X552, Family::X553];
 pub const BLOCK_WORDS: u32 = 64;
+/// The flag beside a kind's number.
+pub const MULTISPEED: u32 = 256;
 pub const MAX_RULES: usize = 4;
 
 #[derive(Clone, Debug, PartialEq, Eq)]
@@ -119,6 +143,7 @@ impl Case {
             QSFP_SETUP => numbers(i2c::qsfp_setup(io), |()| [0; 3]),
             ONES_ADD => [0, i2c::probe_ones_add(a1 as u8, a2 as u8).into(), 0, 0],
             PLAIN => [0, self.plain(a1), 0, 0],
+            METHOD => self.method(a1),
             other => panic!("no function {other}"),
         }
     }
@@ -198,6 +223,18 @@ impl Case {
         }
     }
 
+    /// The second value says that there is a key.
+    fn method(&self, method: u32) -> [u32; 4] {
+        let m = recorded(self.args[1], self.args[2]);
+        match method {
+            PRESENT => [0, m.present().into(), 0, 0],
+            ONE_GIG => [0, m.one_gig().into(), 0, 0],
+            LINEAR => [0, m.linear().into(), 0, 0],
+            SUPPORTED => [0, m.supported(self.family()).into(), 0, 0],
+            _ => m.nvm_key(self.lan as u8).map_or([0; 4], |key| [0, key.into(), 1, 0]),
+        }
+    }
+
     /// The part of the line that says what to run.
     pub fn input(&self) -> Vec<u32> {
         let mut out = vec![self.function, self.family, self.device, self.lan];
@@ -246,6 +283,7 @@ impl Case {
             PLAIN => a1 <= QSFP,
             IDENTIFY | IDENTIFY_QSFP => true,
             RATE_SELECT => a1 <= 1,
+            METHOD => a1 <= NVM_KEY && a2 & !MULTISPEED < KINDS.len() as u32,
             _ => self.function <= PHY || self.function == QSFP_SETUP,
         };
         if !known {
@@ -268,7 +306,14 @@ pub fn packed(device: u32, low: u32, high: u32, lock: bool) -> [u32; 3] {
 /// then the bytes, in the order of the original's record, lowest first.
 fn record(m: Module) -> [u32; 3] {
     let bytes = [m.identifier, m.comp_10g, m.comp_1g, m.cable];
-    [m.kind as u32 + 256 * u32::from(m.multispeed), u32::from_le_bytes(bytes), 0]
+    [m.kind as u32 + MULTISPEED * u32::from(m.multispeed), u32::from_le_bytes(bytes), 0]
+}
+
+/// The module of which `record` gives these numbers.
+fn recorded(class: u32, bytes: u32) -> Module {
+    let [identifier, comp_10g, comp_1g, cable] = bytes.to_le_bytes();
+    let kind = KINDS[(class & !MULTISPEED) as usize];
+    Module { kind, multispeed: class >= MULTISPEED, identifier, comp_10g, comp_1g, cable }
 }
 
 /// An address of the I2C bus.

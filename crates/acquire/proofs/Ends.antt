@@ -73,9 +73,10 @@ plain-ends port hw = ends-try _ _ (ACQUIRE-BITS-STEPS (tries (port .family))) 0 
 pub acquire-ends : (port : Port) (mask : ℕ) → Ends (acquire port mask) (ACQUIRE-STEPS (port .family))
 unfolding acquire
 acquire-ends port mask =
-    ends-pick _ _ _ (ACQUIRE-STEPS (port .family))
+    note-ends _ _ _
+    (ends-pick _ _ _ (ACQUIRE-STEPS (port .family))
     (ends-more _ (ACQUIRE-BITS-STEPS (tries (port .family)) + 0) (ACQUIRE-STEPS (port .family)) (plain-ends port (hwOf mask)) (omega arith))
-    (acquire-token-ends port (hwOf mask) TOKEN-TRIES)
+    (acquire-token-ends port (hwOf mask) TOKEN-TRIES))
 
 give-ends : (port : Port) (hw : ℕ) (t : R (Unit {0})) → Ends (giveBits port hw t) RELEASE-BITS-STEPS
 unfolding giveBits

@@ -1,6 +1,6 @@
 -- How each bit of I2CCTL reads with the bench module at the lines.
 use Prim.Native.Nat.{ℕ, _-_, _^_, _<_, min, max}
-use mathlib.Core.Path.{_≡_, refl, ap, _∙_}
+use mathlib.Core.Path.{_≡_, refl, _∙_}
 use mathlib.Core.Bool.{Bool, true, false, not, _||_}
 use mathlib.Core.Logic.{_⊎_, inl, inr}
 use lib.Dec.{lit<}

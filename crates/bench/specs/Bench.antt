@@ -1,10 +1,8 @@
 -- The bench module on the lines: its pages, what it pulls, and I2CCTL with it.
 use Prim.Native.Nat.{ℕ, _+_, _%_}
-use mathlib.Core.Bool.{Bool, true, false}
+use mathlib.Core.Bool.{Bool, false}
 use lib.ListN.{getD, set}
-use Rattle.hardware.specs.declared.Family.{Family}
-use Rattle.bus.specs.declared.Layout.{Layout}
-use Rattle.wire.specs.Lines.{Pulls, drawn, Edge, START, STOP, Fall, Bit}
+use Rattle.wire.specs.Lines.{Pulls, drawn, Edge}
 use Rattle.bench.specs.declared.receiver.Act.{Act}
 use Rattle.bench.specs.declared.receiver.Act.the-variants.{Nothing, Offset, Store, Next}
 use Rattle.bench.specs.declared.receiver.Chosen.{Chosen}

@@ -7,7 +7,7 @@ use Rattle.hardware.specs.Prog.{pick}
 use Rattle.hardware.specs.declared.Error.the-variants.{I2c}
 use Rattle.bus.specs.declared.Layout.{Layout}
 use Rattle.bus.specs.declared.command.Command.the-variants.{Start, Send, Read, Stop, Free}
-use Rattle.bus.specs.Bus.{Bus, fail, start, stop, send, inByte, inBits, inBit, outBit, outBits, sample, releaseSda, pulses, sclHigh, sclLow, wait, ackTries, shifted, close, sda, look}
+use Rattle.bus.specs.Bus.{Bus, fail, start, stop, send, inByte, inBits, inBit, outBit, outBits, releaseSda, pulses, sclHigh, sclLow, wait, ackTries, shifted}
 use Rattle.bus.specs.Line.{called, sensed}
 use Rattle.bus.specs.Command.{pulseCall, outBitCall, senseCall, startCall, stopCall, endCall, sendCall, readCall, freeCall, callAt, stopCount, callCount, finished, callsLeft, commanded}
 

@@ -1,5 +1,5 @@
 -- Laws of the line calls that the proofs cite.
-use Prim.Native.Nat.{ℕ, _-_, _/_, _%_, _≤_, suc, zero}
+use Prim.Native.Nat.{ℕ, _-_, _%_, _≤_, suc, zero}
 use mathlib.Core.Path.{_≡_, refl, ap, _∙_, sym, subst}
 use mathlib.Core.Bool.{Bool, true, false}
 use lib.Bits.{bitOr}
@@ -7,13 +7,12 @@ use lib.Dec.{T, eqb, ltb, leb}
 use borrow.Author.Tests.{lt-ltb, ltb-true, leb-true, le-leb}
 use native.Mathlib.Numerals.{sub-one}
 use native.Mathlib.Omega.{arith}
-use Rattle.hardware.specs.Prog.{Prog, ask, erase, R, pick}
+use Rattle.hardware.specs.Prog.{Prog, erase, R, pick}
 use Rattle.bus.specs.declared.Layout.{Layout}
 use Rattle.bus.specs.declared.line.Goal.the-variants.{Up}
-use Rattle.bus.specs.declared.line.Line.{Line}
 use Rattle.bus.specs.declared.line.Line.the-variants.{Ack, Write}
 use Rattle.bus.specs.declared.line.LineNext.the-variants.{Going}
-use Rattle.bus.specs.Bus.{Held, Bus, orHeld, put, get, wait, flushing, sclTries, sclHigh, sclSeen, ackTries, ackSeen}
+use Rattle.bus.specs.Bus.{Held, Bus, orHeld, put, get, sclTries, sclHigh, ackTries}
 use Rattle.bus.specs.declared.line.Call.{Call}
 use Rattle.bus.specs.declared.line.Call.the-variants.{Look, Sda, Release, Up as UpCall, Ack as AckCall, Sample}
 use Rattle.bus.specs.declared.command.Command.{Command}

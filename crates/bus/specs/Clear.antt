@@ -1,11 +1,9 @@
 -- The clearing sequence one access at a time.
-use Prim.Native.Nat.{ℕ}
 use mathlib.Core.Bool.{Bool, true}
 use Rattle.hardware.specs.declared.Access.{Access}
 use Rattle.hardware.specs.declared.Answer.{Answer}
-use Rattle.hardware.specs.declared.Outcome.{Outcome}
 use Rattle.hardware.specs.declared.Outcome.the-variants.{Ok as OutcomeOk, Err as OutcomeErr}
-use Rattle.hardware.specs.Prog.{Prog, ret, ask, erase, _>>=_}
+use Rattle.hardware.specs.Prog.{Prog, ask, erase, _>>=_}
 use Rattle.bus.specs.declared.Layout.{Layout}
 use Rattle.bus.specs.declared.command.Command.{Command}
 use Rattle.bus.specs.declared.command.Command.the-variants.{Start, Stop, Free}

@@ -1,5 +1,5 @@
 -- I2CCTL's two layouts, as `L82599` and `LX552` of `i2c.rs` have them: bit positions.
-use Prim.Native.Nat.{ℕ, _^_}
+use Prim.Native.Nat.{_^_}
 use mathlib.Core.Bool.{Bool, true, false}
 use Rattle.hardware.specs.declared.Family.{Family}
 use Rattle.hardware.specs.declared.Family.the-variants.{F82599, X540, X550, X552, X553}

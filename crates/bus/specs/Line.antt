@@ -1,12 +1,11 @@
 -- The line calls one access at a time: the access that is awaited, and what follows its answer.
-use Prim.Native.Nat.{ℕ, suc, zero}
-use mathlib.Core.Bool.{Bool, true, false}
-use lib.Bits.{bitAnd, bitOr}
+use Prim.Native.Nat.{ℕ}
+use mathlib.Core.Bool.{Bool, true}
 use lib.Dec.{ltb}
 use Rattle.hardware.specs.declared.Access.{Access}
 use Rattle.hardware.specs.declared.Access.the-variants.{Read, Write, Wait}
 use Rattle.hardware.specs.declared.Answer.{Answer}
-use Rattle.hardware.specs.Prog.{Prog, ret, ask, erase, R, Ok, Err, pick}
+use Rattle.hardware.specs.Prog.{Prog, ask, erase}
 use Rattle.hardware.specs.Registers.{STATUS, raw, written, flushed, micros, outcome}
 use Rattle.bus.specs.declared.Layout.{Layout}
 use Rattle.bus.specs.declared.line.Call.{Call}
@@ -18,7 +17,7 @@ use Rattle.bus.specs.declared.line.Line.the-variants.{Look as Looking, P
 use Rattle.bus.specs.declared.line.Wire.{Wire}
 use Rattle.bus.specs.declared.line.LineNext.{LineNext}
 use Rattle.bus.specs.declared.line.LineNext.the-variants.{Going, End}
-use Rattle.bus.specs.Bus.{Held, Bus, orHeld, flushing, put, get, wait, sdaLevel, shifted, sclSeen, sclTries, sclHigh, sclLow, sdaSeen, sdaFree, sda, releaseSda, look, lookSeen, close, sample, sampleSeen, ackSeen, ackTries}
+use Rattle.bus.specs.Bus.{Held, Bus, orHeld, flushing, get, wait, shifted, sclSeen, sclTries, sclHigh, sclLow, sdaSeen, sdaFree, sda, releaseSda, look, lookSeen, close, sample, sampleSeen, ackSeen, ackTries}
 
 -- a bit was heard
 unfoldable pub sensed : ℕ → (ℕ → Bus) → Bool → Bus

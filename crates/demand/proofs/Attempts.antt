@@ -1,26 +1,25 @@
 -- One attempt at reading a byte of page A0, by the module's state at its beginning.
-use Prim.Native.Nat.{ℕ, _+_, _<_, _≤_, suc}
-use mathlib.Core.Path.{_≡_, refl, ap, _∙_, subst⁻¹}
+use Prim.Native.Nat.{ℕ, _<_, suc}
+use mathlib.Core.Path.{_≡_, refl}
 use mathlib.Core.Bool.{Bool, true, false, false≢true}
 use mathlib.Core.Logic.{_⊎_, inl, inr}
 use native.Mathlib.Omega.{arith}
-use lib.Dec.{ltb, eqb}
+use lib.Dec.{ltb}
 use lib.ListN.{getD}
 use borrow.Author.Tests.{eq-eqb}
 use Rattle.hardware.specs.declared.Error.the-variants.{I2c}
-use Rattle.hardware.specs.Prog.{Prog, ret, R, Ok, Err, orErr, _>>=_, pick}
+use Rattle.hardware.specs.Prog.{R, Ok, Err, orErr, _>>=_, pick}
 use Rattle.hardware.specs.Registers.{raw}
 use Rattle.bus.specs.declared.Layout.{Layout}
 use Rattle.bus.specs.declared.Taken.{Taken}
-use Rattle.bus.specs.Bus.{Held, Bus, none, took, done, fail, isI2c, start, stop, outBit, inByte, send, clear}
+use Rattle.bus.specs.Bus.{Bus, none, took, done, isI2c, start, stop, outBit, inByte, send, clear}
 use Rattle.transfer.specs.declared.attempt.Sequence.the-variants.{Pulses}
 use Rattle.transfer.specs.Attempt.{clearing, orCleared, cleared, orTried, tried, begun, attempting, attempt}
-use Rattle.wire.specs.Lines.{drawn, Rests, Known, Distinct}
-use Rattle.wire.specs.Always.{Side, World, reading, Always, Answered, Claim, From, FromRest}
+use Rattle.wire.specs.Lines.{drawn, Rests, Distinct}
+use Rattle.wire.specs.Always.{World, reading, Always, Answered, From, FromRest}
 use Rattle.wire.proofs.Always.{always-bind}
 use Rattle.wire.proofs.Lines.{first}
 use Rattle.wire.proofs.Commands as Commands
-use Rattle.bench.specs.declared.receiver.Act.the-variants.{Nothing}
 use Rattle.bench.specs.declared.receiver.Chosen.{Chosen}
 use Rattle.bench.specs.declared.receiver.Receiver.{Receiver}
 use Rattle.bench.specs.declared.receiver.Stage.{Stage}

@@ -2,7 +2,7 @@
 use Prim.Native.Nat.{ℕ, _≤_, suc, zero}
 use mathlib.Core.Path.{_≡_, refl, ap, _∙_, sym}
 use mathlib.Core.Bool.{Bool, true, false}
-use mathlib.Core.List.{List, [], _∷_, _++_}
+use mathlib.Core.List.{List, [], _∷_}
 use native.Mathlib.Omega.{arith}
 use lib.Dec.{T, eqb}
 use lib.ListN.{length}
@@ -12,13 +12,13 @@ use Rattle.hardware.specs.declared.Answer.{Answer}
 use Rattle.hardware.specs.declared.Answer.the-variants.{Value, Done, Failed}
 use Rattle.hardware.specs.declared.Micros.{Micros}
 use Rattle.hardware.specs.Asked.{fits}
-use Rattle.hardware.specs.Prog.{Prog, ret, ask, note, give, Note, Attempt, Acquired, Released, Lapsed, pick, Counted, begun, tally}
+use Rattle.hardware.specs.Prog.{Prog, ret, ask, note, give, Note, Attempt, Acquires, Acquired, Released, Lapsed, pick, Counted, tally}
 use Rattle.hardware.specs.Runs.{Ends}
 use Rattle.bus.specs.declared.Layout.{Layout}
-use Rattle.wire.specs.Lines.{Pulls, Edge, OneMoves, master, levels, edge}
-use Rattle.wire.specs.Always.{Side, World, takesAll, turn, wrote, reading, Answered, Always, noted}
+use Rattle.wire.specs.Lines.{Edge, OneMoves, master}
+use Rattle.wire.specs.Always.{World, takesAll, turn, wrote, reading, Answered, Always, noted}
 use Rattle.demand.specs.Fine.{names}
-use Rattle.demand.specs.Claim.{Met, machine, staysIn, Event, answered, moved, noticed, Outcome, ended, short, Story, saw, elsewhere, visit, benched, Each, Works, Comes, Premise}
+use Rattle.demand.specs.Claim.{Met, machine, staysIn, Event, answered, moved, noticed, Outcome, ended, short, Story, saw, elsewhere, visit, benched, Each, Works, Premise}
 
 -- Q holds at the end, if the run comes to it
 unfoldable pub Ending : {A : Type 0} → (A → World machine → Type 0) → Outcome A → Type 0
@@ -100,6 +100,7 @@ module _ (l : Layout) {A : Type 0} (Q : A → World machine → Type 0) where
   always-benched (ask (Wait n) f) w answers k m =
       by-answers (Wait n) (λ a. benched l (f a) w) answers (λ a rest u. always-benched (f a) w rest (done-other (Wait n) f w (wait-done n) k a u)) m
   always-benched (note Attempt p) w answers k m = after-note Attempt _ (always-benched p (noted machine Attempt w) answers k (m .1))
+  always-benched (note Acquires p) w answers k m = after-note Acquires _ (always-benched p (noted machine Acquires w) answers k (m .1))
   always-benched (note Acquired p) w answers k m = after-note Acquired _ (always-benched p (noted machine Acquired w) answers k (m .1))
   always-benched (note Released p) w answers k m = after-note Released _ (always-benched p (noted machine Released w) answers k (m .1))
   always-benched (note Lapsed p) w answers k m = absurd (m .0)

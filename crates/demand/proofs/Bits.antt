@@ -1,11 +1,11 @@
 -- Eight bits, the highest first, make up the byte.
 use Prim.Native.Nat.{ℕ, _+_, _*_, _/_, _%_, _^_, _<_, suc, zero}
-use mathlib.Core.Path.{_≡_, refl, ap, _∙_, sym}
+use mathlib.Core.Path.{_≡_, ap, _∙_, sym}
 use mathlib.Core.Bool.{Bool, true, false}
 use mathlib.Core.Logic.{_⊎_, inl, inr}
 use native.Mathlib.Nat.{pow-succ', div-div-eq-div-mul, div-le-self}
 use native.Mathlib.Omega.{arith}
-use lib.Bits.{bitAnd, and-high}
+use lib.Bits.{and-high}
 use lib.Dec.{eqb}
 use Rattle.hardware.specs.Prog.{pick}
 use Rattle.bus.specs.Bus.{bitOf, shifted}

@@ -1,29 +1,24 @@
 -- What a start, a byte sent and a byte read do with the module.
-use Prim.Native.Nat.{ℕ, _+_, _-_, _<_, suc, zero}
-use mathlib.Core.Path.{_≡_, refl, ap, _∙_, sym, subst⁻¹}
+use Prim.Native.Nat.{ℕ, _+_, _-_, suc, zero}
+use mathlib.Core.Path.{_≡_, refl, ap, _∙_, subst⁻¹}
 use mathlib.Core.Bool.{Bool, true, false, not}
 use native.Mathlib.Omega.{arith}
-use lib.Dec.{eqb, ltb}
-use borrow.Author.Tests.{lt-ltb, le-ltb}
 use Rattle.hardware.specs.declared.Error.the-variants.{I2c}
 use Rattle.hardware.specs.Prog.{pick}
 use Rattle.bus.specs.declared.Layout.{Layout}
-use Rattle.bus.specs.Bus.{Bus, fail, wait, sclHigh, sclLow, releaseSda, ackTries, start, outBit, outBits, inBit, inBits, bitOf, shifted, send}
-use Rattle.wire.specs.Lines.{START, STOP, Fall, Bit, Distinct}
-use Rattle.wire.specs.Always.{Side, Claim, From, FromRest}
+use Rattle.bus.specs.Bus.{Bus, fail, wait, sclHigh, sclLow, releaseSda, ackTries, start, outBits, inBit, inBits, bitOf, shifted, send}
+use Rattle.wire.specs.Lines.{START, Fall, Bit, Distinct}
+use Rattle.wire.specs.Always.{Claim, From, FromRest}
 use Rattle.wire.proofs.Commands as Commands
-use Rattle.bench.specs.declared.Page.{Page}
-use Rattle.bench.specs.declared.receiver.Act.the-variants.{Nothing, Offset, Store, Next}
-use Rattle.bench.specs.declared.receiver.Chosen.{Chosen}
-use Rattle.bench.specs.declared.receiver.Chosen.the-variants.{A0, A2}
+use Rattle.bench.specs.declared.receiver.Chosen.the-variants.{A0}
 use Rattle.bench.specs.declared.receiver.Receiver.{Receiver}
 use Rattle.bench.specs.declared.receiver.Stage.{Stage}
-use Rattle.bench.specs.declared.receiver.Stage.the-variants.{Idle, Address, Receive, AckRead, AckWrite, Send, Listen}
-use Rattle.bench.specs.Receiver.{at, fresh, started, stopped, taken, riseAt, rise, fallAt, fall, asksAt, asks, pullsAt, pulls}
-use Rattle.bench.specs.Bench.{onward, under, pageOf, pullsLow}
+use Rattle.bench.specs.declared.receiver.Stage.the-variants.{Address}
+use Rattle.bench.specs.Receiver.{at, stopped, taken, rise, fall, pulls}
+use Rattle.bench.specs.Bench.{onward, under}
 use Rattle.demand.specs.Claim.{Met, machine}
 use Rattle.demand.proofs.Bits.{tookBits, shifted-taken}
-use Rattle.demand.proofs.Receiver.{with, start-takes, stop-takes, rise-takes, fall-takes, rise-pulls, Taking, address-taking, taking, taking-rises, taking-stays, taking-free, Acks, acks-pull, acks-rise, begun, stop-free, listen-ends, listen-free, sending, listening, aimed, send-bit, send-rise, send-next, send-last}
+use Rattle.demand.proofs.Receiver.{with, stop-takes, rise-takes, rise-pulls, Taking, taking, taking-rises, taking-stays, taking-free, Acks, acks-pull, acks-rise, begun, stop-free, sending, listening, aimed, send-bit, send-rise, send-next, send-last}
 
 module _ (l : Layout) (g : Distinct l) where
   -- the same from an equal state

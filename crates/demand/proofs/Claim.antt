@@ -1,40 +1,38 @@
 -- The claim: a whole call of `identify` with the bench module, for every port, every start that 01 allows and every list
 -- of answers that meets the premises and is long enough.
-use Prim.Native.Nat.{ℕ, _+_, _<_, _≤_, suc}
-use mathlib.Core.Path.{_≡_, refl, ap, _∙_, sym, subst, subst⁻¹}
-use mathlib.Core.Bool.{Bool, true, false, not, _||_, false≢true}
-use mathlib.Core.List.{List, [], _∷_, _++_}
-use mathlib.Core.Logic.{_⊎_, inl, inr, ⊎-elim}
+use Prim.Native.Nat.{ℕ, _+_, _<_, _≤_}
+use mathlib.Core.Path.{_≡_, refl, ap, _∙_, sym, subst}
+use mathlib.Core.Bool.{Bool, true, false, false≢true}
+use mathlib.Core.List.{List}
+use mathlib.Core.Logic.{_⊎_, ⊎-elim}
 use native.Mathlib.Omega.{arith}
 use lib.Dec.{eqb}
 use lib.ListN.{length}
 use Rattle.hardware.specs.declared.Answer.{Answer}
 use Rattle.hardware.specs.declared.Port.{Port}
-use Rattle.hardware.specs.Prog.{Prog, R, Ok, Err, pick, Counted, tally}
-use Rattle.bus.specs.declared.Layout.{Layout}
+use Rattle.hardware.specs.Prog.{R, Ok, Err, pick, Counted}
 use Rattle.bus.specs.Layout.{layoutOf}
-use Rattle.wire.specs.Lines.{drawn, master, pullsSda, pullsScl, Rests}
-use Rattle.wire.specs.Always.{World, nobody, Always}
+use Rattle.wire.specs.Lines.{drawn, Rests}
+use Rattle.wire.specs.Always.{World, Always}
 use Rattle.wire.proofs.Edges.{rests}
 use Rattle.bench.specs.declared.Bench.{Bench}
-use Rattle.bench.specs.declared.receiver.Stage.{Stage}
-use Rattle.bench.specs.declared.receiver.Stage.the-variants.{Idle, AckWrite}
 use Rattle.bench.specs.Receiver.{fall, fallAt}
-use Rattle.bench.specs.Bench.{pullsLow, benchPulls}
+use Rattle.bench.specs.Bench.{pullsLow}
 use Rattle.sfp.specs.declared.Kind.{Kind}
 use Rattle.sfp.specs.declared.Kind.the-variants.{DaCu, DaActiveLimiting, SrLr, Cu1g, Sx1g, Lx1g, Bx10g, Bx1g, Unknown, NotPresent}
 use Rattle.sfp.specs.declared.Module.{Module}
-use Rattle.sfp.specs.Classes.{Bytes, has, SFP, PASSIVE-DA, ACTIVE-DA, LIMITING, SR, LR, BASE-T, SX, LX, BX10, asksRate, asksReach, bx10g, asksActive, kindOf, isCable, multispeedOf, Class, classOf, requests}
-use Rattle.sfp.specs.declared.Codes.{Codes}
-use Rattle.sfp.specs.Identify.{absent, other, recorded, identify}
+use Rattle.sfp.specs.Classes.{Bytes, SFP, kindOf, multispeedOf, Class, classOf, requests}
+use Rattle.sfp.specs.Identify.{absent, other, identify}
+use Rattle.sfp.specs.Finds.{moduleOf}
+use Rattle.sfp.proofs.Finds.{module-class}
 use Rattle.sfp.proofs.Ends.{IDENTIFY-STEPS, identify-ends}
-use Rattle.demand.specs.Claim.{Met, machine, Outcome, ended, short, Story, benched, Each, Premise, atStart, byteOf, Says, extra, Facts, Absent, InAckWrite, Claimed, Holds, Claim, Starts, Premises}
+use Rattle.demand.specs.Claim.{Met, machine, Outcome, ended, short, benched, Each, atStart, byteOf, Says, extra, Facts, Absent, InAckWrite, Claimed, Holds, Claim, Starts, Premises}
 use Rattle.demand.proofs.Receiver.{idle-free}
 use Rattle.demand.proofs.Clearing.{ack-pulls}
 use Rattle.demand.proofs.Attempts.{Stuck, stuck}
 use Rattle.demand.proofs.Requests.{world, After}
 use Rattle.demand.proofs.Identify as Identify
-use Rattle.demand.proofs.Benched.{Ending, Steady, Sound, always-benched, Over, ends-benched, told, tally-benched}
+use Rattle.demand.proofs.Benched.{Ending, Steady, always-benched, Over, ends-benched, told, tally-benched}
 
 -- no class is NotPresent
 abbrev present : Kind → Bool
@@ -74,27 +72,9 @@ unfolding Says Absent
 never-both at (Ok m) s a = false≢true (ap present (sym a) ∙ ap present (s .0) ∙ class-present at)
 never-both at (Err e) s a = s
 
--- the bytes of a record
-abbrev codesOf : Bytes → Codes
-codesOf at = record { g1 = at 6; g10 = at 3; cable = at 8 }
-
-found-says : (at : Bytes) → Says (Ok (pick (eqb (at 0) SFP) (recorded (at 0) (codesOf at) (kindOf at)) (other (at 0)))) (classOf at)
-unfolding Says classOf pick recorded multispeedOf
-found-says at = by (eqb (at 0) SFP)
-  where
-    by : (b : Bool) → Says (Ok (pick b (recorded (at 0) (codesOf at) (kindOf at)) (other (at 0)))) (pick b (record { kind = kindOf at; multispeed = multispeedOf at }) (record { kind = Unknown; multispeed = false }))
-    by true = (refl, refl)
-    by false = (refl, refl)
-
--- the requests, counted in the order of the call
-counted : (at : Bytes) (e : ℕ)
-    → pick (eqb (at 0) SFP) (pick (asksActive at) 1 0 + (pick (asksReach at) 2 0 + (pick (asksRate at) 1 0 + 3))) 4 + suc e ≡ requests at + e
-unfolding requests pick
-counted at e = by (eqb (at 0) SFP) (pick (asksActive at) 1 0) (pick (asksReach at) 2 0) (pick (asksRate at) 1 0)
-  where
-    by : (b : Bool) (x y z : ℕ) → pick b (x + (y + (z + 3))) 4 + suc e ≡ pick b (4 + z + y + x) 5 + e
-    by true x y z = omega arith
-    by false x y z = omega arith
+found-says : (at : Bytes) → Says (Ok (moduleOf at)) (classOf at)
+unfolding Says
+found-says at = (ap (λ c. c .kind) (module-class at), ap (λ c. c .multispeed) (module-class at))
 
 -- a module that is stuck otherwise is not in AckWrite
 stuck-not : (b : Bench) → Stuck (b .receiver) → InAckWrite b → ⊥
@@ -114,7 +94,7 @@ module _ (port : Port) (b : Bench) (small : (n : ℕ) → byteOf (b .a0) n < 256
     pub absent : InAckWrite b → Absent r × (w .other .made ≡ 11)
 
   well : (e j : ℕ) → extra b ≡ e → (n : Met) (w : ℕ) → After (layoutOf (port .family)) start j n w → j ≡ requests (byteOf (b .a0)) + e
-      → Facts (layoutOf (port .family)) b (Ok (pick (eqb (byteOf (b .a0) 0) SFP) (recorded (byteOf (b .a0) 0) (codesOf (byteOf (b .a0))) (kindOf (byteOf (b .a0)))) (other (byteOf (b .a0) 0)))) (world w n)
+      → Facts (layoutOf (port .family)) b (Ok (moduleOf (byteOf (b .a0)))) (world w n)
   well e j x n w a c =
       record {
         class = found-says (byteOf (b .a0));
@@ -135,7 +115,7 @@ module _ (port : Port) (b : Bench) (small : (n : ℕ) → byteOf (b .a0) n < 256
       free : pullsLow b ≡ false → Always (layoutOf (port .family)) machine (identify port) (atStart word b) End
       free e =
           Identify.identify-reads port start small End word x y r e
-          (λ n w a. record { facts = λ _. well 0 _ (rw e) n w a (counted (byteOf (b .a0)) 0); absent = λ i. absurd (free-not b e i) })
+          (λ n w a. record { facts = λ _. well 0 _ (rw e) n w a (omega arith); absent = λ i. absurd (free-not b e i) })
 
       held : pullsLow b ≡ true → Always (layoutOf (port .family)) machine (identify port) (atStart word b) End
       held e =
@@ -143,7 +123,7 @@ module _ (port : Port) (b : Bench) (small : (n : ℕ) → byteOf (b .a0) n < 256
           (λ i. Identify.identify-fails port start small End word x y r i (λ n v made. record { facts = λ no. absurd (no i); absent = λ _. (refl, omega (arith, made)) }))
           (λ s.
           Identify.identify-clears port start small End word x y r e s
-          (λ n w a. record { facts = λ _. well 1 _ (rw e) n w a (counted (byteOf (b .a0)) 1); absent = λ i. absurd (stuck-not b s i) }))
+          (λ n w a. record { facts = λ _. well 1 _ (rw e) n w a refl; absent = λ i. absurd (stuck-not b s i) }))
           (stuck start e)
 
       by : (t : Bool) → pullsLow b ≡ t → Always (layoutOf (port .family)) machine (identify port) (atStart word b) End

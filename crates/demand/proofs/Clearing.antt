@@ -5,12 +5,12 @@ use mathlib.Core.Path.{_≡_, refl, ap, _∙_, sym, subst⁻¹}
 use mathlib.Core.Bool.{Bool, true, false, not}
 use native.Mathlib.Omega.{arith}
 use lib.Dec.{ltb, lit<}
-use borrow.Author.Tests.{lt-ltb, le-ltb, ltb-true, ltb-false}
+use borrow.Author.Tests.{lt-ltb, ltb-true, ltb-false}
 use Rattle.hardware.specs.Prog.{pick}
 use Rattle.bus.specs.declared.Layout.{Layout}
-use Rattle.bus.specs.Bus.{bitOf, Bus, none, done, fail, orQuiet, quieted, wait, sclHigh, sclLow, start, stop, pulses, clearStop, clearAgain, clearFree, clear}
+use Rattle.bus.specs.Bus.{bitOf, Bus, none, done, orQuiet, quieted, wait, sclHigh, sclLow, start, stop, pulses, clearStop, clearAgain, clearFree, clear}
 use Rattle.wire.specs.Lines.{drawn, STOP, Fall, Bit, Edge, Distinct}
-use Rattle.wire.specs.Always.{Side, Always, Claim, From, FromRest}
+use Rattle.wire.specs.Always.{Always, Claim, From, FromRest}
 use Rattle.wire.proofs.Lines as Lines
 use Rattle.wire.proofs.Commands as Commands
 use Rattle.bench.specs.declared.Bench.{Bench}
@@ -21,7 +21,7 @@ use Rattle.bench.specs.declared.receiver.Chosen.the-variants.{A0, A2}
 use Rattle.bench.specs.declared.receiver.Receiver.{Receiver}
 use Rattle.bench.specs.declared.receiver.Stage.{Stage}
 use Rattle.bench.specs.declared.receiver.Stage.the-variants.{Idle, Address, Receive, AckRead, AckWrite, Send, Listen}
-use Rattle.bench.specs.Receiver.{at, fresh, stopped, taken, takes, notes, riseAt, rise, byteTaken, addressed, fallAt, fall, asksAt, asks, edged, asksOn, pullsAt, pulls}
+use Rattle.bench.specs.Receiver.{at, stopped, taken, takes, riseAt, rise, addressed, fallAt, fall, asksAt, asks, edged, asksOn, pullsAt, pulls}
 use Rattle.bench.specs.Bench.{under, acted, pageOf, withPage, takesEdge, pullsLow}
 use Rattle.demand.specs.Claim.{Met, machine}
 use Rattle.demand.proofs.Receiver.{with, rise-takes, fall-takes, rise-pulls, idle-free, stop-takes, stop-free, taking, taking-rises, taking-stays, taking-free, address-taking}

@@ -8,7 +8,7 @@ use Rattle.hardware.specs.declared.Access.the-variants.{Read, Write, Wait}
 use Rattle.hardware.specs.declared.Answer.{Answer}
 use Rattle.hardware.specs.declared.change.Change.{Change}
 use Rattle.hardware.specs.declared.poll.Watch.{Watch}
-use Rattle.hardware.specs.Prog.{Prog, ret, ask, note, give, Note, Attempt, Acquired, Released, Lapsed, R, Ok, Err, orErr, _>>=_, _>>?_, pick}
+use Rattle.hardware.specs.Prog.{Prog, ret, ask, note, give, Note, Attempt, Acquires, Acquired, Released, Lapsed, R, Ok, Err, orErr, _>>=_, _>>?_, pick}
 use Rattle.hardware.specs.Registers.{STATUS, checked, written, flushed, read, write, flush, delay, micros}
 use Rattle.hardware.specs.Change.{settled, stored, change}
 use Rattle.hardware.specs.Poll.{polled, poll}
@@ -38,6 +38,7 @@ pub record Beside (reg : ℕ) (may : ℕ → ℕ → Type 0) (r : ℕ) : Type 0 
 
 apart-map : (n : Note) (X Y : Type 0) → (X → Y) → Apart n X → Apart n Y
 apart-map Attempt X Y f h = h
+apart-map Acquires X Y f h = f h
 apart-map Acquired X Y f h = f h
 apart-map Released X Y f h = f h
 apart-map Lapsed X Y f h = tt
@@ -97,6 +98,10 @@ module _ (reg : ℕ) (may : ℕ → ℕ → Type 0) where
   unfolding Fine
   fine-lapsed p Q = tt
 
+  pub fine-acquires : {A : Type 0} (p : Prog A) (Q : A → Type 0) → Fine reg may p Q → Fine reg may (note Acquires p) Q
+  unfolding Fine
+  fine-acquires p Q h = h
+
   pub fine-acquired : {A : Type 0} (p : Prog A) (Q : A → Type 0) → Fine reg may p Q → Fine reg may (note Acquired p) Q
   unfolding Fine
   fine-acquired p Q h = h
@@ -146,6 +151,7 @@ module _ (reg : ℕ) (may : ℕ → ℕ → Type 0) where
 
 -- what an acquire or a release notes makes nothing of the other side
 pub record Unmoved (o : Side) : Type 0 where
+  pub acquires : (s : o .State) → o .notes Acquires s ≡ s
   pub acquired : (s : o .State) → o .notes Acquired s ≡ s
   pub released : (s : o .State) → o .notes Released s ≡ s
 
@@ -161,6 +167,7 @@ module _ (l : Layout) (o : Side) (still : Unmoved o) where
   fine-alone (ask (Write r v) f) w Q h = rw (h .0) (fine-alone (f _) w Q (h .1))
   fine-alone (ask (Wait n) f) w Q h = fine-alone (f _) w Q h
   fine-alone (note Attempt p) w Q h = absurd h
+  fine-alone (note Acquires p) w Q h = noted-alone Acquires p w Q (still .acquires) (fine-alone p w Q h)
   fine-alone (note Acquired p) w Q h = noted-alone Acquired p w Q (still .acquired) (fine-alone p w Q h)
   fine-alone (note Released p) w Q h = noted-alone Released p w Q (still .released) (fine-alone p w Q h)
   fine-alone (note Lapsed p) w Q h = tt

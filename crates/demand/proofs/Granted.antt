@@ -1,26 +1,24 @@
 -- Where every lock and grant comes at once the claim holds: the lucky answers are a list that meets the premises.
 use Prim.Native.Nat.{ℕ}
-use mathlib.Core.Path.{_≡_, refl, ap, subst, subst⁻¹}
+use mathlib.Core.Path.{_≡_, refl, subst, subst⁻¹}
 use mathlib.Core.Bool.{Bool, true, false}
-use mathlib.Core.List.{List, [], _∷_, _++_}
-use lib.Dec.{eqb}
+use mathlib.Core.List.{List, _++_}
 use Rattle.hardware.specs.declared.Access.{Access}
 use Rattle.hardware.specs.declared.Access.the-variants.{Read, Write, Wait}
 use Rattle.hardware.specs.declared.Answer.{Answer}
 use Rattle.hardware.specs.declared.Answer.the-variants.{Value, Done}
 use Rattle.hardware.specs.declared.Port.{Port}
 use Rattle.hardware.specs.Asked.{fits}
-use Rattle.hardware.specs.Prog.{Prog, ret, ask, note, give, pick, Counted, tally}
+use Rattle.hardware.specs.Prog.{Prog, ret, ask, note, give, pick, tally}
 use Rattle.bus.specs.declared.Layout.{Layout}
 use Rattle.bus.specs.Layout.{layoutOf}
 use Rattle.wire.specs.Always.{World, wrote, reading, noted}
 use Rattle.bench.specs.declared.Bench.{Bench}
-use Rattle.bench.specs.Register.{side}
 use Rattle.sfp.specs.Identify.{identify}
 use Rattle.demand.specs.Fine.{names}
 use Rattle.bench.specs.Luck.{lucky}
-use Rattle.demand.specs.Claim.{machine, atStart, Starts, Premises}
-use Rattle.demand.specs.Ran.{Ran, nextAnswer, ranAt, ran, forget, Demand3, grantedAt, granted, Granted3}
+use Rattle.demand.specs.Claim.{machine, atStart, Starts}
+use Rattle.demand.specs.Ran.{nextAnswer, ranAt, ran, forget, Demand3, grantedAt, granted, Granted3}
 use Rattle.demand.proofs.Benched.{wrote-made}
 use Rattle.demand.proofs.Possible.{playedAt, played, luckyAnswers, lucky-meets, lucky-long}
 use Rattle.demand.proofs.Ran.{wrote-forget, demand-3}

@@ -19,7 +19,7 @@ use Rattle.bus.specs.Layout.{x550em, layoutOf}
 use Rattle.wire.specs.Lines.{distinct}
 use Rattle.demand.specs.Fine.{Fine}
 use Rattle.demand.specs.Claim.{staysIn, machine}
-use Rattle.demand.proofs.Fine.{Good, Fair, Beside, Unmoved, fine-then, fine-or, fine-try, fine-pick, fine-ret, fine-ok, fine-lapsed, fine-acquired, fine-released, fine-read, fine-write, fine-wait, fine-delay, fine-change, fine-poll}
+use Rattle.demand.proofs.Fine.{Good, Fair, Beside, Unmoved, fine-then, fine-or, fine-try, fine-pick, fine-ret, fine-ok, fine-lapsed, fine-acquires, fine-acquired, fine-released, fine-read, fine-write, fine-wait, fine-delay, fine-change, fine-poll}
 
 -- the registers of the locks and of the handshake
 pub record Aside (reg : ℕ) (may : ℕ → ℕ → Type 0) (family : Family) : Type 0 where
@@ -119,8 +119,9 @@ module _ (reg : ℕ) (may : ℕ → ℕ → Type 0) where
   pub acquires-fine : (port : Port) (mask : ℕ) → Aside reg may (port .family) → noneOf mask TOKEN ≡ true → Fine reg may (acquire port mask) (λ r. r ≡ Ok tt)
   unfolding acquire acquiredAll pick
   acquires-fine port mask s e =
-      rw e
-      (fine-try reg may _ _ _ _ (acquire-bits-fine port s (hwOf mask)) (λ _ _. fine-acquired reg may _ _ (fine-ret reg may _ _ refl)))
+      fine-acquires reg may _ _
+      (rw e
+      (fine-try reg may _ _ _ _ (acquire-bits-fine port s (hwOf mask)) (λ _ _. fine-acquired reg may _ _ (fine-ret reg may _ _ refl))))
 
   pub releases-fine : (port : Port) (mask : ℕ) → Aside reg may (port .family) → noneOf mask TOKEN ≡ true → Fine reg may (release port mask) (λ r. r ≡ Ok tt)
   unfolding release pick
@@ -168,4 +169,4 @@ release-fine port mask e = releases-fine _ _ port mask (aside (port .family)) e
 
 -- the bench module and the count of transfers are unmoved by them
 pub machine-unmoved : Unmoved machine
-machine-unmoved = record { acquired = λ s. refl; released = λ s. refl }
+machine-unmoved = record { acquires = λ s. refl; acquired = λ s. refl; released = λ s. refl }

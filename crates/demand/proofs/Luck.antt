@@ -14,7 +14,7 @@ use Rattle.hardware.specs.declared.Answer.the-variants.{Value}
 use Rattle.hardware.specs.declared.change.Change.{Change}
 use Rattle.hardware.specs.declared.poll.Watch.{Watch}
 use Rattle.hardware.specs.Asked.{is, fits}
-use Rattle.hardware.specs.Prog.{Prog, ret, ask, note, give, Note, Attempt, Acquired, Released, Lapsed, R, Ok, orErr, _>>=_, _>>?_, pick}
+use Rattle.hardware.specs.Prog.{Prog, ret, ask, note, give, Note, Attempt, Acquires, Acquired, Released, Lapsed, R, Ok, orErr, _>>=_, _>>?_, pick}
 use Rattle.hardware.specs.Registers.{STATUS, ESDP, noneOf, checked, written, flushed, read, write, delay}
 use Rattle.hardware.specs.Change.{settled, stored, change}
 use Rattle.hardware.specs.Poll.{polled, poll}
@@ -40,6 +40,7 @@ chosen-any false P a h = h a
 
 unlapsed-map : (n : Note) (X Y : Type 0) → (X → Y) → Unlapsed n X → Unlapsed n Y
 unlapsed-map Attempt X Y f h = f h
+unlapsed-map Acquires X Y f h = f h
 unlapsed-map Acquired X Y f h = f h
 unlapsed-map Released X Y f h = f h
 unlapsed-map Lapsed X Y f h = h
@@ -278,8 +279,9 @@ module _ (reg : ℕ) (port : Port) (s : Aside reg staysIn (port .family)) (mask 
 pub acquire-lucky : (port : Port) (mask : ℕ) → noneOf mask TOKEN ≡ true → Lucky (layoutOf (port .family) .reg) lucky (acquire port mask) (λ r. r ≡ Ok tt)
 unfolding acquire acquiredAll pick
 acquire-lucky port mask e =
-    rw e
-    (lucky-try _ _ _ _ _ _ (acquire-bits-lucky _ port (aside (port .family)) (hwOf mask)) (lucky-note _ _ Acquired _ _ (lucky-ret _ _ _ _ refl)))
+    lucky-note _ _ Acquires _ _
+    (rw e
+    (lucky-try _ _ _ _ _ _ (acquire-bits-lucky _ port (aside (port .family)) (hwOf mask)) (lucky-note _ _ Acquired _ _ (lucky-ret _ _ _ _ refl))))
 
 pub release-lucky : (port : Port) (mask : ℕ) → noneOf mask TOKEN ≡ true → Lucky (layoutOf (port .family) .reg) lucky (release port mask) (λ r. r ≡ Ok tt)
 unfolding release pick

@@ -4,23 +4,23 @@ use mathlib.Core.Path.{_≡_, refl, ap}
 use mathlib.Core.Bool.{Bool, true, false}
 use mathlib.Core.List.{List, [], _∷_, _++_}
 use native.Mathlib.Omega.{arith}
-use lib.Dec.{T, eqb}
+use lib.Dec.{eqb}
 use lib.ListN.{length, length-append}
 use Rattle.hardware.specs.declared.Access.{Access}
 use Rattle.hardware.specs.declared.Access.the-variants.{Read, Write, Wait}
 use Rattle.hardware.specs.declared.Answer.{Answer}
-use Rattle.hardware.specs.declared.Answer.the-variants.{Value, Done, Failed}
+use Rattle.hardware.specs.declared.Answer.the-variants.{Value, Done}
 use Rattle.hardware.specs.declared.Port.{Port}
-use Rattle.hardware.specs.Prog.{Prog, ret, ask, note, give, Note, Attempt, Acquired, Released, Lapsed, pick}
+use Rattle.hardware.specs.Prog.{Prog, ret, ask, note, give, Attempt, Acquires, Acquired, Released, Lapsed, pick}
 use Rattle.bus.specs.declared.Layout.{Layout}
 use Rattle.bus.specs.Layout.{layoutOf}
 use Rattle.wire.specs.Always.{World, wrote, reading, noted}
 use Rattle.bench.specs.declared.Bench.{Bench}
 use Rattle.sfp.specs.Identify.{identify}
 use Rattle.sfp.proofs.Ends.{IDENTIFY-STEPS}
-use Rattle.demand.specs.Fine.{names, Chosen, Unlapsed, Lucky}
+use Rattle.demand.specs.Fine.{names, Lucky}
 use Rattle.bench.specs.Luck.{lucky}
-use Rattle.demand.specs.Claim.{machine, Event, answered, moved, noticed, Story, saw, elsewhere, visit, benched, Each, Works, Comes, Premise, atStart, Starts, Premises}
+use Rattle.demand.specs.Claim.{machine, elsewhere, visit, benched, Each, Works, Premise, atStart, Premises}
 use Rattle.demand.proofs.Luck.{lucky-stays}
 use Rattle.demand.proofs.LuckyCalls.{identify-lucky}
 
@@ -59,6 +59,7 @@ module _ (l : Layout) {A : Type 0} (Q : A → Type 0) (rest : List Answer) where
   lucky-premises (ret a) w k = tt
   lucky-premises (ask x f) w k = lucky-at x (names (l .reg) x) f w refl (λ a w′. lucky-premises (f a) w′) k
   lucky-premises (note Attempt p) w k = (tt, lucky-premises p (noted machine Attempt w) k)
+  lucky-premises (note Acquires p) w k = (tt, lucky-premises p (noted machine Acquires w) k)
   lucky-premises (note Acquired p) w k = (tt, lucky-premises p (noted machine Acquired w) k)
   lucky-premises (note Released p) w k = (tt, lucky-premises p (noted machine Released w) k)
   lucky-premises (note Lapsed p) w k = absurd k

@@ -3,12 +3,12 @@ use Prim.Native.Nat.{ℕ, _≤_}
 use mathlib.Core.Path.{_≡_, refl, ap, subst, subst⁻¹}
 use mathlib.Core.Bool.{Bool, true, false}
 use mathlib.Core.List.{List, [], _∷_}
-use lib.Dec.{T, eqb}
+use lib.Dec.{T}
 use lib.ListN.{length}
 use Rattle.hardware.specs.declared.Access.{Access}
 use Rattle.hardware.specs.declared.Access.the-variants.{Read, Write, Wait}
 use Rattle.hardware.specs.declared.Answer.{Answer}
-use Rattle.hardware.specs.declared.Answer.the-variants.{Value, Done, Failed}
+use Rattle.hardware.specs.declared.Answer.the-variants.{Value, Done}
 use Rattle.hardware.specs.declared.Port.{Port}
 use Rattle.hardware.specs.Asked.{fits}
 use Rattle.hardware.specs.Prog.{Prog, ret, ask, note, give, R, pick, Counted, tally}
@@ -23,7 +23,7 @@ use Rattle.sfp.specs.Identify.{identify}
 use Rattle.sfp.proofs.Ends.{IDENTIFY-STEPS}
 use Rattle.demand.specs.Fine.{names}
 use Rattle.demand.specs.Claim.{Met, machine, Outcome, ended, short, Story, elsewhere, visit, benched, Each, Works, Premise, atStart, Claimed, Holds, Claim, Starts, Premises}
-use Rattle.demand.specs.Ran.{Ran, came, lacked, stopped, Came, nextAnswer, ranAt, ran, forget, Shown, Demand3}
+use Rattle.demand.specs.Ran.{Ran, came, lacked, Came, nextAnswer, ranAt, ran, forget, Shown, Demand3}
 use Rattle.demand.proofs.Benched.{works-fits, wrote-made}
 use Rattle.demand.proofs.Claim.{identified, identified-ended}
 

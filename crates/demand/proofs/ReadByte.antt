@@ -7,17 +7,16 @@ use lib.ListN.{getD}
 use Rattle.bus.specs.declared.Layout.{Layout}
 use Rattle.bus.specs.Bus.{Bus, start, stop, outBit, inByte, send}
 use Rattle.wire.specs.Lines.{STOP, Fall, Bit, Distinct}
-use Rattle.wire.specs.Always.{Side, Claim, From, FromRest}
+use Rattle.wire.specs.Always.{Claim, From, FromRest}
 use Rattle.wire.proofs.Commands as Commands
 use Rattle.bench.specs.declared.receiver.Chosen.the-variants.{A0}
 use Rattle.bench.specs.declared.receiver.Receiver.{Receiver}
-use Rattle.bench.specs.declared.receiver.Stage.{Stage}
 use Rattle.bench.specs.declared.receiver.Stage.the-variants.{Idle, Address, Receive, AckRead, AckWrite}
 use Rattle.bench.specs.Receiver.{at, stopped, chose, byteTaken}
 use Rattle.bench.specs.Bench.{onward, under}
 use Rattle.demand.specs.Claim.{Met, machine}
 use Rattle.demand.proofs.Bits.{tookBits, byte-taken}
-use Rattle.demand.proofs.Receiver.{with, stop-takes, rise-pulls, address-taking, receive-taking, taking, taking-free, stop-free, idle-free, idle-rise, listen-ends, listen-free, listening, aimed, sending, expecting, addressed-write, addressed-read, offset-taken, ack-write-ends, ack-read-ends}
+use Rattle.demand.proofs.Receiver.{with, stop-takes, rise-pulls, address-taking, receive-taking, taking, taking-free, stop-free, idle-free, idle-rise, listen-ends, listen-free, listening, aimed, expecting, addressed-write, addressed-read, offset-taken, ack-write-ends, ack-read-ends}
 use Rattle.demand.proofs.Bytes as Bytes
 
 -- every byte is as it was, and no transfer began

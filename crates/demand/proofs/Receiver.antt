@@ -1,24 +1,21 @@
 -- What edges make of the module, by the receiver's stage.
-use Prim.Native.Nat.{ℕ, _+_, _-_, _<_, _≤_, suc}
-use mathlib.Core.Path.{_≡_, refl, ap, _∙_, subst⁻¹}
+use Prim.Native.Nat.{ℕ, _-_, _<_, _≤_, suc}
+use mathlib.Core.Path.{_≡_, refl, ap, _∙_}
 use mathlib.Core.Bool.{Bool, true, false, not}
-use lib.Dec.{eqb, ltb}
+use lib.Dec.{ltb}
 use native.Mathlib.Omega.{arith}
 use borrow.Author.Tests.{lt-ltb, le-ltb}
 use Rattle.hardware.specs.Prog.{pick}
 use Rattle.bus.specs.Bus.{bitOf}
 use Rattle.wire.specs.Lines.{Edge, START, STOP, Fall, Bit}
-use Rattle.wire.specs.Always.{Side}
 use Rattle.bench.specs.declared.Bench.{Bench}
-use Rattle.bench.specs.declared.Page.{Page}
-use Rattle.bench.specs.declared.receiver.Act.{Act}
-use Rattle.bench.specs.declared.receiver.Act.the-variants.{Nothing, Offset, Store, Next}
+use Rattle.bench.specs.declared.receiver.Act.the-variants.{Nothing}
 use Rattle.bench.specs.declared.receiver.Chosen.{Chosen}
 use Rattle.bench.specs.declared.receiver.Chosen.the-variants.{A0, A2}
 use Rattle.bench.specs.declared.receiver.Receiver.{Receiver}
 use Rattle.bench.specs.declared.receiver.Stage.{Stage}
 use Rattle.bench.specs.declared.receiver.Stage.the-variants.{Idle, Address, Receive, AckRead, AckWrite, Send, Listen}
-use Rattle.bench.specs.Receiver.{at, fresh, started, stopped, taken, takes, notes, riseAt, rise, chose, addressed, byteTaken, fallAt, fall, asksAt, asks, edged, asksOn, pullsAt, pulls}
+use Rattle.bench.specs.Receiver.{at, started, stopped, taken, takes, riseAt, rise, chose, addressed, byteTaken, fallAt, fall, asksAt, asks, edged, asksOn, pullsAt, pulls}
 use Rattle.bench.specs.Bench.{onward, under, acted, pageOf, withPage, takesEdge, pullsLow}
 use Rattle.demand.specs.Claim.{Met, machine}
 

@@ -1,22 +1,22 @@
 -- A request of one byte of page A0: its lock, its handshake, its attempts, and the module at its end.
 use Prim.Native.Nat.{ℕ, _+_, _<_, suc, zero}
-use mathlib.Core.Path.{_≡_, refl, ap, _∙_, sym}
+use mathlib.Core.Path.{_≡_, _∙_}
 use mathlib.Core.Bool.{Bool, true, false}
 use native.Mathlib.Omega.{arith}
 use lib.ListN.{getD}
 use Rattle.hardware.specs.declared.Port.{Port}
 use Rattle.hardware.specs.declared.Error.the-variants.{I2c}
-use Rattle.hardware.specs.Prog.{Prog, ret, R, Ok, Err, _>>=_, pick}
+use Rattle.hardware.specs.Prog.{Prog, R, Ok, Err, pick}
 use Rattle.bus.specs.declared.Layout.{Layout}
 use Rattle.bus.specs.declared.Taken.{Taken}
 use Rattle.bus.specs.Layout.{layoutOf}
 use Rattle.bus.specs.Bus.{none, took, isI2c}
 use Rattle.wire.specs.Lines.{drawn, Rests, distinct}
 use Rattle.wire.specs.Always.{World, Always}
-use Rattle.wire.proofs.Always.{always-map, always-bind}
+use Rattle.wire.proofs.Always.{always-bind}
 use Rattle.bench.specs.declared.receiver.Stage.the-variants.{Idle, AckWrite}
 use Rattle.i2c.specs.declared.once.Request.the-variants.{ReadByte}
-use Rattle.i2c.specs.I2c.{mask, deviceOf, isWrite, body, read-off, valueOf, givesValue, failedI2c, once, whenLock, pauses, readJudged, readTries, moves, withBus, handshaken, transferred}
+use Rattle.i2c.specs.I2c.{deviceOf, isWrite, body, read-off, valueOf, givesValue, failedI2c, once, pauses, readJudged, readTries, moves, withBus, handshaken, transferred}
 use Rattle.sfp.specs.declared.Module.{Module}
 use Rattle.sfp.specs.Identify.{EEPROM, absent, orAbsent, byte}
 use Rattle.demand.specs.Claim.{Met, machine}

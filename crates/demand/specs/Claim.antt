@@ -1,21 +1,21 @@
 -- What is claimed of a whole call of `identify` with the bench module. The module's edges are in `bench/specs`, the lines
 -- and I2CCTL in `wire/specs`, classes and requests in `sfp/specs/Classes.antt`, `identify` in `sfp/specs/Identify.antt`.
-use Prim.Native.Nat.{ℕ, _+_, _<_, _≤_}
+use Prim.Native.Nat.{ℕ, _+_, _<_}
 use mathlib.Core.Path.{_≡_}
-use mathlib.Core.Bool.{Bool, true, false, not, _||_}
+use mathlib.Core.Bool.{true, not, _||_}
 use mathlib.Core.List.{List, [], _∷_}
 use lib.Dec.{T, eqb}
-use lib.ListN.{getD, length}
+use lib.ListN.{getD}
 use Rattle.hardware.specs.declared.Access.{Access}
 use Rattle.hardware.specs.declared.Access.the-variants.{Read, Write, Wait}
 use Rattle.hardware.specs.declared.Answer.{Answer}
 use Rattle.hardware.specs.declared.Answer.the-variants.{Value, Done, Failed}
 use Rattle.hardware.specs.declared.Port.{Port}
-use Rattle.hardware.specs.Prog.{Prog, ret, ask, note, give, Note, Attempt, Acquired, Released, Lapsed, R, Ok, Err, pick, Counted, begun, tally}
+use Rattle.hardware.specs.Prog.{Prog, ret, ask, note, give, Note, Attempt, Acquires, Acquired, Released, Lapsed, R, Ok, Err, pick, Counted, begun, tally}
 use Rattle.hardware.specs.Registers.{STATUS}
 use Rattle.bus.specs.declared.Layout.{Layout}
 use Rattle.bus.specs.Layout.{layoutOf}
-use Rattle.wire.specs.Lines.{drawn, master, ready}
+use Rattle.wire.specs.Lines.{master, ready}
 use Rattle.wire.specs.Always.{Side, World, nobody, wrote, reading, noted}
 use Rattle.bench.specs.declared.Bench.{Bench}
 use Rattle.bench.specs.declared.Page.{Page}
@@ -100,6 +100,7 @@ Works (Wait n) Failed = ⊥
 -- and no lock or grant runs out: none of the five bounded waits is noted to have lapsed
 abbrev pub Comes : Note → Type 0
 Comes Attempt = Unit {0}
+Comes Acquires = Unit {0}
 Comes Acquired = Unit {0}
 Comes Released = Unit {0}
 Comes Lapsed = ⊥

@@ -7,7 +7,7 @@ use Rattle.hardware.specs.declared.Access.{Access}
 use Rattle.hardware.specs.declared.Access.the-variants.{Read, Write, Wait}
 use Rattle.hardware.specs.declared.Answer.{Answer}
 use Rattle.hardware.specs.declared.Answer.the-variants.{Value, Done}
-use Rattle.hardware.specs.Prog.{Prog, ret, ask, note, give, Note, Attempt, Acquired, Released, Lapsed}
+use Rattle.hardware.specs.Prog.{Prog, ret, ask, note, give, Note, Attempt, Acquires, Acquired, Released, Lapsed}
 
 -- an access of another register than I2CCTL, answered by its kind, a read by any value that it may get
 unfoldable pub Elsewhere : ℕ → (ℕ → ℕ → Type 0) → Access → (Answer → Type 0) → Type 0
@@ -18,6 +18,7 @@ Elsewhere reg may (Wait n) K = K Done
 -- no transfer begins, and where a lock or a grant runs out there is nothing to show
 abbrev pub Apart : Note → Type 0 → Type 0
 Apart Attempt X = ⊥
+Apart Acquires X = X
 Apart Acquired X = X
 Apart Released X = X
 Apart Lapsed X = Unit {0}
@@ -41,6 +42,7 @@ Chosen false X Y = Y
 
 abbrev pub Unlapsed : Note → Type 0 → Type 0
 Unlapsed Attempt X = X
+Unlapsed Acquires X = X
 Unlapsed Acquired X = X
 Unlapsed Released X = X
 Unlapsed Lapsed X = ⊥

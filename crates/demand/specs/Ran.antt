@@ -8,11 +8,11 @@ use Rattle.hardware.specs.declared.Access.the-variants.{Read, Write, Wait}
 use Rattle.hardware.specs.declared.Answer.{Answer}
 use Rattle.hardware.specs.declared.Answer.the-variants.{Value, Done}
 use Rattle.hardware.specs.declared.Port.{Port}
-use Rattle.hardware.specs.Asked.{Asked, no, yes, openPort, fits}
+use Rattle.hardware.specs.Asked.{Asked, no, yes, fits}
 use Rattle.hardware.specs.Prog.{Prog, ret, ask, note, give, R, pick, Counted, tally}
 use Rattle.bus.specs.declared.Layout.{Layout}
 use Rattle.bus.specs.Layout.{layoutOf}
-use Rattle.wire.specs.Always.{World, wrote, reading, noted}
+use Rattle.wire.specs.Always.{World, wrote, reading}
 use Rattle.bench.specs.declared.Bench.{Bench}
 use Rattle.bench.specs.Register.{side}
 use Rattle.sfp.specs.declared.Module.{Module}

@@ -15,7 +15,7 @@ use Rattle.hardware.specs.declared.Answer.the-variants.{Value, Done}
 use Rattle.hardware.specs.declared.change.Change.{Change}
 use Rattle.hardware.specs.declared.poll.Watch.{Watch}
 use Rattle.hardware.specs.Asked.{fits}
-use Rattle.hardware.specs.Prog.{Note, Attempt, Acquired, Released, Lapsed, Prog, ret, ask, note, give, stays, erase, begun, tally, R, Ok, Err, orErr, _>>=_, _>>?_, pick}
+use Rattle.hardware.specs.Prog.{Note, Attempt, Acquires, Acquired, Released, Lapsed, Prog, ret, ask, note, give, stays, erase, begun, tally, R, Ok, Err, orErr, _>>=_, _>>?_, pick}
 use Rattle.hardware.specs.Registers.{read, readRaw, write, flush, delay}
 use Rattle.hardware.specs.Change.{settled, stored, change}
 use Rattle.hardware.specs.Poll.{polled, poll}
@@ -58,6 +58,7 @@ ends-pick false p q n e d = d
 pub ends-stays : {A : Type 0} (k : Note) (p : Prog A) (n : ℕ) → Ends p n → Ends (stays k p) n
 unfolding Ends
 ends-stays Attempt p n e = e
+ends-stays Acquires p n e = e
 ends-stays Acquired p n e = e
 ends-stays Released p n e = e
 ends-stays Lapsed p n e = e

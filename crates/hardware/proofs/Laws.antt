@@ -1,23 +1,24 @@
 -- Laws of the register programs that the proofs cite.
 use Prim.Native.Nat.{ℕ, _+_, _-_, _<_, _≤_, suc, zero}
-use mathlib.Core.Path.{_≡_, refl, ap, sym, _∙_}
+use mathlib.Core.Path.{_≡_, refl, ap, sym, _∙_, subst}
 use mathlib.Core.Bool.{Bool, true, false}
 use mathlib.Core.List.{List, [], _∷_}
-use lib.Dec.{ltb}
+use lib.Dec.{T, ltb}
 use lib.ListN.{getD}
 use native.Mathlib.Nat.{add-zero, zero-add}
 use native.Mathlib.Numerals.{sub-one}
 use native.Mathlib.Omega.{arith}
 use borrow.Author.Tests.{ltb-true}
-use Rattle.hardware.specs.Prog.{Note, Attempt, Acquired, Released, Lapsed, Prog, ret, ask, note, give, erase, orErr, _>>=_, pick, begun, tally}
-use Rattle.hardware.specs.Asked.{Asked, no, yes, andThen, question, openFamily, openLan, openPort, portOpened, validPort}
-use Rattle.hardware.specs.Runs.{run, onward, ran, run-erase, given, answered, transfersIn, countedStand, counted}
+use Rattle.hardware.specs.Prog.{Note, Attempt, Acquires, Acquired, Released, Lapsed, Prog, ret, ask, note, give, erase, _>>=_, pick, begun, tally}
+use Rattle.hardware.specs.Asked.{Asked, no, yes, andThen, question, openFamily, openLan, openPort, portOpened, validPort, fits}
+use Rattle.hardware.specs.Runs.{run, onward, ran, run-erase, given, answered, transfersIn, countedStand, counted, led, driven, Awaited, AwaitedIn}
+use Rattle.hardware.specs.declared.Access.{Access}
 use Rattle.hardware.specs.declared.Answer.{Answer}
 use Rattle.hardware.specs.declared.Family.{Family}
 use Rattle.hardware.specs.declared.Port.{Port}
 use Rattle.hardware.specs.declared.Opening.{Opening}
 use Rattle.hardware.specs.declared.Opening.the-variants.{Port as Opened}
-use Rattle.hardware.specs.Poll.{poll, polled, pollNext, accessPoll, restPoll}
+use Rattle.hardware.specs.Poll.{poll, pollNext, accessPoll, restPoll}
 use Rattle.hardware.specs.declared.poll.Watch.{Watch}
 use Rattle.hardware.specs.declared.poll.Poll.the-variants.{Reading}
 use Rattle.hardware.specs.declared.poll.PollNext.the-variants.{Going}
@@ -78,6 +79,7 @@ opened-valid family device lan {p = p} e h = family-valid device lan p (openFami
 -- the count at the end of a run is that of the transfers it begins
 begun-more : (k : Note) (n m : ℕ) → begun k n + m ≡ n + begun k m
 begun-more Attempt n m = omega arith
+begun-more Acquires n m = refl
 begun-more Acquired n m = refl
 begun-more Released n m = refl
 begun-more Lapsed n m = refl
@@ -99,3 +101,29 @@ pub asked-runs : {A : Type 0} (o : Asked Port) (p : Port → Prog A) (l : List A
 unfolding ran andThen
 asked-runs (no n) p l = refl
 asked-runs (yes port) p l = ap yes (run-counted (p port) l)
+
+-- a step after an answer of the awaited kind tells what is left of the call, and can be stepped on from
+abbrev pub Onward : {A Told : Type 0} → (Told → Asked (Prog A)) → (Told → Answer → Told) → (Told → Type 0) → Type 0
+Onward {A} {Told} said go Stands =
+    (t : Told) (x : Access) (f : Answer → Prog A) (a : Answer) → Stands t → said t ≡ yes (ask x f) → fits x a ≡ true → (said (go t a) ≡ yes (f a)) × Stands (go t a)
+
+-- so driven by its steps a call makes the run of what its opening says
+pub driven-runs : {A Told : Type 0} (said : Told → Asked (Prog A)) (go : Told → Answer → Told) (Stands : Told → Type 0) → Onward said go Stands
+    → (t : Told) (l : List Answer) → Stands t → AwaitedIn (said t) l → driven said go t l ≡ ran (said t) l
+unfolding driven led ran run onward andThen AwaitedIn Awaited
+driven-runs said go Stands on t [] s w = refl
+driven-runs {A} said go Stands on t (a ∷ l) s w = by (said t) refl w (driven-runs said go Stands on (go t a) l)
+  where
+    is-true : (b : Bool) → T b → b ≡ true
+    is-true true h = refl
+    is-true false h = absurd h
+
+    by : (q : Asked (Prog A)) → said t ≡ q → AwaitedIn q (a ∷ l) → (Stands (go t a) → AwaitedIn (said (go t a)) l → driven said go (go t a) l ≡ ran (said (go t a)) l)
+        → led q (a ∷ l) (driven said go (go t a) l) ≡ ran q (a ∷ l)
+    by (no n) e w h = refl
+    by (yes (ret v)) e w h = refl
+    by (yes (note n p)) e w h = refl
+    by (yes (give b p)) e w h = refl
+    by (yes (ask x f)) e w h =
+        let n = on t x f a s e (is-true (fits x a) (w .0))
+        in ap (λ r. andThen r (λ r′. yes (answered x r′))) (h (n .1) (subst (λ q. AwaitedIn q l) (sym (n .0)) (w .1)) ∙ ap (λ q. ran q l) (n .0))

@@ -1,6 +1,5 @@
 -- A register is read, some of its bits changed, and written back, with a flush behind it where one is asked for.
 use Prim.Native.Nat.{ℕ}
-use mathlib.Core.Path.{_≡_, refl, ap, fun-ext}
 use mathlib.Core.Bool.{Bool, true, false}
 use lib.Bits.{bitAnd, bitOr}
 use Rattle.hardware.specs.declared.Access.{Access}
@@ -13,7 +12,7 @@ use Rattle.hardware.specs.declared.Update.{Update}
 use Rattle.hardware.specs.declared.Update.the-variants.{Reading, Writing, Flushing}
 use Rattle.hardware.specs.declared.UpdateNext.{UpdateNext}
 use Rattle.hardware.specs.declared.UpdateNext.the-variants.{Going, End}
-use Rattle.hardware.specs.Prog.{Prog, ret, ask, erase, R, Ok, Err, orErr, _>>=_, _>>?_, pick}
+use Rattle.hardware.specs.Prog.{Prog, ret, ask, erase, R, Ok, orErr, _>>?_}
 use Rattle.hardware.specs.Registers.{STATUS, not32, read, write, flush, checked, written, flushed, outcome}
 
 unfoldable pub changed : Bits → ℕ → ℕ

@@ -10,7 +10,7 @@ use Rattle.hardware.specs.declared.poll.Poll.{Poll}
 use Rattle.hardware.specs.declared.poll.Poll.the-variants.{Reading, Waiting}
 use Rattle.hardware.specs.declared.poll.PollNext.{PollNext}
 use Rattle.hardware.specs.declared.poll.PollNext.the-variants.{Going, End}
-use Rattle.hardware.specs.Prog.{Prog, ret, ask, erase, R, Ok, Err, orErr, _>>=_, _>>?_, pick}
+use Rattle.hardware.specs.Prog.{Prog, ret, ask, erase, R, Ok, orErr, _>>?_, pick}
 use Rattle.hardware.specs.Registers.{noneOf, read, delay, checked, word}
 
 -- what a read makes of the value; again: the rest of the loop

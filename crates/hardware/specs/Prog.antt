@@ -7,10 +7,10 @@ use Rattle.hardware.specs.declared.Access.{Access}
 use Rattle.hardware.specs.declared.Answer.{Answer}
 use Rattle.hardware.specs.declared.Error.{Error}
 
--- Attempt: a transfer begins. Acquired: an `acquire` succeeded. Released: `release` is called. Lapsed: a bounded
--- wait for a lock or a grant ran out.
+-- Attempt: a transfer begins. Acquires: `acquire` is called. Acquired: it succeeded. Released: `release` is called.
+-- Lapsed: a bounded wait for a lock or a grant ran out.
 pub data Note : Type 0 where
-  Attempt Acquired Released Lapsed : Note
+  Attempt Acquires Acquired Released Lapsed : Note
 
 pub data Prog (A : Type 0) : Type 0 where
   ret : A → Prog A
@@ -28,6 +28,7 @@ give b p >>= k = give b (p >>= k)
 -- the beginning of an attempt stays, since a result tells how many there were
 abbrev pub stays : {A : Type 0} → Note → Prog A → Prog A
 stays Attempt p = note Attempt p
+stays Acquires p = p
 stays Acquired p = p
 stays Released p = p
 stays Lapsed p = p
@@ -42,6 +43,7 @@ erase (give b p) = give b (erase p)
 pub stays-bind : {A B : Type 0} (n : Note) (p : Prog A) (k : A → Prog B) → stays n (p >>= k) ≡ stays n p >>= k
 unfolding _>>=_
 stays-bind Attempt p k = refl
+stays-bind Acquires p k = refl
 stays-bind Acquired p k = refl
 stays-bind Released p k = refl
 stays-bind Lapsed p k = refl
@@ -113,6 +115,7 @@ pub record Counted (A : Type 0) : Type 0 where
 
 abbrev pub begun : Note → ℕ → ℕ
 begun Attempt n = suc n
+begun Acquires n = n
 begun Acquired n = n
 begun Released n = n
 begun Lapsed n = n
@@ -127,6 +130,7 @@ tally n (give b p) = give b (tally n p)
 pub tally-stays : {A : Type 0} (n : ℕ) (k : Note) (p : Prog A) → tally n (stays k p) ≡ tally (begun k n) p
 unfolding tally
 tally-stays n Attempt p = refl
+tally-stays n Acquires p = refl
 tally-stays n Acquired p = refl
 tally-stays n Released p = refl
 tally-stays n Lapsed p = refl

@@ -1,12 +1,12 @@
 -- A call run over a list of answers.
-use Prim.Native.Nat.{ℕ, _+_, _≤_, suc, zero}
+use Prim.Native.Nat.{ℕ, suc, zero}
 use mathlib.Core.Path.{_≡_, refl, ap, fun-ext, _∙_}
 use mathlib.Core.List.{List, [], _∷_}
 use lib.Dec.{T}
 use Rattle.hardware.specs.declared.Access.{Access}
 use Rattle.hardware.specs.declared.Answer.{Answer}
-use Rattle.hardware.specs.Asked.{Asked, no, yes, fits}
-use Rattle.hardware.specs.Prog.{Prog, ret, ask, note, give, Note, Attempt, Acquired, Released, Lapsed, stays, erase, _>>=_, Counted, begun}
+use Rattle.hardware.specs.Asked.{Asked, no, yes, andThen, fits}
+use Rattle.hardware.specs.Prog.{Prog, ret, ask, note, give, Note, Attempt, Acquires, Acquired, Released, Lapsed, stays, erase, Counted, begun}
 
 -- how a run stands: it has ended, or waits for the answer to one more access
 pub data Stand (A : Type 0) : Type 0 where
@@ -39,6 +39,7 @@ run (give b p) = λ l. given b (run p l)
 pub run-stays : {A : Type 0} (n : Note) (p : Prog A) → run (stays n p) ≡ run p
 unfolding run
 run-stays Attempt p = refl
+run-stays Acquires p = refl
 run-stays Acquired p = refl
 run-stays Released p = refl
 run-stays Lapsed p = refl
@@ -87,3 +88,20 @@ countedStand n (waiting x) = waiting x
 
 abbrev pub counted : {A : Type 0} → ℕ → Run A → Run (Counted A)
 counted n r = record { accesses = r .accesses; bytes = r .bytes; stand = countedStand n (r .stand) }
+
+-- A call driven by its steps over a list of answers. said: what a telling says; go: what the next step tells
+unfoldable pub led : {A : Type 0} → Asked (Prog A) → List Answer → Asked (Run A) → Asked (Run A)
+led (no n) l rest = no n
+led (yes (ret v)) l rest = ran (yes (ret v)) l
+led (yes (ask x f)) l rest = andThen rest (λ r. yes (answered x r))
+led (yes (note n p)) l rest = ran (yes (note n p)) l
+led (yes (give b p)) l rest = ran (yes (give b p)) l
+
+unfoldable pub driven : {A Told : Type 0} → (Told → Asked (Prog A)) → (Told → Answer → Told) → Told → List Answer → Asked (Run A)
+driven said go t [] = ran (said t) []
+driven said go t (a ∷ l) = led (said t) (a ∷ l) (driven said go (go t a) l)
+
+-- each answer is of the awaited kind, where the call was not refused
+unfoldable pub AwaitedIn : {A : Type 0} → Asked (Prog A) → List Answer → Type 0
+AwaitedIn (no n) l = Unit {0}
+AwaitedIn (yes p) l = Awaited p l

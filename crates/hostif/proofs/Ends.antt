@@ -107,8 +107,9 @@ acquired-ends port block (Ok u) =
 pub command-ends : (port : Port) (block : List ℕ) → Ends (command port block) (COMMAND-STEPS (port .family) (length block))
 unfolding command
 command-ends port block =
-    ends-bind _ _ (ACQUIRE-BITS-STEPS (tries (port .family))) (REQUEST-STEPS (length block) + (RESPOND-STEPS (length block) + RELEASE-BITS-STEPS))
-    (acquire-bits-ends port SW-MNG) (λ r. acquired-ends port block r)
+    note-ends _ _ _
+    (ends-bind _ _ (ACQUIRE-BITS-STEPS (tries (port .family))) (REQUEST-STEPS (length block) + (RESPOND-STEPS (length block) + RELEASE-BITS-STEPS))
+    (acquire-bits-ends port SW-MNG) (λ r. acquired-ends port block r))
 
 pub token-ends : (port : Port) (take : Bool) → Ends (token port take) (TOKEN-STEPS (port .family))
 unfolding token tokened tokenBlock

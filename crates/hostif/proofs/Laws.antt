@@ -1,20 +1,19 @@
 -- Laws of the reference programs that the proofs cite.
-use Prim.Native.Nat.{ℕ, _+_, _*_, _-_, _/_, _%_, _<_, _≤_, suc, zero}
-use mathlib.Core.Path.{_≡_, refl, ap, _∙_, sym}
+use Prim.Native.Nat.{ℕ, _+_, _*_, _-_, _<_, _≤_, suc, zero}
+use mathlib.Core.Path.{_≡_, refl, ap}
 use mathlib.Core.List.{List, [], _∷_}
 use native.Mathlib.Numerals.{sub-one, add-one}
 use native.Mathlib.Omega.{arith}
-use lib.ListN.{length, getD, set, drop, drop-of-length-le}
+use lib.ListN.{length, getD, drop, drop-of-length-le}
 use lib.Seq.{drop-cons}
-use mathlib.Core.Bool.{Bool, true, false}
+use mathlib.Core.Bool.{true}
 use lib.Dec.{ltb}
 use borrow.Author.Tests.{leb-true, lt-ltb, ltb-true}
 use native.Mathlib.Nat.{div-lt-iff-lt-mul}
-use Rattle.hardware.specs.Prog.{ask, erase, orErr, _>>=_}
+use Rattle.hardware.specs.Prog.{erase, _>>=_}
 use Rattle.hardware.proofs.Laws.{below, both-true}
 use Rattle.hostif.specs.Calls.{blockFits}
-use Rattle.hardware.specs.declared.Answer.{Answer}
-use Rattle.hostif.specs.Hostif.{Left, lenOf, wordsOf, words, start, wordSeen, fill, accessRequest, restRequest, requestNext, accessResponse, restResponse, responseNext, validResponse}
+use Rattle.hostif.specs.Hostif.{lenOf, wordsOf, words, start, fill, accessRequest, restRequest, requestNext, accessResponse, restResponse, responseNext, validResponse}
 use Rattle.hostif.specs.declared.request.Request.the-variants.{Word, Start}
 use Rattle.hostif.specs.declared.request.RequestNext.the-variants.{Going as RequestGoing}
 use Rattle.hostif.specs.declared.response.Response.the-variants.{Rest}

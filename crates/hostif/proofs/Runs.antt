@@ -9,9 +9,9 @@ use lib.ListN.{length}
 use Rattle.hardware.specs.declared.Access.{Access}
 use Rattle.hardware.specs.declared.Answer.{Answer}
 use Rattle.hardware.specs.declared.Port.{Port}
-use Rattle.hardware.specs.Asked.{Asked, no, yes, andThen, question, openPort, fits}
+use Rattle.hardware.specs.Asked.{yes, andThen, question, openPort, fits}
 use Rattle.hardware.specs.Prog.{R, erase}
-use Rattle.hardware.specs.Runs.{Run, run, ran, run-erase, Awaited, ended}
+use Rattle.hardware.specs.Runs.{run, ran, run-erase, Awaited, ended}
 use Rattle.hardware.proofs.Laws.{runs-open}
 use Rattle.hardware.proofs.Ends.{run-ends}
 use Rattle.hostif.specs.declared.command.Command.{Command}

@@ -7,7 +7,7 @@ use Rattle.hardware.specs.declared.Port.{Port}
 use Rattle.hardware.specs.declared.Access.the-variants.{Wait}
 use Rattle.hardware.specs.declared.Answer.{Answer}
 use Rattle.hardware.specs.declared.Error.the-variants.{Firmware}
-use Rattle.hardware.specs.Prog.{Prog, ret, ask, note, Acquired, Released, R, Ok, Err, _>>=_, _>>?_, pick}
+use Rattle.hardware.specs.Prog.{Prog, ret, ask, note, Acquires, Acquired, Released, R, Ok, Err, _>>=_, _>>?_, pick}
 use Rattle.hardware.specs.Registers.{noneOf, not32, micros}
 use Rattle.sync.specs.Regs.{TOKEN}
 use Rattle.sync.specs.Resource.{acquireBits, releaseBits}
@@ -58,7 +58,7 @@ afterBits port hw left token = pick token (tryToken port hw left) acquiredAll
 
 unfoldable pub acquire : Port → ℕ → Prog (R (Unit {0}))
 acquire port mask =
-    pick (noneOf mask TOKEN) (acquireBits port (hwOf mask) >>? λ _. acquiredAll) (acquireToken port (hwOf mask) TOKEN-TRIES)
+    note Acquires (pick (noneOf mask TOKEN) (acquireBits port (hwOf mask) >>? λ _. acquiredAll) (acquireToken port (hwOf mask) TOKEN-TRIES))
 
 -- whether the token was given back
 unfoldable pub gave : R Bool → R (Unit {0})

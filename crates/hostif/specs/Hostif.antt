@@ -3,7 +3,7 @@
 use Prim.Native.Nat.{ℕ, suc, zero, _+_, _*_, _-_, _/_, _%_, _^_}
 use mathlib.Core.Bool.{Bool, true, false}
 use mathlib.Core.List.{List, [], _∷_}
-use lib.Bits.{bitAnd, bitOr}
+use lib.Bits.{bitOr}
 use lib.Dec.{eqb, ltb}
 use lib.ListN.{length, getD, set, drop}
 use Rattle.hardware.specs.declared.Port.{Port}
@@ -14,7 +14,7 @@ use Rattle.hardware.specs.declared.Error.the-variants.{HostInterface, Firmware}
 use Rattle.hardware.specs.declared.poll.Watch.{Watch}
 use Rattle.hardware.specs.declared.change.Change.{Change}
 use Rattle.hardware.specs.declared.change.Bits.the-variants.{Set}
-use Rattle.hardware.specs.Prog.{Prog, ret, ask, note, Acquired, Released, erase, R, Ok, Err, orErr, _>>=_, _>>?_, pick}
+use Rattle.hardware.specs.Prog.{Prog, ret, ask, note, Acquires, Acquired, Released, erase, R, Ok, Err, orErr, _>>=_, _>>?_, pick}
 use Rattle.hardware.specs.Registers.{noneOf, read, readRaw, write, checked, raw, written, micros, word, byte, flag}
 use Rattle.hardware.specs.Poll.{poll, accessPoll, restPoll, validPoll}
 use Rattle.hardware.specs.Change.{change, accessUpdate, restUpdate}
@@ -148,7 +148,7 @@ acquired port block (Ok u) = note Acquired (request block >>= requested port blo
 
 -- SW-MNG holds no TOKEN, so that `acquire` and `release` are here `acquire_bits` and `release_bits`
 unfoldable pub command : Port → List ℕ → Prog Left
-command port block = acquireBits port SW-MNG >>= acquired port block
+command port block = note Acquires (acquireBits port SW-MNG >>= acquired port block)
 
 -- `token`'s block: its header, then the port number and, to give back, bit 8
 unfoldable pub tokenSecond : Port → Bool → ℕ

@@ -8,7 +8,7 @@ use native.Mathlib.Omega.{arith}
 use Rattle.hardware.specs.declared.Answer.{Answer}
 use Rattle.hardware.specs.declared.Error.the-variants.{I2c}
 use Rattle.hardware.specs.declared.Port.{Port}
-use Rattle.hardware.specs.Prog.{Attempt, Acquired, Released, Lapsed, Prog, ret, ask, note, give, R, Ok, Err, orErr, _>>=_, _>>?_, pick}
+use Rattle.hardware.specs.Prog.{Attempt, Acquires, Acquired, Released, Lapsed, Prog, ret, ask, note, give, R, Ok, Err, orErr, _>>=_, _>>?_, pick}
 use Rattle.hardware.specs.Runs.{transfersIn}
 use Rattle.hostif.specs.Acquire.{hwOf, withBits, acquiredAll, acquire, giveBits, release}
 use Rattle.bus.specs.declared.Taken.{Taken}
@@ -30,6 +30,7 @@ AtMost n (ret v) = Unit {0}
 AtMost n (ask x f) = (a : Answer) → AtMost n (f a)
 AtMost zero (note Attempt p) = ⊥
 AtMost (suc n) (note Attempt p) = AtMost n p
+AtMost n (note Acquires p) = AtMost n p
 AtMost n (note Acquired p) = AtMost n p
 AtMost n (note Released p) = AtMost n p
 AtMost n (note Lapsed p) = AtMost n p
@@ -42,6 +43,7 @@ most-more (ask x f) n m e h = λ a. most-more (f a) n m (e a) h
 most-more (note Attempt p) zero m e h = absurd e
 most-more (note Attempt p) (suc n) zero e h = absurd (omega arith)
 most-more (note Attempt p) (suc n) (suc m) e h = most-more p n m e (omega arith)
+most-more (note Acquires p) n m e h = most-more p n m e h
 most-more (note Acquired p) n m e h = most-more p n m e h
 most-more (note Released p) n m e h = most-more p n m e h
 most-more (note Lapsed p) n m e h = most-more p n m e h
@@ -53,6 +55,7 @@ most-bind (ret a) k n m e d = most-more (k a) m (n + m) (d a) (omega arith)
 most-bind (ask x f) k n m e d = λ a. most-bind (f a) k n m (e a) d
 most-bind (note Attempt p) k zero m e d = absurd e
 most-bind (note Attempt p) k (suc n) m e d = rw suc-add (most-bind p k n m e d)
+most-bind (note Acquires p) k n m e d = most-bind p k n m e d
 most-bind (note Acquired p) k n m e d = most-bind p k n m e d
 most-bind (note Released p) k n m e d = most-bind p k n m e d
 most-bind (note Lapsed p) k n m e d = most-bind p k n m e d
@@ -84,6 +87,7 @@ unfolding AtMost Quiet
 most-quiet (ret v) e = tt
 most-quiet (ask x f) e = λ a. most-quiet (f a) (e a)
 most-quiet (note Attempt p) e = absurd e
+most-quiet (note Acquires p) e = absurd e
 most-quiet (note Acquired p) e = absurd e
 most-quiet (note Released p) e = absurd e
 most-quiet (note Lapsed p) e = most-quiet p e
@@ -96,6 +100,7 @@ most-counts n (ask x f) [] e = omega arith
 most-counts n (ask x f) (a ∷ l) e = most-counts n (f a) l (e a)
 most-counts zero (note Attempt p) l e = absurd e
 most-counts (suc n) (note Attempt p) l e = omega (arith, most-counts n p l e)
+most-counts n (note Acquires p) l e = most-counts n p l e
 most-counts n (note Acquired p) l e = most-counts n p l e
 most-counts n (note Released p) l e = most-counts n p l e
 most-counts n (note Lapsed p) l e = most-counts n p l e
@@ -111,7 +116,7 @@ unfolding acquiredAll AtMost
 all-most = tt
 
 acquire-most : (port : Port) → AtMost 0 (acquire port (mask port))
-unfolding acquire pick
+unfolding acquire pick AtMost
 acquire-most port = rw (mask-plain port) (most-try _ _ 0 (most-quiet _ (acquire-bits-quiet port _)) (λ _. all-most))
 
 give-quiet : (port : Port) (hw : ℕ) (t : R (Unit {0})) → Quiet (giveBits port hw t)

@@ -176,10 +176,11 @@ once-ends port r = attempt-ends Pulses (layoutOf (port .family)) (deviceOf r) _ 
 take-ends : (port : Port) → Ends (acquire port (mask port)) (ACQUIRE-BITS-STEPS (tries (port .family)))
 unfolding acquire acquiredAll pick
 take-ends port =
-    rw (mask-plain port)
+    note-ends _ _ _
+    (rw (mask-plain port)
     (ends-more _ (ACQUIRE-BITS-STEPS (tries (port .family)) + 0) (ACQUIRE-BITS-STEPS (tries (port .family)))
     (ends-try _ _ (ACQUIRE-BITS-STEPS (tries (port .family))) 0 (acquire-bits-ends port _) (λ _. note-ends _ _ 0 (ret-ends _ 0)))
-    (omega arith))
+    (omega arith)))
 
 bits-ends : (port : Port) (hw : ℕ) (t : R (Unit {0})) → Ends (giveBits port hw t) RELEASE-BITS-STEPS
 unfolding giveBits withBits

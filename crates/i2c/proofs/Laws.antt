@@ -3,14 +3,14 @@ use Prim.Native.Nat.{ℕ, _+_, _-_, _<_, _≤_, suc, zero}
 use mathlib.Core.Path.{_≡_, refl, ap, fun-ext, _∙_, sym, subst}
 use mathlib.Core.Bool.{Bool, true, false}
 use lib.Dec.{T, ltb, leb, lit≤}
-use borrow.Author.Tests.{ltb-true, leb-true, lt-ltb, le-leb}
+use borrow.Author.Tests.{ltb-true, leb-true}
 use native.Mathlib.Numerals.{sub-one}
 use native.Mathlib.Omega.{arith}
 use Rattle.hardware.specs.declared.Access.the-variants.{Read}
 use Rattle.hardware.specs.declared.Port.{Port}
-use Rattle.hardware.specs.Prog.{Prog, ret, ask, R, Err, orErr, tally, erase, bind-assoc, bind-ret, pick, _>>=_, _>>?_}
+use Rattle.hardware.specs.Prog.{Prog, ret, ask, R, Err, orErr, tally, bind-assoc, bind-ret, pick, _>>=_, _>>?_}
 use Rattle.hardware.specs.Registers.{raw}
-use Rattle.hostif.specs.Acquire.{acquire, release}
+use Rattle.hostif.specs.Acquire.{acquire}
 use Rattle.bus.specs.declared.Layout.{Layout}
 use Rattle.bus.specs.declared.Taken.{Taken}
 use Rattle.bus.specs.Layout.{layoutOf}

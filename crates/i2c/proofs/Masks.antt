@@ -5,7 +5,7 @@ use mathlib.Core.Path.{_≡_, refl, ap, fun-ext, _∙_, sym}
 use mathlib.Core.Bool.{Bool, true, false}
 use lib.Dec.{eqb}
 use Rattle.hardware.specs.declared.Port.{Port}
-use Rattle.hardware.specs.Prog.{Prog, ret, note, Released, R, Ok, Err, orErr, erase, erase-bind, bind-assoc, tally, tally-erase, pick, _>>=_, _>>?_}
+use Rattle.hardware.specs.Prog.{Prog, ret, note, Note, Acquires, Released, begun, R, Ok, Err, orErr, erase, erase-bind, bind-assoc, tally, tally-erase, pick, _>>=_, _>>?_}
 use Rattle.hardware.specs.Registers.{noneOf}
 use Rattle.sync.specs.Regs.{PHY0, PHY1, TOKEN, phy}
 use Rattle.sync.specs.Resource.{acquireBits, releaseBits}
@@ -36,9 +36,14 @@ mask-bits port = of-masks (λ m. hwOf m ≡ m) port refl refl refl
 mask-some : (port : Port) → eqb (mask port) 0 ≡ false
 mask-some port = of-masks (λ m. eqb m 0 ≡ false) port refl refl refl
 
-acquire-plain : (port : Port) → acquire port (mask port) ≡ (acquireBits port (mask port) >>? λ _. acquiredAll)
+acquire-plain : (port : Port) → acquire port (mask port) ≡ note Acquires (acquireBits port (mask port) >>? λ _. acquiredAll)
 unfolding acquire pick
 acquire-plain port = rw (mask-plain port, mask-bits port)
+
+-- a call that notes that it is called
+called : (c : Note) (n : ℕ) (p : Prog (R (Unit {0}))) (k : R (Unit {0}) → Prog (R Taken)) → begun c n ≡ n → tally n (p >>= k) ≡ tally n (note c p >>= k)
+unfolding tally _>>=_
+called c n p k e = ap (λ m. tally m (p >>= k)) (sym e)
 
 noted : (k : Prog (R Taken)) (r : R (Unit {0})) → erase (orErr (λ _. k) r) ≡ erase (orErr (λ _. acquiredAll) r >>= orErr (λ _. k))
 unfolding orErr acquiredAll erase _>>=_
@@ -56,7 +61,8 @@ taken-first port n k =
     ∙ ap (λ f. erase (acquireBits port (mask port)) >>= f) (fun-ext (noted k))
     ∙ sym (erase-bind (acquireBits port (mask port)) (λ r. orErr (λ _. acquiredAll) r >>= orErr (λ _. k)))
     ∙ ap erase (sym (bind-assoc (acquireBits port (mask port)) (orErr (λ _. acquiredAll)) (orErr (λ _. k)))))
-    ∙ tally-erase n _)
+    ∙ tally-erase n _
+    ∙ called Acquires n (acquireBits port (mask port) >>? λ _. acquiredAll) (orErr (λ _. k)) refl)
 
 ended : (k : Prog (R Taken)) (r : R (Unit {0})) → orErr (λ _. k) r ≡ orErr (λ _. ret (Ok (tt {0}))) r >>= orErr (λ _. k)
 unfolding orErr _>>=_
@@ -67,10 +73,6 @@ release-plain : (port : Port) → release port (mask port) ≡ note Released (re
 unfolding release giveBits withBits pick
 release-plain port = rw (mask-plain port, mask-bits port, mask-some port)
 
-call-told : (n : ℕ) (p : Prog (R (Unit {0}))) (k : R (Unit {0}) → Prog (R Taken)) → tally n (p >>= k) ≡ tally n (note Released p >>= k)
-unfolding tally _>>=_
-call-told n p k = refl
-
 -- the bits given back, and then k: what a call is that gives the lock back first
 pub given-first : (port : Port) (n : ℕ) (k : Prog (R Taken))
     → tally n (releaseBits port (mask port) >>? λ _. k) ≡ tally n (release port (mask port) >>? λ _. k)
@@ -79,4 +81,4 @@ given-first port n k =
     (ap (tally n)
     (ap (λ f. releaseBits port (mask port) >>= f) (fun-ext (ended k))
     ∙ sym (bind-assoc (releaseBits port (mask port)) (orErr (λ _. ret (Ok tt))) (orErr (λ _. k))))
-    ∙ call-told n (releaseBits port (mask port) >>? λ _. ret (Ok tt)) (orErr (λ _. k)))
+    ∙ called Released n (releaseBits port (mask port) >>? λ _. ret (Ok tt)) (orErr (λ _. k)) refl)

@@ -1,4 +1,4 @@
--- In the four transfers each `acquire` that succeeds gets one call of `release` before the next or the end, whatever the
+-- In the four transfers each `acquire` that succeeds gets one call of `release` before the next `acquire` or the end, whatever the
 -- port, the request, the lock or none, the number of attempts and the answers. `Pairs` of the calls that they are made of
 -- serves the calls that are made of them.
 use Prim.Native.Nat.{ℕ, suc, zero}
@@ -28,7 +28,7 @@ use Rattle.i2c.specs.I2c.{mask, deviceOf, scriptOf, body, givesValue, on
 use Rattle.i2c.specs.Paired.{free, held, holdAfter, notesIn, Paired}
 use Rattle.i2c.proofs.Laws.{body-is}
 use Rattle.i2c.proofs.Quiet.{Quiet, quiet-noteless, quiet-pick, quiet-ret, quiet-lapsed, quiet-try, read-quiet, delay-quiet, change-quiet, acquire-bits-quiet, release-bits-quiet, request-quiet, respond-quiet}
-use Rattle.i2c.proofs.Pairs.{Pairs, holdOf, pairs-holds, pairs-bind, pairs-then, pairs-or, pairs-try, pairs-pick, pairs-ret, pairs-attempt, pairs-acquired, pairs-released, pairs-quiet, pairs-paired}
+use Rattle.i2c.proofs.Pairs.{Pairs, holdOf, pairs-holds, pairs-bind, pairs-then, pairs-or, pairs-try, pairs-pick, pairs-ret, pairs-attempt, pairs-acquires, pairs-acquired, pairs-released, pairs-quiet, pairs-paired}
 
 -- a firmware command takes its own lock and gives it back
 
@@ -50,7 +50,8 @@ acquired-pairs port block (Ok u) =
 
 pub command-pairs : (port : Port) (block : List ℕ) → Pairs false (command port block) (λ _. false)
 unfolding command
-command-pairs port block = pairs-then false _ _ _ (pairs-quiet false _ (acquire-bits-quiet port SW-MNG)) (λ r. acquired-pairs port block r)
+command-pairs port block =
+    pairs-acquires _ _ (pairs-then false _ _ _ (pairs-quiet false _ (acquire-bits-quiet port SW-MNG)) (λ r. acquired-pairs port block r))
 
 pub token-pairs : (port : Port) (take : Bool) → Pairs false (token port take) (λ _. false)
 unfolding token tokened
@@ -108,8 +109,9 @@ acquire-token-pairs port hw (suc n) =
 pub acquire-pairs : (port : Port) (mask : ℕ) → Pairs false (acquire port mask) succeeded
 unfolding acquire
 acquire-pairs port mask =
-    pairs-pick false _ _ _ _ (free-then _ _ (pairs-quiet false _ (acquire-bits-quiet port (hwOf mask))) (λ _. all-pairs))
-    (acquire-token-pairs port (hwOf mask) TOKEN-TRIES)
+    pairs-acquires _ _
+    (pairs-pick false _ _ _ _ (free-then _ _ (pairs-quiet false _ (acquire-bits-quiet port (hwOf mask))) (λ _. all-pairs))
+    (acquire-token-pairs port (hwOf mask) TOKEN-TRIES))
 
 -- `release` leaves it free, whether it succeeds or fails
 

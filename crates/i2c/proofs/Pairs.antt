@@ -6,7 +6,7 @@ use mathlib.Core.List.{List, [], _∷_}
 use native.Mathlib.Omega.{arith}
 use Rattle.hardware.specs.declared.Access.{Access}
 use Rattle.hardware.specs.declared.Answer.{Answer}
-use Rattle.hardware.specs.Prog.{Attempt, Acquired, Released, Lapsed, Prog, ret, ask, note, give, R, Ok, Err, orErr, _>>=_, _>>?_, pick}
+use Rattle.hardware.specs.Prog.{Attempt, Acquires, Acquired, Released, Lapsed, Prog, ret, ask, note, give, R, Ok, Err, orErr, _>>=_, _>>?_, pick}
 use Rattle.hardware.specs.Runs.{ended, run, onward}
 use Rattle.i2c.specs.Paired.{Hold, free, held, broken, noted, holdAfter, notesIn, Paired}
 use Rattle.i2c.proofs.Quiet.{Quiet}
@@ -17,6 +17,7 @@ unfoldable pub Pairs : {A : Type 0} → Bool → Prog A → (A → Bool) → Typ
 Pairs h (ret v) after = h ≡ after v
 Pairs h (ask x f) after = (a : Answer) → Pairs h (f a) after
 Pairs h (note Attempt p) after = Pairs h p after
+Pairs h (note Acquires p) after = (h ≡ false) × Pairs false p after
 Pairs h (note Acquired p) after = (h ≡ false) × Pairs true p after
 Pairs h (note Released p) after = (h ≡ true) × Pairs false p after
 Pairs h (note Lapsed p) after = Pairs h p after
@@ -29,6 +30,7 @@ unfolding Pairs _>>=_
 pairs-bind h (ret a) k mid after e d = rw e (d a)
 pairs-bind h (ask x f) k mid after e d = λ a. pairs-bind h (f a) k mid after (e a) d
 pairs-bind h (note Attempt p) k mid after e d = pairs-bind h p k mid after e d
+pairs-bind h (note Acquires p) k mid after e d = (e .0, pairs-bind false p k mid after (e .1) d)
 pairs-bind h (note Acquired p) k mid after e d = (e .0, pairs-bind true p k mid after (e .1) d)
 pairs-bind h (note Released p) k mid after e d = (e .0, pairs-bind false p k mid after (e .1) d)
 pairs-bind h (note Lapsed p) k mid after e d = pairs-bind h p k mid after e d
@@ -67,6 +69,10 @@ pub pairs-attempt : {A : Type 0} (h : Bool) (p : Prog A) (after : A → Bool) �
 unfolding Pairs
 pairs-attempt h p after e = e
 
+pub pairs-acquires : {A : Type 0} (p : Prog A) (after : A → Bool) → Pairs false p after → Pairs false (note Acquires p) after
+unfolding Pairs
+pairs-acquires p after e = (refl, e)
+
 pub pairs-acquired : {A : Type 0} (p : Prog A) (after : A → Bool) → Pairs true p after → Pairs false (note Acquired p) after
 unfolding Pairs
 pairs-acquired p after e = (refl, e)
@@ -81,6 +87,7 @@ unfolding Pairs Quiet
 pairs-quiet h (ret v) e = refl
 pairs-quiet h (ask x f) e = λ a. pairs-quiet h (f a) (e a)
 pairs-quiet h (note Attempt p) e = absurd e
+pairs-quiet h (note Acquires p) e = absurd e
 pairs-quiet h (note Acquired p) e = absurd e
 pairs-quiet h (note Released p) e = absurd e
 pairs-quiet h (note Lapsed p) e = pairs-quiet h p e
@@ -102,6 +109,7 @@ pairs-holds h (ret w) after l e = (not-broken h, λ v z. let d : w ≡ v = cc in
 pairs-holds h (ask x f) after [] e = (not-broken h, λ v z. cc)
 pairs-holds h (ask x f) after (a ∷ l) e = pairs-holds h (f a) after l (e a)
 pairs-holds h (note Attempt p) after l e = pairs-holds h p after l e
+pairs-holds h (note Acquires p) after l e = rw (e .0) (pairs-holds false p after l (e .1))
 pairs-holds h (note Acquired p) after l e = rw (e .0) (pairs-holds true p after l (e .1))
 pairs-holds h (note Released p) after l e = rw (e .0) (pairs-holds false p after l (e .1))
 pairs-holds h (note Lapsed p) after l e = pairs-holds h p after l e

@@ -8,7 +8,7 @@ use Rattle.hardware.specs.declared.Family.{Family}
 use Rattle.hardware.specs.declared.Port.{Port}
 use Rattle.hardware.specs.declared.change.Change.{Change}
 use Rattle.hardware.specs.declared.poll.Watch.{Watch}
-use Rattle.hardware.specs.Prog.{Attempt, Acquired, Released, Lapsed, Prog, ret, ask, note, give, R, Ok, Err, orErr, _>>=_, _>>?_, pick}
+use Rattle.hardware.specs.Prog.{Attempt, Acquires, Acquired, Released, Lapsed, Prog, ret, ask, note, give, R, Ok, Err, orErr, _>>=_, _>>?_, pick}
 use Rattle.hardware.specs.Registers.{read, readRaw, write, flush, delay}
 use Rattle.hardware.specs.Change.{settled, stored, change}
 use Rattle.hardware.specs.Poll.{polled, poll}
@@ -22,6 +22,7 @@ unfoldable pub Quiet : {A : Type 0} → Prog A → Type 0
 Quiet (ret v) = Unit {0}
 Quiet (ask x f) = (a : Answer) → Quiet (f a)
 Quiet (note Attempt p) = ⊥
+Quiet (note Acquires p) = ⊥
 Quiet (note Acquired p) = ⊥
 Quiet (note Released p) = ⊥
 Quiet (note Lapsed p) = Quiet p
@@ -32,6 +33,7 @@ unfolding Quiet _>>=_
 quiet-bind (ret a) k e d = d a
 quiet-bind (ask x f) k e d = λ a. quiet-bind (f a) k (e a) d
 quiet-bind (note Attempt p) k e d = absurd e
+quiet-bind (note Acquires p) k e d = absurd e
 quiet-bind (note Acquired p) k e d = absurd e
 quiet-bind (note Released p) k e d = absurd e
 quiet-bind (note Lapsed p) k e d = quiet-bind p k e d
@@ -43,6 +45,7 @@ unfolding Quiet Noteless
 quiet-noteless (ret v) e = tt
 quiet-noteless (ask x f) e = λ a. quiet-noteless (f a) (e a)
 quiet-noteless (note Attempt p) e = absurd e
+quiet-noteless (note Acquires p) e = absurd e
 quiet-noteless (note Acquired p) e = absurd e
 quiet-noteless (note Released p) e = absurd e
 quiet-noteless (note Lapsed p) e = absurd e

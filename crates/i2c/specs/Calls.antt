@@ -11,7 +11,6 @@ use Rattle.hardware.specs.Numbers.{refusalNumber}
 use Rattle.hardware.specs.Prog.{Prog, ret, ask, erase, R, Counted, tally, _>>=_}
 use Rattle.hardware.specs.Registers.{word, outcome}
 use Rattle.hardware.specs.Change.{accessUpdate, restUpdate}
-use Rattle.bus.specs.declared.Taken.{Taken}
 use Rattle.i2c.specs.declared.once.Request.{Request}
 use Rattle.i2c.specs.declared.once.Request.the-variants.{ReadByte, WriteByte, ReadCombined, WriteCombined}
 use Rattle.i2c.specs.declared.moves.Moves.{Moves}

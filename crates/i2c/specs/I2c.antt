@@ -10,7 +10,7 @@ use Rattle.hardware.specs.declared.Error.the-variants.{I2c}
 use Rattle.hardware.specs.declared.change.Bits.the-variants.{Set, Clear, SetClear}
 use Rattle.hardware.specs.declared.change.Change.{Change}
 use Rattle.hardware.specs.Asked.{is}
-use Rattle.hardware.specs.Prog.{Prog, ret, note, Lapsed, R, Ok, Err, orErr, _>>=_, _>>?_, pick}
+use Rattle.hardware.specs.Prog.{Prog, ret, note, Lapsed, R, Ok, Err, _>>=_, _>>?_, pick}
 use Rattle.hardware.specs.Registers.{ESDP, read, delayMs, noneOf}
 use Rattle.hardware.specs.Change.{change}
 use Rattle.sync.specs.Regs.{phy}

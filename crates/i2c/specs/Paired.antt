@@ -1,8 +1,8 @@
--- The rule of the locks: each `acquire` that succeeds gets one call of `release` before the next that succeeds or the end.
+-- The rule of the locks: each `acquire` that succeeds gets one call of `release` before the next `acquire` or the end.
 use mathlib.Core.Path.{_≡_}
 use mathlib.Core.List.{List, [], _∷_}
 use Rattle.hardware.specs.declared.Answer.{Answer}
-use Rattle.hardware.specs.Prog.{Prog, ret, ask, note, give, Note, Attempt, Acquired, Released, Lapsed}
+use Rattle.hardware.specs.Prog.{Prog, ret, ask, note, give, Note, Attempt, Acquires, Acquired, Released, Lapsed}
 use Rattle.hardware.specs.Runs.{run, ended}
 
 -- what a run notes
@@ -13,13 +13,16 @@ notesIn (ask x f) (a ∷ l) = notesIn (f a) l
 notesIn (note n p) l = n ∷ notesIn p l
 notesIn (give b p) l = notesIn p l
 
--- broken: acquired while held, or released while free
+-- broken: `acquire` called while held, or `release` while free
 pub data Hold : Type 0 where
   free held broken : Hold
 
 unfoldable pub noted : Note → Hold → Hold
+noted Acquires free = free
 noted Acquired free = held
+noted Acquires held = broken
 noted Acquired held = broken
+noted Acquires broken = broken
 noted Acquired broken = broken
 noted Released free = broken
 noted Released held = free

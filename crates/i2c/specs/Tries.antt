@@ -1,7 +1,7 @@
 -- The attempts of a call under its lock, one access at a time. No mask of a transfer has TOKEN: what is left of `acquire`
 -- and `release` is what is left of their bits of SW_FW_SYNC.
 use Prim.Native.Nat.{ℕ, _+_, suc, zero}
-use mathlib.Core.Bool.{Bool, true, false}
+use mathlib.Core.Bool.{Bool, false}
 use lib.Dec.{ltb, leb}
 use Rattle.hardware.specs.declared.Access.{Access}
 use Rattle.hardware.specs.declared.Access.the-variants.{Wait}
@@ -15,7 +15,6 @@ use Rattle.hostif.specs.Acquire.{acquire, release}
 use Rattle.bus.specs.declared.Taken.{Taken}
 use Rattle.bus.specs.Layout.{layoutOf}
 use Rattle.transfer.specs.declared.attempt.Sequence.the-variants.{Pulses}
-use Rattle.transfer.specs.declared.attempt.Got.{Got}
 use Rattle.transfer.specs.Transfer.{silent}
 use Rattle.transfer.specs.Attempt.{got, accessAttempt, restAttempt, validAttempt}
 use Rattle.i2c.specs.declared.once.Request.{Request}

@@ -24,9 +24,9 @@ ghost use Rattle.hardware.specs.Prog.{followed, orErr, tally, after, ret, pick}
 ghost use Rattle.hardware.specs.Registers.{word};
 ghost use Rattle.hardware.specs.Change.{updateNext};
 ghost use Rattle.transfer.specs.Attempt.{got};
-ghost use Rattle.i2c.specs.I2c.{askBus, giveBus, granting, granted, moves, handshaken};
+ghost use Rattle.i2c.specs.I2c.{askBus, giveBus, moves, handshaken};
 ghost use Rattle.i2c.specs.Tries.{MOST, wanted, triesNext, validTriesNext};
-ghost use Rattle.i2c.specs.Moves.{shakes, closing, entered, onGranted, awaitingGrant, lookedAt, accessMoves, restMoves, madeOf, movesNext, validMoves, validMovesNext};
+ghost use Rattle.i2c.specs.Moves.{shakes, closing, entered, awaitingGrant, lookedAt, accessMoves, restMoves, madeOf, movesNext, validMoves, validMovesNext};
 
 // The transfers made and the attempts to come stand first. Granting, Waiting: with the looks left after this one.
 // Giving: with how the attempts ended.

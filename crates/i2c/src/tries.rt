@@ -18,13 +18,13 @@ ghost use Prim.Native.Nat.{ℕ, _+_, _<_, _≤_, suc};
 ghost use mathlib.Core.Path.{_≡_};
 ghost use mathlib.Core.Bool.{Bool, true, false};
 ghost use lib.Dec.{ltb, leb};
-ghost use Rattle.hardware.specs.Prog.{followed, orErr, tally, pick};
+ghost use Rattle.hardware.specs.Prog.{followed, orErr, tally};
 ghost use Rattle.sync.specs.Resource.{acquireBitsNext, validAcquireBitsNext, releaseBitsNext, validReleaseBitsNext};
 ghost use Rattle.bus.specs.Layout.{layoutOf};
 ghost use Rattle.transfer.specs.declared.attempt.Sequence.the-variants.{Pulses};
 ghost use Rattle.transfer.specs.Transfer.{silent};
 ghost use Rattle.transfer.specs.Attempt.{got, attemptNext, validAttemptNext};
-ghost use Rattle.i2c.specs.I2c.{mask, deviceOf, scriptOf, isWrite, pauses, readJudged, readTries, givenUp, moves};
+ghost use Rattle.i2c.specs.I2c.{mask, deviceOf, scriptOf, isWrite, pauses, readJudged, readTries, moves};
 ghost use Rattle.i2c.specs.Tries.{MOST, wanted, tryNow, lockedTry, triesLeft, afterTry, backThen, afterRelease, accessTries, restTries, triesNext, validTries, validTriesNext};
 
 // Acquiring, Releasing: no mask of a transfer has TOKEN, so a lock is its bits of SW_FW_SYNC. Releasing: with how the
@@ -239,7 +239,7 @@ fn tried(port: Port, r: Request, lock: bool, left: u8, made: u32, n: AttemptNext
 }
 
 // The attempts of a call, tries of them for a read.
-pub fn open(port: Port, r: Request, lock: bool, tries: u8, made: u32) -> TriesNext
+pub(crate) fn open(port: Port, r: Request, lock: bool, tries: u8, made: u32) -> TriesNext
     ensures { λ t. ⌜ (made + wanted r tries ≤ MOST → triesNext port r lock t ≡ tally made (moves port r lock tries)) ⌝ }
     ensures { λ t. ⌜ ((cap : ℕ) → cap ≤ MOST → made + wanted r tries ≤ cap → validTriesNext cap port r t ≡ true) ⌝ }
 {
@@ -262,7 +262,7 @@ pub fn access(port: Port, s: Tries) -> Access
     }
 }
 
-pub fn step(port: Port, r: Request, lock: bool, s: Tries, a: Answer) -> TriesNext
+pub(crate) fn step(port: Port, r: Request, lock: bool, s: Tries, a: Answer) -> TriesNext
     ensures { λ t. ⌜ ((cap : ℕ) → cap ≤ MOST → validTries cap port r s ≡ true → triesNext port r lock t ≡ tally (s .made) (restTries port r lock s a)) ⌝ }
     ensures { λ t. ⌜ ((cap : ℕ) → cap ≤ MOST → validTries cap port r s ≡ true → validTriesNext cap port r t ≡ true) ⌝ }
 {

@@ -3,13 +3,12 @@ use Prim.Native.Nat.{ℕ, _+_, _*_, _-_, _≤_, suc, zero}
 use mathlib.Core.Path.{_≡_, refl, ap, _∙_, sym}
 use mathlib.Core.Bool.{Bool, true, false}
 use native.Mathlib.Omega.{arith}
-use lib.Dec.{leb, ltb}
-use borrow.Author.Tests.{leb-true, ltb-true, lt-ltb, le-leb}
+use lib.Dec.{ltb}
+use borrow.Author.Tests.{leb-true, lt-ltb, le-leb}
 use Rattle.hardware.specs.declared.Port.{Port}
-use Rattle.hardware.specs.Prog.{Prog, ret, ask, R, Counted, tally, after, bind-assoc, over-after, going-after, _>>=_, pick}
+use Rattle.hardware.specs.Prog.{tally, bind-assoc, over-after, going-after, _>>=_, pick}
 use Rattle.bus.specs.Layout.{x550em}
 use Rattle.i2c.specs.declared.moves.Moves.{Moves}
-use Rattle.i2c.specs.declared.moves.MovesNext.{MovesNext}
 use Rattle.i2c.specs.declared.moves.MovesNext.the-variants.{Going, End}
 use Rattle.transfer.specs.declared.attempt.Got.{Got}
 use Rattle.i2c.specs.I2c.{attempts, isWrite, givesValue, moves, handshaken, transferred}
@@ -17,9 +16,9 @@ use Rattle.i2c.specs.Tries.{MOST, wanted}
 use Rattle.i2c.specs.Moves.{movesNext}
 use Rattle.sfp.specs.Identify.{EEPROM, orAbsent, byte, identifierOf, identified}
 use Rattle.sfp.proofs.Ends.{attempts-few}
-use Rattle.sfp.proofs.Asks.{Asks, asks-tally, read-asks}
+use Rattle.sfp.proofs.Asks.{asks-tally, read-asks}
 use Rattle.identify.specs.declared.place.Place.{Place}
-use Rattle.identify.specs.declared.place.Place.the-variants.{Identifier, Comp1g, Comp10g, Cable, Rate, Km, Hm, Active, QsfpIdentifier, Qsfp10g, Qsfp1g, QsfpConnector, QsfpLength, QsfpVendor}
+use Rattle.identify.specs.declared.place.Place.the-variants.{Identifier, Comp1g, Comp10g, Cable, Rate, Km, Hm, Active, QsfpIdentifier, Qsfp10g, Qsfp1g, QsfpConnector, QsfpLength, QsfpTechnology}
 use Rattle.identify.specs.declared.walk.IdentifyNext.the-variants.{Going as Walking}
 use Rattle.identify.specs.Place.{offsetAt, requestAt, probesAt, triesAt, capAt, validPlace, onAt, toldAt, placed}
 use Rattle.identify.specs.Walk.{accessIdentify, restIdentify, identifyNext}
@@ -66,7 +65,7 @@ cap-most Qsfp10g = omega arith
 cap-most (Qsfp1g g10) = omega arith
 cap-most (QsfpConnector g10 g1) = omega arith
 cap-most (QsfpLength g10 g1) = omega arith
-cap-most (QsfpVendor g10 g1) = omega arith
+cap-most (QsfpTechnology g10 g1) = omega arith
 
 pub cap-room : (p : Place) (made : ℕ) → made ≤ capAt p → made + 11 ≤ MOST
 cap-room p made h = omega (arith, h, cap-most p)

@@ -2,17 +2,17 @@
 -- run is the Rust's, the count of the attempts in it beside the result. A state that was handed out is not refused at its
 -- next step. Each successful acquire gets one release call.
 use Prim.Native.Nat.{ℕ, _≤_, suc, zero}
-use mathlib.Core.Path.{_≡_, refl, ap, _∙_}
+use mathlib.Core.Path.{_≡_, ap, _∙_}
 use mathlib.Core.Bool.{Bool, true, false}
 use mathlib.Core.List.{List}
 use lib.ListN.{length}
 use Rattle.hardware.specs.declared.Access.{Access}
 use Rattle.hardware.specs.declared.Answer.{Answer}
 use Rattle.hardware.specs.declared.Port.{Port}
-use Rattle.hardware.specs.Asked.{Asked, no, yes, andThen, question, openPort, fits}
-use Rattle.hardware.specs.Prog.{Prog, R, Ok, Err, tally, pick}
-use Rattle.hardware.specs.Runs.{run, ran, Awaited, ended, transfersIn, counted}
-use Rattle.hardware.proofs.Laws.{asked-runs}
+use Rattle.hardware.specs.Asked.{yes, andThen, question, openPort, fits}
+use Rattle.hardware.specs.Prog.{Prog, R, Ok, Err, tally}
+use Rattle.hardware.specs.Runs.{run, ran, Awaited, AwaitedIn, driven, ended, transfersIn, counted}
+use Rattle.hardware.proofs.Laws.{asked-runs, Onward, driven-runs}
 use Rattle.hardware.proofs.Ends.{run-ends}
 use Rattle.i2c.specs.declared.once.Request.the-variants.{ReadByte}
 use Rattle.i2c.specs.Moves.{madeOf}
@@ -23,12 +23,13 @@ use Rattle.sfp.specs.declared.Codes.{Codes}
 use Rattle.sfp.specs.declared.Kind.{Kind}
 use Rattle.sfp.specs.declared.Module.{Module}
 use Rattle.sfp.specs.Identify.{EEPROM, orAbsent, byte, identifierOf, reachOf, bx10gOf, kindBy, classify, known, identified, identify}
-use Rattle.sfp.specs.Qsfp.{qsfpVendor, qsfpLength, qsfpConnector, qsfpClassify, qsfpKnown, qsfpIdentified, identifyQsfp}
+use Rattle.sfp.specs.Qsfp.{qsfpTechnology, qsfpLength, qsfpConnector, qsfpClassify, qsfpKnown, qsfpIdentified, identifyQsfp}
 use Rattle.sfp.proofs.Ends.{IDENTIFY-STEPS, identify-ends, QSFP-STEPS, qsfp-ends}
 use Rattle.identify.specs.declared.walk.Identify.{Identify}
-use Rattle.identify.specs.declared.calls.IdentifyCall.the-variants.{Going}
+use Rattle.identify.specs.declared.calls.IdentifyCall.{IdentifyCall}
+use Rattle.identify.specs.declared.calls.IdentifyCall.the-variants.{Going, Over}
 use Rattle.identify.specs.declared.calls.IdentifyTold.{IdentifyTold}
-use Rattle.identify.specs.declared.calls.IdentifyTold.the-variants.{Ask}
+use Rattle.identify.specs.declared.calls.IdentifyTold.the-variants.{Ask, End, Refused}
 use Rattle.identify.specs.Walk.{restIdentify}
 use Rattle.identify.specs.Calls.{openIdentify, openQsfp, stepIdentify, saidIdentify, standsIdentify}
 
@@ -56,6 +57,30 @@ pub identify-accepts : (x : Access) (port : Port) (s : Identify) (a : Answer) �
     → stepIdentify (Going port s) a ≡ yes (tally (madeOf (s .moves)) (restIdentify port s a))
 unfolding standsIdentify stepIdentify question
 identify-accepts x port s a h e = rw (h .1, h .2, ← h .0, e)
+
+-- the step after a telling, if it asks for an access
+abbrev pub goes : (IdentifyCall → Answer → IdentifyTold) → IdentifyTold → Answer → IdentifyTold
+goes step (Ask x s) a = step s a
+goes step (End f made) a = End f made
+goes step (Refused q) a = Refused q
+
+onward : (step : IdentifyCall → Answer → IdentifyTold) → ((s : IdentifyCall) (a : Answer) → saidIdentify (step s a) ≡ stepIdentify s a)
+    → ((s : IdentifyCall) (a : Answer) → standsIdentify (step s a)) → Onward saidIdentify (goes step) standsIdentify
+unfolding saidIdentify standsIdentify
+onward step says stands (Ask y (Going port s)) x f a h e k =
+    let same : y ≡ x = cc in
+    let rest : (λ b. tally (madeOf (s .moves)) (restIdentify port s b)) ≡ f = cc in
+    (says (Going port s) a ∙ identify-accepts y port s a h (ap (λ z. fits z a) same ∙ k) ∙ ap (λ g. yes (g a)) rest, stands (Going port s) a)
+onward step says stands (Ask y Over) x f a h e k = absurd h
+onward step says stands (End g made) x f a h e k = (cc, tt)
+onward step says stands (Refused q) x f a h e k = (cc, tt)
+
+-- Whole runs of the code: driven by steps that keep the promises of `identify_step`, from a telling of an opening on, the
+-- accesses and the result are those of what the opening says, which `identify-runs` and `qsfp-runs` say of the Rust
+pub identify-driven : (step : IdentifyCall → Answer → IdentifyTold) → ((s : IdentifyCall) (a : Answer) → saidIdentify (step s a) ≡ stepIdentify s a)
+    → ((s : IdentifyCall) (a : Answer) → standsIdentify (step s a)) → (t : IdentifyTold) → standsIdentify t → (l : List Answer) → AwaitedIn (saidIdentify t) l
+    → driven saidIdentify (goes step) t l ≡ ran (saidIdentify t) l
+identify-driven step says stands t h l w = driven-runs saidIdentify (goes step) standsIdentify (onward step says stands) t l h w
 
 -- a requested byte keeps the rule of the locks, and so does what follows it
 absent-pairs : (k : ℕ → Prog (R Module)) (r : R ℕ) → ((v : ℕ) → Pairs false (k v) (λ _. false)) → Pairs false (orAbsent k r) (λ _. false)
@@ -97,7 +122,7 @@ identify-paired port l =
     pairs-paired _ l (identifier-pairs port 5 0 _ (λ v. pairs-pick false _ _ _ _ (known-pairs port v) (pairs-ret false _)))
 
 pub qsfp-paired : (port : Port) (l : List Answer) → Paired (identifyQsfp port) l
-unfolding identifyQsfp qsfpIdentified qsfpKnown qsfpClassify qsfpConnector qsfpLength qsfpVendor
+unfolding identifyQsfp qsfpIdentified qsfpKnown qsfpClassify qsfpConnector qsfpLength qsfpTechnology
 qsfp-paired port l =
     pairs-paired _ l
     (byte-pairs port 0 11 _ (λ v. pairs-pick false _ _ _ _

@@ -32,6 +32,7 @@ stepIdentify (Going port s) a =
     (question (fits (accessIdentify port s) a) 12 (yes (tally (madeOf (s .moves)) (restIdentify port s a)))))
 stepIdentify Over a = no 11
 
+-- what was told; 0 is none of the papers' numbers: nothing asks with a finished state (`standsIdentify`)
 unfoldable pub saidIdentify : IdentifyTold → Asked (Prog (Counted (R Module)))
 saidIdentify (Ask x (Going port s)) = yes (ask x (λ a. tally (madeOf (s .moves)) (restIdentify port s a)))
 saidIdentify (Ask x Over) = no 0

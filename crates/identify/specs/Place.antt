@@ -14,9 +14,9 @@ use Rattle.sfp.specs.declared.Kind.the-variants.{DaActiveLimiting, Unknown}
 use Rattle.sfp.specs.declared.Module.{Module}
 use Rattle.sfp.specs.Classes.{has, SFP, LIMITING}
 use Rattle.sfp.specs.Identify.{EEPROM, orAbsent, byte, identifierOf, reachOf, kindBy, recorded, classify, identified}
-use Rattle.sfp.specs.Qsfp.{qsfpVendor, qsfpLength, qsfpConnector, qsfpClassify, qsfpIdentified}
+use Rattle.sfp.specs.Qsfp.{qsfpTechnology, qsfpLength, qsfpConnector, qsfpClassify, qsfpIdentified}
 use Rattle.identify.specs.declared.place.Place.{Place}
-use Rattle.identify.specs.declared.place.Place.the-variants.{Identifier, Comp1g, Comp10g, Cable, Rate, Km, Hm, Active, QsfpIdentifier, Qsfp10g, Qsfp1g, QsfpConnector, QsfpLength, QsfpVendor}
+use Rattle.identify.specs.declared.place.Place.the-variants.{Identifier, Comp1g, Comp10g, Cable, Rate, Km, Hm, Active, QsfpIdentifier, Qsfp10g, Qsfp1g, QsfpConnector, QsfpLength, QsfpTechnology}
 use Rattle.identify.specs.declared.place.Then.{Then}
 use Rattle.identify.specs.declared.place.Then.the-variants.{Request as Requests, Found, Failed}
 
@@ -34,7 +34,7 @@ offsetAt Qsfp10g = 0x83
 offsetAt (Qsfp1g g10) = 0x86
 offsetAt (QsfpConnector g10 g1) = 0x82
 offsetAt (QsfpLength g10 g1) = 0x92
-offsetAt (QsfpVendor g10 g1) = 0x93
+offsetAt (QsfpTechnology g10 g1) = 0x93
 
 unfoldable pub requestAt : Place → Request
 requestAt p = ReadByte EEPROM (offsetAt p)
@@ -54,7 +54,7 @@ probesAt Qsfp10g = false
 probesAt (Qsfp1g g10) = false
 probesAt (QsfpConnector g10 g1) = false
 probesAt (QsfpLength g10 g1) = false
-probesAt (QsfpVendor g10 g1) = false
+probesAt (QsfpTechnology g10 g1) = false
 
 -- with the long probe's attempts
 unfoldable pub triesAt : Port → Place → ℕ
@@ -75,7 +75,7 @@ capAt Qsfp10g = 22
 capAt (Qsfp1g g10) = 33
 capAt (QsfpConnector g10 g1) = 44
 capAt (QsfpLength g10 g1) = 55
-capAt (QsfpVendor g10 g1) = 66
+capAt (QsfpTechnology g10 g1) = 66
 
 -- byte 0 is requested at most five times
 unfoldable pub validPlace : Place → Bool
@@ -92,7 +92,7 @@ validPlace Qsfp10g = true
 validPlace (Qsfp1g g10) = true
 validPlace (QsfpConnector g10 g1) = true
 validPlace (QsfpLength g10 g1) = true
-validPlace (QsfpVendor g10 g1) = true
+validPlace (QsfpTechnology g10 g1) = true
 
 -- the kind of an SFP once the 10G-BX test is decided
 unfoldable pub kinded : Port → Codes → Bool → Prog (R Module)
@@ -114,7 +114,7 @@ onAt port Qsfp10g g10 = byte port 0x86 (attempts port) (qsfpClassify port g10)
 onAt port (Qsfp1g g10) g1 = qsfpClassify port g10 g1
 onAt port (QsfpConnector g10 g1) v = qsfpConnector port g10 g1 v
 onAt port (QsfpLength g10 g1) v = qsfpLength port g10 g1 v
-onAt port (QsfpVendor g10 g1) v = qsfpVendor g10 g1 v
+onAt port (QsfpTechnology g10 g1) v = qsfpTechnology g10 g1 v
 
 -- ... or was not
 unfoldable pub toldAt : Port → Place → R Taken → Prog (R Module)

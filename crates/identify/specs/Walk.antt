@@ -1,5 +1,4 @@
 -- An identification one access at a time: the request that is made now, and the place it is made for.
-use Prim.Native.Nat.{ℕ}
 use mathlib.Core.Bool.{Bool, true, false}
 use Rattle.hardware.specs.declared.Access.{Access}
 use Rattle.hardware.specs.declared.Answer.{Answer}

@@ -5,11 +5,11 @@ use i2c::once::Request;
 use sfp::Codes;
 use sfp::Kind;
 use sfp::Module;
+use sfp::class;
 use transfer::attempt::Got;
 ghost use Prim.Native.Nat.{ℕ, _+_, _≤_};
 ghost use mathlib.Core.Path.{_≡_};
 ghost use mathlib.Core.Bool.{true};
-ghost use Rattle.hardware.specs.Prog.{pick};
 ghost use Rattle.transfer.specs.Attempt.{got};
 ghost use Rattle.sfp.specs.Identify.{orAbsent, recorded, classify};
 ghost use Rattle.hardware.specs.Prog.{ret, Ok, Err};
@@ -32,7 +32,7 @@ pub enum Place {
     Qsfp1g(u8),
     QsfpConnector(u8, u8),
     QsfpLength(u8, u8),
-    QsfpVendor(u8, u8),
+    QsfpTechnology(u8, u8),
 }
 
 // What is to be done once a byte was read, or not.
@@ -61,7 +61,7 @@ fn offset(p: Place) -> u8
         Place::Qsfp1g(_) => 0x86,
         Place::QsfpConnector(_, _) => 0x82,
         Place::QsfpLength(_, _) => 0x92,
-        Place::QsfpVendor(_, _) => 0x93,
+        Place::QsfpTechnology(_, _) => 0x93,
     }
 }
 
@@ -88,7 +88,7 @@ fn probes(p: Place) -> bool
         Place::Qsfp1g(_) => false,
         Place::QsfpConnector(_, _) => false,
         Place::QsfpLength(_, _) => false,
-        Place::QsfpVendor(_, _) => false,
+        Place::QsfpTechnology(_, _) => false,
     }
 }
 
@@ -125,7 +125,7 @@ pub fn cap(p: Place) -> u32
         Place::Qsfp1g(_) => 33,
         Place::QsfpConnector(_, _) => 44,
         Place::QsfpLength(_, _) => 55,
-        Place::QsfpVendor(_, _) => 66,
+        Place::QsfpTechnology(_, _) => 66,
     }
 }
 
@@ -147,7 +147,7 @@ pub fn valid(p: Place) -> bool
         Place::Qsfp1g(_) => true,
         Place::QsfpConnector(_, _) => true,
         Place::QsfpLength(_, _) => true,
-        Place::QsfpVendor(_, _) => true,
+        Place::QsfpTechnology(_, _) => true,
     }
 }
 
@@ -155,14 +155,14 @@ fn found(c: Codes, kind: Kind) -> Then
     ensures { λ t. ⌜ ((port : Port) → onward port t ≡ ret (Ok (recorded 3 c kind))) ⌝ }
     ensures { λ t. ⌜ ((n : ℕ) → Later n t) ⌝ }
 {
-    Then::Found(sfp::class::recorded(3, c, kind))
+    Then::Found(class::recorded(class::SFP, c, kind))
 }
 
 fn after_identifier(left: u8, v: u8) -> Then
     ensures { λ t. ⌜ ((port : Port) → onward port t ≡ onAt port (Place.Identifier left) v) ⌝ }
     ensures { λ t. ⌜ (validPlace (Place.Identifier left) ≡ true → Later (capAt (Place.Identifier left)) t) ⌝ }
 {
-    if v == 3 {
+    if v == class::SFP {
         return Then::Request(Place::Comp1g);
     }
     if left == 0 {
@@ -176,20 +176,20 @@ fn kinded(c: Codes, bx: bool) -> Then
     ensures { λ t. ⌜ ((port : Port) → onward port t ≡ kinded port c bx) ⌝ }
     ensures { λ t. ⌜ ((n : ℕ) → n + 11 ≤ 132 → Later n t) ⌝ }
 {
-    if sfp::class::has(c.cable, 0x04) {
+    if class::has(c.cable, class::PASSIVE_DA) {
         return found(c, Kind::DaCu);
     }
-    if sfp::class::has(c.cable, 0x08) {
+    if class::has(c.cable, class::ACTIVE_DA) {
         return Then::Request(Place::Active(c));
     }
-    found(c, sfp::class::fibre(c, bx))
+    found(c, class::fibre(c, bx))
 }
 
 fn after_cable(c: Codes) -> Then
     ensures { λ t. ⌜ ((port : Port) → onward port t ≡ classify port 3 c) ⌝ }
     ensures { λ t. ⌜ Later 88 t ⌝ }
 {
-    if sfp::class::asks_rate(c) {
+    if class::asks_rate(c) {
         return Then::Request(Place::Rate(c));
     }
     kinded(c, false)
@@ -199,7 +199,7 @@ fn after_rate(c: Codes, v: u8) -> Then
     ensures { λ t. ⌜ ((port : Port) → onward port t ≡ onAt port (Place.Rate c) v) ⌝ }
     ensures { λ t. ⌜ Later 99 t ⌝ }
 {
-    if v == 0x67 {
+    if v == class::RATE {
         return Then::Request(Place::Km(c));
     }
     kinded(c, false)
@@ -216,7 +216,7 @@ fn after_qsfp_identifier(v: u8) -> Then
     ensures { λ t. ⌜ ((port : Port) → onward port t ≡ qsfpIdentified port v) ⌝ }
     ensures { λ t. ⌜ Later 11 t ⌝ }
 {
-    if v == 0x0d {
+    if v == sfp::qsfp::QSFP {
         return Then::Request(Place::Qsfp10g);
     }
     Then::Found(sfp::methods::other(v))
@@ -226,13 +226,13 @@ fn qsfp_codes(g10: u8, g1: u8) -> Then
     ensures { λ t. ⌜ ((port : Port) → onward port t ≡ qsfpClassify port g10 g1) ⌝ }
     ensures { λ t. ⌜ Later 33 t ⌝ }
 {
-    if sfp::class::has(g10, 0x08) {
+    if class::has(g10, 0x08) {
         return qsfp_found(g10, g1, Kind::DaCu);
     }
-    if sfp::class::has(g10, 0x30) {
+    if class::has(g10, class::SR | class::LR) {
         return qsfp_found(g10, g1, Kind::SrLr);
     }
-    if sfp::class::has(g10, 0x01) {
+    if class::has(g10, 0x01) {
         return qsfp_found(g10, g1, Kind::DaActiveLimiting);
     }
     Then::Request(Place::QsfpConnector(g10, g1))
@@ -253,13 +253,13 @@ fn after_length(g10: u8, g1: u8, v: u8) -> Then
     ensures { λ t. ⌜ Later 55 t ⌝ }
 {
     if v > 0 {
-        return Then::Request(Place::QsfpVendor(g10, g1));
+        return Then::Request(Place::QsfpTechnology(g10, g1));
     }
     qsfp_found(g10, g1, Kind::Unknown)
 }
 
-fn after_vendor(g10: u8, g1: u8, v: u8) -> Then
-    ensures { λ t. ⌜ ((port : Port) → onward port t ≡ onAt port (Place.QsfpVendor g10 g1) v) ⌝ }
+fn after_technology(g10: u8, g1: u8, v: u8) -> Then
+    ensures { λ t. ⌜ ((port : Port) → onward port t ≡ onAt port (Place.QsfpTechnology g10 g1) v) ⌝ }
     ensures { λ t. ⌜ ((n : ℕ) → Later n t) ⌝ }
 {
     if v / 16 == 0 {
@@ -280,14 +280,14 @@ fn on(p: Place, v: u8) -> Then
         Place::Cable(g1, g10) => after_cable(Codes { g1, g10, cable: v }),
         Place::Rate(c) => after_rate(c, v),
         Place::Km(c) => Then::Request(Place::Hm(c, v)),
-        Place::Hm(c, km) => kinded(c, sfp::class::reach(km, v)),
-        Place::Active(c) => found(c, sfp::class::cable_of(v)),
+        Place::Hm(c, km) => kinded(c, class::reach(km, v)),
+        Place::Active(c) => found(c, class::cable_of(v)),
         Place::QsfpIdentifier => after_qsfp_identifier(v),
         Place::Qsfp10g => Then::Request(Place::Qsfp1g(v)),
         Place::Qsfp1g(g10) => qsfp_codes(g10, v),
         Place::QsfpConnector(g10, g1) => after_connector(g10, g1, v),
         Place::QsfpLength(g10, g1) => after_length(g10, g1, v),
-        Place::QsfpVendor(g10, g1) => after_vendor(g10, g1, v),
+        Place::QsfpTechnology(g10, g1) => after_technology(g10, g1, v),
     }
 }
 

@@ -33,7 +33,7 @@ pub enum IdentifyNext {
 }
 
 // made: the transfers before this request. A locked request has an access at once, so that the second arm is never met.
-pub fn begin(port: Port, p: Place, made: u32) -> IdentifyNext
+pub(crate) fn begin(port: Port, p: Place, made: u32) -> IdentifyNext
     ensures { λ t. ⌜ (made + 11 ≤ MOST → identifyNext port t ≡ tally made (placed port p)) ⌝ }
     ensures { λ t. ⌜ (validPlace p ≡ true → made + 11 ≤ capAt p → validIdentifyNext port t ≡ true) ⌝ }
 {
@@ -88,7 +88,7 @@ pub fn valid(port: Port, s: Identify) -> bool
     false
 }
 
-pub fn step(port: Port, s: Identify, a: Answer) -> IdentifyNext
+pub(crate) fn step(port: Port, s: Identify, a: Answer) -> IdentifyNext
     ensures { λ t. ⌜ (validIdentify port s ≡ true → identifyNext port t ≡ tally (madeOf (s .moves)) (restIdentify port s a)) ⌝ }
     ensures { λ t. ⌜ (validIdentify port s ≡ true → validIdentifyNext port t ≡ true) ⌝ }
 {

@@ -20,7 +20,7 @@ use Rattle.hardware.specs.declared.Opening.the-variants.{Port as Opened, Refuse
 use Rattle.hardware.specs.declared.Refusal.{Refusal}
 use Rattle.bench.specs.declared.register.Reply.{Reply}
 use Rattle.identify.specs.declared.walk.Identified.{Identified}
-use Rattle.onbench.specs.declared.How.the-variants.{Ended, Lacked, Stopped}
+use Rattle.onbench.specs.declared.How.the-variants.{Stopped}
 use Rattle.hardware.specs.declared.Port.{Port}
 use Rattle.hardware.specs.Asked.{yes, question, andThen, openPort, portOpened, fits}
 use Rattle.hardware.specs.Prog.{Prog, ret, ask, R, Err, pick, Counted, tally}

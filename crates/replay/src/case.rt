@@ -3,6 +3,7 @@ use crate::calls;
 use crate::calls::Ran;
 use crate::host;
 use crate::host::Host;
+use crate::methods;
 use crate::modules;
 use crate::parse;
 use crate::plain;
@@ -26,7 +27,7 @@ fn device(d: u32) -> u16 {
 // Whether the number names a call.
 fn known(call: u32) -> bool {
     match call {
-        0..=8 | 10..=17 | 20..=22 => true,
+        0..=8 | 10..=17 | 20..=23 => true,
         _ => false,
     }
 }
@@ -107,6 +108,7 @@ fn call(words: &[u32; 45]) -> Ran {
         20 => modules::identify(h, family, device, lan),
         21 => modules::identify_qsfp(h, family, device, lan),
         22 => modules::soft_rate_select(h, family, device, lan, a == 1),
+        23 => methods::method(h, family, device, lan, a, words[5], words[6]),
         _ => transfer(words),
     }
 }

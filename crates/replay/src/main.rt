@@ -4,6 +4,7 @@ mod calls;
 mod case;
 mod host;
 mod lines;
+mod methods;
 mod modules;
 mod parse;
 mod phrases;

@@ -43,7 +43,7 @@ pub(crate) fn ones_add(h: Host, a: u32, b: u32) -> Ran {
     calls::unended(h)
 }
 
-fn number(b: bool) -> u32 {
+pub(crate) fn number(b: bool) -> u32 {
     if b { 1 } else { 0 }
 }
 

@@ -62,7 +62,8 @@ fn meaning(f: Fault) {
         Fault::Long => text(b"a word has at most 4096 bytes\n"),
         Fault::Second => text(b"an image is named already, and a setting is NAME=VALUE\n"),
         Fault::Name => {
-            text(b"the names are family port device stage taken page next sda a0 a2 control\n")
+            text(b"the names are family port device stage taken page next sda a0 a2 control");
+            text(b"; put ./ before an image whose path has =\n");
         }
         Fault::Twice => text(b"the name was given before\n"),
         Fault::Refused(q) => refused(q),

@@ -3,6 +3,7 @@ use hardware::FamilyOpening;
 use hardware::Opening;
 use hardware::Refusal;
 ghost use Prim.Native.Nat.{_≤_};
+ghost use lib.ListN.{length};
 ghost use mathlib.Core.Path.{_≡_};
 ghost use Rattle.report.specs.Text.{placeOf};
 
@@ -81,6 +82,7 @@ fn defaults() -> Settings {
 // The first place of the byte, or the text's length.
 fn find(text: &[u8], b: u8) -> usize
     ensures { λ r. ⌜ r ≡ placeOf b (now (text .entry)) ⌝ }
+    ensures { λ r. ⌜ r ≤ length (now (text .entry)) ⌝ }
 {
     let mut i = 0;
     while i < text.len() {
@@ -304,10 +306,10 @@ fn setting(s: Settings, name: &[u8], text: &[u8], place: usize) -> Reading {
     wrong(s, place, Fault::Name)
 }
 
-// A word: an image's where it has no '='.
+// A word: a setting where a '=' comes before any '/', else an image.
 fn word(s: Settings, text: &[u8], place: usize) -> Reading {
     let at = find(text, b'=');
-    if at < text.len() {
+    if at < find(text, b'/') {
         let rest = at + 1;
         return setting(s, &text[..at], &text[rest..], place);
     }
@@ -331,15 +333,37 @@ pub(crate) fn sound(r: Reading) -> bool {
     false
 }
 
-fn further(r: Reading, place: usize) -> Reading {
-    if sound(r) {
-        let s = r.settings;
-        return word_at(s, place);
+// The papers' number of the question that refuses the word, or 0.
+fn question(f: Fault) -> u8 {
+    if let Fault::Refused(q) = f {
+        return hardware::refusal_number(q);
     }
-    r
+    0
 }
 
-// The words up to the first that is wrong; `count` has the program's own name in it.
+// A wrong word and a later one: the later is named only where the papers' questions refuse both and its own comes first.
+fn first_asked(r: Reading, later: Reading) -> Reading {
+    let fault = r.fault;
+    let other = later.fault;
+    let asked = question(other);
+    if 0 < asked && asked < question(fault) {
+        return later;
+    }
+    let s = later.settings;
+    wrong(s, r.place, fault)
+}
+
+fn further(r: Reading, place: usize) -> Reading {
+    let s = r.settings;
+    let next = word_at(s, place);
+    if sound(r) {
+        return next;
+    }
+    first_asked(r, next)
+}
+
+// Every word, and which one is named as wrong: the first, but a refused family before a refused port number. `count` has the
+// program's own name in it.
 pub(crate) fn all(count: usize) -> Reading {
     let mut r = wrong(defaults(), 0, Fault::Nothing);
     for place in 1..count {

@@ -13,7 +13,7 @@ ghost use mathlib.Core.Bool.{true};
 ghost use Rattle.bus.specs.Layout.{layoutOf};
 ghost use Rattle.wire.specs.Lines.{ready};
 
-// The states of the receiver: its stages, Send with each place's bit 0 and 1, Listen with SDA noted low and high.
+// The table's states: each stage of the receiver, Send n with the bit 0 and 1, Listen with SDA noted low and high.
 pub const STATES: u8 = 39;
 
 pub const IDLE: u8 = 0;
@@ -116,8 +116,8 @@ fn state_offset(n: u8) -> u8 {
     ZEROS
 }
 
-// State n of a shipped image, on a family with both lines released by the driver. The bits taken are those of the address
-// A0, and the next byte would be stored.
+// State n of the table, on a family with both lines released by the driver. In each the bits taken are a0, the page is A0,
+// and data comes next.
 pub(crate) fn state(family: Family, n: u8, first: [u8; 256], second: [u8; 256]) -> Desk
     ensures { λ r. ⌜ ready (layoutOf family) (r .word) ≡ true ⌝ }
     ensures { λ r. ⌜ (r .bench .a0 .bytes ≡ first) × (r .bench .a2 .bytes ≡ second) ⌝ }

@@ -1,4 +1,4 @@
-// The shipped images, each from every state of the receiver.
+// The shipped images, each from every stage of the receiver.
 use crate::ends;
 use crate::faults;
 use crate::files;
@@ -16,8 +16,10 @@ use sfp::Module;
 use std::num::wrapping_add_u32;
 ghost use Prim.Native.Nat.{_≤_};
 
-// The port: 82599, number 0.
-const NUMBER: u32 = 0;
+// The port: the 82599 by its number, port number 0, PCI device 10fb.
+const FAMILY_NUMBER: u32 = 0;
+
+const PORT_NUMBER: u32 = 0;
 
 const DEVICE: u16 = 0x10fb;
 
@@ -65,7 +67,7 @@ fn outcome(h: How) -> Seen {
 }
 
 fn identify(d: Desk) -> Run {
-    onbench::granted::identify_granted(NUMBER, DEVICE, 0, d)
+    onbench::granted::identify_granted(FAMILY_NUMBER, DEVICE, PORT_NUMBER, d)
 }
 
 fn desk(image: Image, n: u8) -> Desk {
@@ -239,11 +241,12 @@ fn row(name: &[u8], image: Image) {
 
 fn title() {
     print::text(
-        b"Images of modules (made, not dumped) identified on the bench, each from the 39\n",
+        b"Images of modules (made, not dumped) identified on the bench from each stage of\n",
     );
     print::text(
-        b"states in which a reset can leave the receiver; 82599, port 0, PCI device 10fb.\n",
+        b"the receiver, Send n with the bit 0 and 1, Listen with SDA noted low and high:\n",
     );
+    print::text(b"39 states, bits taken a0, page A0, data next. 82599, port 0, PCI device 10fb.\n");
     print::text(b"  m         multispeed; 0, 3, 6, 8: these bytes of A0, as recorded\n");
     print::text(b"  T         transfers made from the state Idle\n");
     print::text(b"  OK        states with the same kind and multispeed, no byte of the module\n");

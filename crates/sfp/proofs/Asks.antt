@@ -9,7 +9,7 @@ use Rattle.hardware.specs.Asked.{is}
 use Rattle.hardware.specs.Prog.{Prog, ret, ask, note, give, R, _>>=_, pick, Counted, begun, tally}
 use Rattle.hardware.specs.Change.{change}
 use Rattle.hardware.specs.Poll.{poll}
-use Rattle.sync.specs.Regs.{TOKEN, tries}
+use Rattle.sync.specs.Regs.{tries}
 use Rattle.sync.specs.Lock.{lock}
 use Rattle.sync.specs.Resource.{acquireTries, acquireBits}
 use Rattle.hostif.specs.Acquire.{hwOf, acquire}

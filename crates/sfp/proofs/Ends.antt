@@ -8,7 +8,7 @@ use native.Mathlib.Omega.{arith}
 use Rattle.hardware.specs.declared.Family.{Family}
 use Rattle.hardware.specs.declared.Family.the-variants.{F82599, X550}
 use Rattle.hardware.specs.declared.Port.{Port}
-use Rattle.hardware.specs.Prog.{Prog, ret, R, Ok, Err, pick}
+use Rattle.hardware.specs.Prog.{Prog, R, Ok, Err, pick}
 use Rattle.hardware.specs.Runs.{Ends}
 use Rattle.hardware.proofs.Ends.{ends-more, ends-bind, ends-pick, ret-ends}
 use Rattle.bus.specs.Layout.{x550em}
@@ -18,8 +18,8 @@ use Rattle.i2c.proofs.Ends.{READ-STEPS, TRANSFER-STEPS, transferred-ends}
 use Rattle.sfp.specs.declared.Kind.{Kind}
 use Rattle.sfp.specs.declared.Module.{Module}
 use Rattle.sfp.specs.declared.Codes.{Codes}
-use Rattle.sfp.specs.Identify.{EEPROM, orAbsent, byte, identifierOf, reachOf, bx10gOf, fibreOf, kindBy, recorded, classify, known, identified, identify}
-use Rattle.sfp.specs.Qsfp.{qsfpVendor, qsfpLength, qsfpConnector, qsfpClassify, qsfpKnown, qsfpIdentified, identifyQsfp}
+use Rattle.sfp.specs.Identify.{EEPROM, orAbsent, byte, identifierOf, reachOf, bx10gOf, kindBy, classify, known, identified, identify}
+use Rattle.sfp.specs.Qsfp.{qsfpTechnology, qsfpLength, qsfpConnector, qsfpClassify, qsfpKnown, qsfpIdentified, identifyQsfp}
 use Rattle.sfp.specs.Rate.{DIAG, orNot, selected, rateByte, softRateSelect}
 
 -- a byte requested with eleven attempts, the most that `identify` allows
@@ -33,7 +33,7 @@ IDENTIFY-STEPS family = 12 * BYTE-STEPS family
 pub identify-steps : (IDENTIFY-STEPS F82599 ≡ 332194488) × (IDENTIFY-STEPS X550 ≡ 1600450488)
 identify-steps = (refl, refl)
 
--- the identifier; two codes; the connector, the length and the vendor's bits
+-- the identifier; two codes; the connector, the length and the technology
 abbrev pub QSFP-STEPS : Family → ℕ
 QSFP-STEPS family = 6 * BYTE-STEPS family
 
@@ -120,13 +120,13 @@ module _ (port : Port) where
       (identifier-ends 5 0 _ (7 * BYTE-STEPS (port .family)) (λ identifier. ends-pick _ _ _ _ (known-ends identifier) (ret-ends _ _)))
       (omega arith)
 
-  vendor-ends : (g10 g1 v : ℕ) → Ends (qsfpVendor g10 g1 v) 0
-  unfolding qsfpVendor
-  vendor-ends g10 g1 v = ends-pick _ _ _ 0 (ret-ends _ 0) (ret-ends _ 0)
+  technology-ends : (g10 g1 v : ℕ) → Ends (qsfpTechnology g10 g1 v) 0
+  unfolding qsfpTechnology
+  technology-ends g10 g1 v = ends-pick _ _ _ 0 (ret-ends _ 0) (ret-ends _ 0)
 
   length-ends : (g10 g1 v : ℕ) → Ends (qsfpLength port g10 g1 v) (BYTE-STEPS (port .family) + 0)
   unfolding qsfpLength
-  length-ends g10 g1 v = ends-pick _ _ _ _ (byte-ends 0x93 _ _ 0 attempts-few (vendor-ends g10 g1)) (ret-ends _ _)
+  length-ends g10 g1 v = ends-pick _ _ _ _ (byte-ends 0x93 _ _ 0 attempts-few (technology-ends g10 g1)) (ret-ends _ _)
 
   connector-ends : (g10 g1 v : ℕ) → Ends (qsfpConnector port g10 g1 v) (BYTE-STEPS (port .family) + (BYTE-STEPS (port .family) + 0))
   unfolding qsfpConnector

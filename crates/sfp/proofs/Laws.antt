@@ -3,7 +3,7 @@ use Prim.Native.Nat.{ℕ, _*_, _/_, _%_, _≤_, _<_, suc, zero}
 use mathlib.Core.Path.{_≡_, refl, ap, ap₂, _∙_, sym}
 use mathlib.Core.Bool.{Bool, true, false, not, _||_}
 use native.Mathlib.Omega.{arith}
-use lib.Bits.{bitAnd, and-high}
+use lib.Bits.{and-high}
 use lib.Dec.{eqb}
 use Rattle.hardware.specs.Prog.{pick}
 use Rattle.hardware.specs.Registers.{noneOf}
@@ -12,9 +12,10 @@ use Rattle.sfp.specs.declared.Kind.{Kind}
 use Rattle.sfp.specs.declared.Kind.the-variants.{DaCu, DaActiveLimiting, Unknown}
 use Rattle.sfp.specs.declared.Module.{Module}
 use Rattle.sfp.specs.Bytes.{sfpBytes, sfpBytesOf, qsfpBytes, qsfpBytesOf, codesOf, codesAskRate}
-use Rattle.sfp.specs.Classes.{Bytes, has, SR, LR, PASSIVE-DA, ACTIVE-DA, LIMITING, asksRate, asksReach, asksActive, bx10g, kindOf, multispeedOf, Class, classOf, requests, qsfpActive, qsfpKindOf, qsfpMultispeedOf, qsfpClassOf}
+use Rattle.sfp.specs.Classes.{Bytes, has, SR, LR, PASSIVE-DA, ACTIVE-DA, LIMITING, asksRate, asksReach, asksActive, bx10g, kindOf, multispeedOf, classOf, requests, qsfpActive, qsfpKindOf, qsfpMultispeedOf, qsfpClassOf}
 use Rattle.sfp.specs.Identify.{fibreOf, recorded}
 use Rattle.sfp.specs.Qsfp.{qsfpRecorded}
+use Rattle.sfp.specs.Finds.{classIn}
 
 -- SR or LR: one look at both bits, or one at each
 pub either-bit : (v : ℕ) → has v 0x30 ≡ (has v SR || has v LR)
@@ -69,9 +70,6 @@ pub kind-by-codes : (at : Bytes)
     ≡ kindOf at
 unfolding kindOf fibreOf
 kind-by-codes at = rw (either-bit (at 3))
-
-abbrev pub classIn : Module → Class
-classIn m = record { kind = m .kind; multispeed = m .multispeed }
 
 -- the class in the record of a module with these bytes
 pub recorded-class : {m : Module} {c : Codes} {kind : Kind} (identifier : ℕ) (at : Bytes)

@@ -1,3 +1,4 @@
 pub mod Ends
 pub mod Laws
 pub mod Asks
+pub mod Finds

@@ -1,5 +1,4 @@
 -- The bytes that a class goes by, as a module's bytes: the others are 0.
-use Prim.Native.Nat.{ℕ}
 use mathlib.Core.Bool.{Bool, _&&_}
 use lib.Dec.{eqb}
 use Rattle.hardware.specs.Prog.{pick}

@@ -109,7 +109,7 @@ requests at = pick (eqb (at 0) SFP) (4 + pick (asksRate at) 1 0 + pick (asksReac
 abbrev pub QSFP : ℕ
 QSFP = 0x0d
 
--- an active cable by its code, or by its technology, length and vendor's bits
+-- an active cable: by its code, or by its connector, its length and its transmitter's technology
 unfoldable pub qsfpActive : Bytes → Bool
 qsfpActive at = has (at 0x83) 0x01 || (eqb (at 0x82) 0x23 && (ltb 0x00 (at 0x92) && eqb (at 0x93 / 16) 0))
 

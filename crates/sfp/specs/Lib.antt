@@ -4,3 +4,4 @@ pub mod Identify
 pub mod Module
 pub mod Qsfp
 pub mod Rate
+pub mod Finds

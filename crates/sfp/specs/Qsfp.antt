@@ -1,6 +1,6 @@
 -- `identify_qsfp` of `sfp.rs`. Offsets are hexadecimal.
 use Prim.Native.Nat.{ℕ, _/_}
-use mathlib.Core.Bool.{Bool, _&&_, _||_}
+use mathlib.Core.Bool.{_&&_, _||_}
 use lib.Dec.{eqb, ltb}
 use Rattle.hardware.specs.declared.Port.{Port}
 use Rattle.hardware.specs.Prog.{Prog, ret, R, Ok, pick}
@@ -25,15 +25,15 @@ qsfpRecorded g10 g1 kind =
 abbrev pub qsfpFound : ℕ → ℕ → Kind → Prog (R Module)
 qsfpFound g10 g1 kind = ret (Ok (qsfpRecorded g10 g1 kind))
 
--- the vendor's bits of an active cable
-unfoldable pub qsfpVendor : ℕ → ℕ → ℕ → Prog (R Module)
-qsfpVendor g10 g1 v = pick (eqb (v / 16) 0) (qsfpFound g10 g1 DaActiveLimiting) (qsfpFound g10 g1 Unknown)
+-- byte 93: the transmitter's technology, in its high half
+unfoldable pub qsfpTechnology : ℕ → ℕ → ℕ → Prog (R Module)
+qsfpTechnology g10 g1 v = pick (eqb (v / 16) 0) (qsfpFound g10 g1 DaActiveLimiting) (qsfpFound g10 g1 Unknown)
 
--- its length
+-- byte 92: the length of the cable
 unfoldable pub qsfpLength : Port → ℕ → ℕ → ℕ → Prog (R Module)
-qsfpLength port g10 g1 v = pick (ltb 0 v) (byte port 0x93 (attempts port) (qsfpVendor g10 g1)) (qsfpFound g10 g1 Unknown)
+qsfpLength port g10 g1 v = pick (ltb 0 v) (byte port 0x93 (attempts port) (qsfpTechnology g10 g1)) (qsfpFound g10 g1 Unknown)
 
--- its technology
+-- byte 82: the connector; 23 is one that cannot be separated
 unfoldable pub qsfpConnector : Port → ℕ → ℕ → ℕ → Prog (R Module)
 qsfpConnector port g10 g1 v = pick (eqb v 0x23) (byte port 0x92 (attempts port) (qsfpLength port g10 g1)) (qsfpFound g10 g1 Unknown)
 

@@ -5,7 +5,9 @@ pub mod methods;
 pub mod qsfp;
 pub mod rate;
 
-// The kinds of `sfp.rs`. Unknown: another identifier than an SFP's, or no rule fits. NotPresent: nothing answered.
+// The kinds of `sfp.rs`. DaCu: a passive direct-attach cable of copper. DaActiveLimiting: an active one with a limiting
+// amplifier. SrLr: 10GBASE-SR or -LR. Cu1g: 1000BASE-T. Sx1g, Lx1g: 1000BASE-SX, -LX. Bx10g, Bx1g: both directions on one
+// fibre. Unknown: another identifier than an SFP's, or no rule fits. NotPresent: nothing answered.
 pub enum Kind {
     DaCu,
     DaActiveLimiting,
@@ -19,7 +21,8 @@ pub enum Kind {
     NotPresent,
 }
 
-// The record of a module. Bytes 3, 6 and 8 of an SFP are comp10g, comp1g and cable.
+// The record of a module. multispeed: 10G is tried, and then 1G. comp10g, comp1g and cable are bytes 3, 6 and 8 of an SFP; of a
+// QSFP bytes 83 and 86 (hexadecimal) and 0.
 pub struct Module {
     pub kind: Kind,
     pub multispeed: bool,

@@ -44,7 +44,8 @@ pub fn qsfp_recorded(g10: u8, g1: u8, kind: Kind) -> Module
     }
 }
 
-// Whether a module with none of 38 in byte 83 is an active cable: by its code, or by its technology, length and vendor's bits.
+// Whether a module with none of 38 in byte 83 is an active cable: by its code, or by its connector (82), its length (92) and its
+// transmitter's technology (93).
 fn active(b: QsfpBytes) -> bool
     ensures { λ r. ⌜ r ≡ qsfpActive (qsfpBytes b) ⌝ }
 {

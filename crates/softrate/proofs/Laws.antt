@@ -1,18 +1,17 @@
 -- Requests one after another: what the machine's proofs use.
-use Prim.Native.Nat.{ℕ, _+_, _-_, _≤_, suc, zero}
+use Prim.Native.Nat.{ℕ, _+_, _-_, _≤_, suc}
 use mathlib.Core.Path.{_≡_, refl, ap, _∙_, sym}
 use mathlib.Core.Bool.{Bool, true, false}
 use native.Mathlib.Omega.{arith}
 use Rattle.hardware.specs.declared.Port.{Port}
-use Rattle.hardware.specs.Prog.{Prog, ret, ask, R, Ok, Counted, tally, after, bind-assoc, over-after, going-after, _>>=_, pick}
+use Rattle.hardware.specs.Prog.{Ok, tally, bind-assoc, over-after, going-after, _>>=_, pick}
 use Rattle.bus.specs.Layout.{x550em}
 use Rattle.bus.specs.declared.Taken.{Taken}
 use Rattle.transfer.specs.declared.attempt.Got.{Got}
 use Rattle.i2c.specs.declared.moves.Moves.{Moves}
-use Rattle.i2c.specs.declared.moves.MovesNext.{MovesNext}
 use Rattle.i2c.specs.declared.moves.MovesNext.the-variants.{Going, End}
 use Rattle.i2c.specs.I2c.{attempts, isWrite, read-off, valueOf, givesValue, moves, handshaken, transferred}
-use Rattle.i2c.specs.Tries.{MOST, wanted}
+use Rattle.i2c.specs.Tries.{wanted}
 use Rattle.i2c.specs.Moves.{movesNext}
 use Rattle.sfp.specs.Rate.{DIAG, orNot, rateByte, softRateSelect}
 use Rattle.sfp.proofs.Ends.{attempts-few}

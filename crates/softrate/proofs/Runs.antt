@@ -2,17 +2,17 @@
 -- Rust's, the count of the attempts in it beside the result. A state that was handed out is not refused at its next step.
 -- Each successful acquire gets one release call.
 use Prim.Native.Nat.{ℕ, _≤_}
-use mathlib.Core.Path.{_≡_, refl, ap, _∙_}
+use mathlib.Core.Path.{_≡_, ap, _∙_}
 use mathlib.Core.Bool.{Bool, true, false}
 use mathlib.Core.List.{List}
 use lib.ListN.{length}
 use Rattle.hardware.specs.declared.Access.{Access}
 use Rattle.hardware.specs.declared.Answer.{Answer}
 use Rattle.hardware.specs.declared.Port.{Port}
-use Rattle.hardware.specs.Asked.{Asked, no, yes, andThen, question, openPort, fits}
-use Rattle.hardware.specs.Prog.{Prog, R, Ok, Err, tally, pick}
-use Rattle.hardware.specs.Runs.{run, ran, Awaited, ended, transfersIn, counted}
-use Rattle.hardware.proofs.Laws.{asked-runs}
+use Rattle.hardware.specs.Asked.{yes, andThen, question, openPort, fits}
+use Rattle.hardware.specs.Prog.{Prog, R, Ok, Err, tally}
+use Rattle.hardware.specs.Runs.{run, ran, Awaited, AwaitedIn, driven, ended, transfersIn, counted}
+use Rattle.hardware.proofs.Laws.{asked-runs, Onward, driven-runs}
 use Rattle.hardware.proofs.Ends.{run-ends}
 use Rattle.i2c.specs.declared.once.Request.the-variants.{ReadByte, WriteByte}
 use Rattle.i2c.specs.I2c.{attempts}
@@ -23,9 +23,10 @@ use Rattle.i2c.proofs.Paired.{transferred-pairs}
 use Rattle.sfp.specs.Rate.{DIAG, orNot, selected, rateByte, softRateSelect}
 use Rattle.sfp.proofs.Ends.{RATE-STEPS, rate-ends}
 use Rattle.softrate.specs.declared.walk.Rate.{Rate}
-use Rattle.softrate.specs.declared.calls.RateCall.the-variants.{Going}
+use Rattle.softrate.specs.declared.calls.RateCall.{RateCall}
+use Rattle.softrate.specs.declared.calls.RateCall.the-variants.{Going, Over}
 use Rattle.softrate.specs.declared.calls.RateTold.{RateTold}
-use Rattle.softrate.specs.declared.calls.RateTold.the-variants.{Ask}
+use Rattle.softrate.specs.declared.calls.RateTold.the-variants.{Ask, End, Refused}
 use Rattle.softrate.specs.Walk.{restRate}
 use Rattle.softrate.specs.Calls.{openRate, stepRate, saidRate, standsRate}
 
@@ -44,6 +45,30 @@ pub rate-accepts : (x : Access) (port : Port) (ten : Bool) (s : Rate) (a : Answe
     → stepRate (Going port ten s) a ≡ yes (tally (madeOf (s .moves)) (restRate port ten s a))
 unfolding standsRate stepRate question
 rate-accepts x port ten s a h e = rw (h .1, h .2, ← h .0, e)
+
+-- the step after a telling, if it asks for an access
+abbrev pub goes : (RateCall → Answer → RateTold) → RateTold → Answer → RateTold
+goes step (Ask x s) a = step s a
+goes step (End f made) a = End f made
+goes step (Refused q) a = Refused q
+
+onward : (step : RateCall → Answer → RateTold) → ((s : RateCall) (a : Answer) → saidRate (step s a) ≡ stepRate s a)
+    → ((s : RateCall) (a : Answer) → standsRate (step s a)) → Onward saidRate (goes step) standsRate
+unfolding saidRate standsRate
+onward step says stands (Ask y (Going port ten s)) x f a h e k =
+    let same : y ≡ x = cc in
+    let rest : (λ b. tally (madeOf (s .moves)) (restRate port ten s b)) ≡ f = cc in
+    (says (Going port ten s) a ∙ rate-accepts y port ten s a h (ap (λ z. fits z a) same ∙ k) ∙ ap (λ g. yes (g a)) rest, stands (Going port ten s) a)
+onward step says stands (Ask y Over) x f a h e k = absurd h
+onward step says stands (End g made) x f a h e k = (cc, tt)
+onward step says stands (Refused q) x f a h e k = (cc, tt)
+
+-- Whole runs of the code: driven by steps that keep the promises of `soft_rate_select_step`, from a telling of the opening
+-- on, the accesses and the result are those of what the opening says, which `rate-runs` says of the Rust
+pub rate-driven : (step : RateCall → Answer → RateTold) → ((s : RateCall) (a : Answer) → saidRate (step s a) ≡ stepRate s a)
+    → ((s : RateCall) (a : Answer) → standsRate (step s a)) → (t : RateTold) → standsRate t → (l : List Answer) → AwaitedIn (saidRate t) l
+    → driven saidRate (goes step) t l ≡ ran (saidRate t) l
+rate-driven step says stands t h l w = driven-runs saidRate (goes step) standsRate (onward step says stands) t l h w
 
 not-pairs : (k : Bool → Prog (R Bool)) (f : ℕ → Prog (R Bool)) → ((b : Bool) → Pairs false (k b) (λ _. false)) → ((v : ℕ) → Pairs false (f v) (λ _. false))
     → (r : R ℕ) → Pairs false (orNot k f r) (λ _. false)

@@ -28,6 +28,7 @@ stepRate (Going port ten s) a =
     (question (fits (accessRate port s) a) 12 (yes (tally (madeOf (s .moves)) (restRate port ten s a)))))
 stepRate Over a = no 11
 
+-- what was told; 0 is none of the papers' numbers: nothing asks with a finished state (`standsRate`)
 unfoldable pub saidRate : RateTold → Asked (Prog (Counted (R Bool)))
 saidRate (Ask x (Going port ten s)) = yes (ask x (λ a. tally (madeOf (s .moves)) (restRate port ten s a)))
 saidRate (Ask x Over) = no 0

@@ -1,6 +1,6 @@
 -- Where `soft_rate_select` stands: which of the two bytes, whether it is read or written back, and what is left then.
 use Prim.Native.Nat.{ℕ}
-use mathlib.Core.Bool.{Bool, true, false, _||_}
+use mathlib.Core.Bool.{Bool, true, false}
 use Rattle.hardware.specs.declared.Port.{Port}
 use Rattle.hardware.specs.Prog.{Prog, ret, R, Ok, _>>=_, pick}
 use Rattle.bus.specs.declared.Taken.{Taken}

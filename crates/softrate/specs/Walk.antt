@@ -1,5 +1,4 @@
 -- A rate selection one access at a time: the request that is made now, and the spot it is made for.
-use Prim.Native.Nat.{ℕ}
 use mathlib.Core.Bool.{Bool, true, false}
 use Rattle.hardware.specs.declared.Access.{Access}
 use Rattle.hardware.specs.declared.Answer.{Answer}

@@ -2,7 +2,6 @@
 use hardware::Port;
 use i2c::once::Request;
 ghost use mathlib.Core.Path.{_≡_};
-ghost use mathlib.Core.Bool.{Bool};
 ghost use Rattle.softrate.specs.Spot.{offsetOf, requestOf, requestAt, triesAt, isReading, capAt, validSpot};
 
 // Writing: with the byte that was read.

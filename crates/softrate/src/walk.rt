@@ -9,12 +9,11 @@ use hardware::Port;
 use i2c::moves::Moves;
 use i2c::moves::MovesNext;
 use transfer::attempt::Got;
-ghost use Prim.Native.Nat.{ℕ, _+_, _≤_};
+ghost use Prim.Native.Nat.{_+_, _≤_};
 ghost use mathlib.Core.Path.{_≡_};
-ghost use mathlib.Core.Bool.{Bool, true, false};
+ghost use mathlib.Core.Bool.{true, false};
 ghost use Rattle.hardware.specs.Prog.{tally, after, Err};
 ghost use Rattle.transfer.specs.Attempt.{got};
-ghost use Rattle.sfp.specs.Rate.{orNot};
 ghost use Rattle.i2c.specs.Moves.{madeOf, movesNext, validMovesNext};
 ghost use Rattle.softrate.specs.Spot.{requestAt, needAt, capAt, doneAt, validSpot, nextByte, onPlace, toldAt, placed};
 ghost use Rattle.softrate.specs.Walk.{accessRate, restRate, rateNext, validRate, validRateNext};
@@ -30,7 +29,7 @@ pub enum RateNext {
 }
 
 // made: the transfers before this request. A locked request has an access at once, so that the second arm is never met.
-pub fn begin(port: Port, ten: bool, s: Spot, made: u32) -> RateNext
+pub(crate) fn begin(port: Port, ten: bool, s: Spot, made: u32) -> RateNext
     ensures { λ t. ⌜ (made + needAt (s .place) ≤ capAt s → rateNext port ten t ≡ tally made (placed port ten s)) ⌝ }
     ensures { λ t. ⌜ (validSpot s ≡ true → made + needAt (s .place) ≤ capAt s → validRateNext port ten t ≡ true) ⌝ }
 {
@@ -138,7 +137,7 @@ pub fn valid(port: Port, ten: bool, s: Rate) -> bool
     false
 }
 
-pub fn step(port: Port, ten: bool, s: Rate, a: Answer) -> RateNext
+pub(crate) fn step(port: Port, ten: bool, s: Rate, a: Answer) -> RateNext
     ensures { λ t. ⌜ (validRate port ten s ≡ true → rateNext port ten t ≡ tally (madeOf (s .moves)) (restRate port ten s a)) ⌝ }
     ensures { λ t. ⌜ (validRate port ten s ≡ true → validRateNext port ten t ≡ true) ⌝ }
 {

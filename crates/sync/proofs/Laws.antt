@@ -2,7 +2,7 @@
 use Prim.Native.Nat.{ℕ, _-_, suc, zero}
 use mathlib.Core.Path.{_≡_, refl, ap}
 use native.Mathlib.Numerals.{sub-one}
-use Rattle.hardware.specs.Prog.{ask, erase, orErr, _>>=_, _>>?_}
+use Rattle.hardware.specs.Prog.{erase, _>>=_, _>>?_}
 use Rattle.hardware.specs.declared.Port.{Port}
 use Rattle.hardware.specs.Change.{change, accessUpdate, restUpdate}
 use Rattle.hardware.specs.declared.Update.the-variants.{Reading}

@@ -24,7 +24,6 @@ use Rattle.sync.specs.declared.release_bits.ReleaseBits.{ReleaseBits}
 use Rattle.sync.specs.declared.release_bits.ReleaseBits.the-variants.{Muxing as Unmuxing, Locking as Relocking, Clearing, Unlocking as Releasing, Waiting as Settling}
 use Rattle.sync.specs.declared.release_bits.ReleaseBitsNext.{ReleaseBitsNext}
 use Rattle.sync.specs.declared.release_bits.ReleaseBitsNext.the-variants.{Going as ReleaseGoing, End as ReleaseEnd}
-use Rattle.sync.specs.declared.regs.Masks.{Masks}
 use Rattle.sync.specs.Regs.{swFwSync, bits, mux, tries, clearSync, setMux, releaseUs}
 use Rattle.sync.specs.Lock.{lock, accessLock, restLock, validLock, unlock, accessUnlock, restUnlock}
 

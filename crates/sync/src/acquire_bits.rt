@@ -17,12 +17,12 @@ use hardware::Word;
 ghost use Prim.Native.Nat.{_<_, _≤_};
 ghost use mathlib.Core.Path.{_≡_};
 ghost use mathlib.Core.Bool.{true};
-ghost use Rattle.hardware.specs.Prog.{erase, followed, orErr, ret, Err};
+ghost use Rattle.hardware.specs.Prog.{erase, followed, orErr, Err};
 ghost use Rattle.hardware.specs.Registers.{word, outcome};
 ghost use Rattle.hardware.specs.Change.{updateNext};
 ghost use Rattle.sync.specs.Regs.{setMux, tries as triesOf};
 ghost use Rattle.sync.specs.Lock.{lockNext, validLockNext, unlockNext};
-ghost use Rattle.sync.specs.Resource.{accessAcquireStage, restAcquireStage, against, muxed, taken, tryRead, tryAgain, syncSeen, acquireTries, acquireBits, accessAcquireBits, restAcquireBits, acquireBitsNext, validAcquireStage, validAcquireBits, validAcquireBitsNext};
+ghost use Rattle.sync.specs.Resource.{accessAcquireStage, restAcquireStage, against, muxed, taken, tryRead, tryAgain, syncSeen, acquireTries, accessAcquireBits, restAcquireBits, acquireBitsNext, validAcquireStage, validAcquireBits, validAcquireBitsNext};
 
 // Taken: with how the write of the bits ended, or the read before it where that failed: the semaphore goes back before
 // it is reported. Unlocking and Waiting: with the bits that were found held.

@@ -1,8 +1,8 @@
 -- Laws of transfers and attempts that the proofs cite.
-use Prim.Native.Nat.{ℕ, _<_, _≤_}
+use Prim.Native.Nat.{ℕ, _<_}
 use mathlib.Core.Path.{_≡_, refl, ap, _∙_, sym}
-use mathlib.Core.Bool.{Bool, true, false}
-use mathlib.Core.List.{List, []}
+use mathlib.Core.Bool.{true, false}
+use mathlib.Core.List.{List}
 use lib.Dec.{eqb}
 use lib.ListN.{length, drop}
 use Rattle.hardware.specs.declared.Access.{Access}
@@ -14,20 +14,19 @@ use Rattle.hardware.specs.declared.Refusal.{Refusal}
 use Rattle.hardware.specs.declared.Refusal.the-variants.{Family, Lan, Device, Attempts, ScriptLength, Command as RefusedCommand, Script, Block, Buffer, State, Finished, Kind}
 use Rattle.hardware.specs.Asked.{Asked, no, question}
 use Rattle.hardware.specs.Numbers.{refusalNumber}
-use Rattle.hardware.specs.Registers.{raw}
-use Rattle.hardware.specs.Prog.{Prog, ask, give, erase, followed, going, going-tally, over-tally, orErr, pick, tally, R, _>>=_}
+use Rattle.hardware.specs.Prog.{Prog, ask, give, erase, followed, going, going-tally, over-tally, pick, tally, _>>=_}
 use Rattle.bus.specs.declared.Layout.{Layout}
 use Rattle.bus.specs.declared.Taken.{Taken}
 use Rattle.bus.specs.declared.command.Command.{Command}
 use Rattle.bus.specs.declared.command.Command.the-variants.{Start, Send, Read, Stop, Free}
-use Rattle.bus.specs.Bus.{Bus, clear, none}
+use Rattle.bus.specs.Bus.{Bus, clear}
 use Rattle.bus.specs.Command.{commanded}
 use Rattle.bus.specs.Layout.{layoutOf}
 use Rattle.bus.proofs.Commands.{job-start, job-send, job-read, job-stop, job-free}
 use Rattle.script.specs.declared.cursor.Judged.{Judged}
 use Rattle.script.specs.declared.cursor.Judged.the-variants.{Accepted, Refused}
 use Rattle.script.specs.Script.{commands, commandAt, nextAt, judged, judgedAs, device}
-use Rattle.script.proofs.Laws.{commands-at, commands-past}
+use Rattle.script.proofs.Laws.{commands-at}
 use Rattle.transfer.specs.declared.attempt.Sequence.{Sequence}
 use Rattle.transfer.specs.declared.attempt.Sequence.the-variants.{Pulses}
 use Rattle.transfer.specs.declared.attempt.Attempt.{Attempt}
@@ -36,7 +35,7 @@ use Rattle.transfer.specs.declared.attempt.AttemptNext.{AttemptNext}
 use Rattle.transfer.specs.declared.attempt.AttemptNext.the-variants.{Going}
 use Rattle.transfer.specs.declared.transfer.TransferNext.the-variants.{End}
 use Rattle.transfer.specs.Transfer.{Mode, loud, silent, tells, tells-erase, did, isRead, tookBy, handed, transfer, ranOn, transferNext}
-use Rattle.transfer.specs.Attempt.{clearing, begun, attempting, attempt, accessAttempt, restAttempt, awaiting, attemptNext}
+use Rattle.transfer.specs.Attempt.{clearing, attempting, attempt, accessAttempt, restAttempt, awaiting, attemptNext}
 use Rattle.transfer.specs.Calls.{dropped, script, restScript, judgedThen}
 
 -- the machine's list of line calls is the command

@@ -1,8 +1,7 @@
 -- A transfer and its clearing note nothing: an attempt begins no other.
 use Prim.Native.Nat.{ℕ}
-use mathlib.Core.Bool.{Bool, true, false}
 use mathlib.Core.List.{List, [], _∷_}
-use Rattle.hardware.specs.Prog.{Prog, ret, ask, note, give, R, Ok, Err, orErr, pick}
+use Rattle.hardware.specs.Prog.{Prog, ret, ask, note, give, R, Ok, Err, orErr}
 use Rattle.hardware.specs.Registers.{readRaw}
 use Rattle.bus.specs.declared.Layout.{Layout}
 use Rattle.bus.specs.declared.Taken.{Taken}

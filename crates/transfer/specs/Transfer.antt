@@ -7,9 +7,8 @@ use mathlib.Core.List.{List, [], _∷_}
 use lib.ListN.{drop}
 use Rattle.hardware.specs.declared.Access.{Access}
 use Rattle.hardware.specs.declared.Answer.{Answer}
-use Rattle.hardware.specs.declared.Outcome.{Outcome}
 use Rattle.hardware.specs.declared.Outcome.the-variants.{Ok as OutcomeOk, Err as OutcomeErr}
-use Rattle.hardware.specs.Prog.{Prog, ret, ask, note, give, Note, Attempt, Acquired, Released, Lapsed, stays, erase, _>>=_, pick}
+use Rattle.hardware.specs.Prog.{Prog, ret, ask, note, give, Note, Attempt, Acquires, Acquired, Released, Lapsed, stays, erase, pick}
 use Rattle.bus.specs.declared.Layout.{Layout}
 use Rattle.bus.specs.declared.Taken.{Taken}
 use Rattle.bus.specs.declared.command.Command.{Command}
@@ -36,6 +35,7 @@ tells loud b (give d p) = give b p
 pub tells-stays : {A : Type 0} (b : ℕ) (n : Note) (p : Prog A) → stays n (tells loud b p) ≡ tells loud b (stays n p)
 unfolding tells
 tells-stays b Attempt p = refl
+tells-stays b Acquires p = refl
 tells-stays b Acquired p = refl
 tells-stays b Released p = refl
 tells-stays b Lapsed p = refl

@@ -1,4 +1,4 @@
-// Reads a byte of the bench module from every state of its receiver, on both layouts of I2CCTL and with four words there
+// Reads a byte of the bench module from every stage of its receiver, on both layouts of I2CCTL and with four words there
 // at the start. A line is a state, and says whether the module pulls SDA; for each word it has the byte or I2c, the
 // transfers made, the receiver at the end, the lines (free: nobody pulls either) and the bytes of both pages.
 mod host;

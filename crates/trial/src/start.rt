@@ -1,4 +1,4 @@
-// The starts: the bench module in every state of its receiver, and four words of I2CCTL for each layout.
+// The starts: the bench module in every stage of its receiver, and four words of I2CCTL for each layout.
 use bench::Bench;
 use bench::Page;
 use bench::receiver::Chosen;

@@ -4,7 +4,7 @@ use lib.Dec.{eqb}
 use Rattle.hardware.specs.declared.Access.{Access}
 use Rattle.hardware.specs.declared.Access.the-variants.{Read, Write, Wait}
 use Rattle.hardware.specs.declared.Answer.{Answer}
-use Rattle.hardware.specs.Prog.{Prog, ret, ask, note, give, Note, Attempt, Acquired, Released, Lapsed, _>>=_}
+use Rattle.hardware.specs.Prog.{Prog, ret, ask, note, give, Note, Attempt, Acquires, Acquired, Released, Lapsed, _>>=_}
 use Rattle.bus.specs.declared.Layout.{Layout}
 use Rattle.wire.specs.Always.{Side, World, Either, Answered, Kept, noted, Always}
 
@@ -21,6 +21,7 @@ answered-map l o (Wait n) K L w h = h _ _
 
 kept-map : (n : Note) (X Y : Type 0) → (X → Y) → Kept n X → Kept n Y
 kept-map Attempt X Y f k = f k
+kept-map Acquires X Y f k = f k
 kept-map Acquired X Y f k = f k
 kept-map Released X Y f k = f k
 kept-map Lapsed X Y f k = tt

@@ -8,7 +8,7 @@ use Rattle.hardware.specs.declared.Access.{Access}
 use Rattle.hardware.specs.declared.Access.the-variants.{Read, Write, Wait}
 use Rattle.hardware.specs.declared.Answer.{Answer}
 use Rattle.hardware.specs.declared.Answer.the-variants.{Value, Done}
-use Rattle.hardware.specs.Prog.{Prog, ret, ask, note, give, Note, Attempt, Acquired, Released, Lapsed, Ok}
+use Rattle.hardware.specs.Prog.{Prog, ret, ask, note, give, Note, Attempt, Acquires, Acquired, Released, Lapsed, Ok}
 use Rattle.bus.specs.declared.Layout.{Layout}
 use Rattle.bus.specs.declared.Taken.{Taken}
 use Rattle.bus.specs.Bus.{Held, Bus}
@@ -70,6 +70,7 @@ Answered l o (Wait n) K w = K Done w
 -- where a lock or a grant runs out there is nothing to show
 abbrev pub Kept : Note → Type 0 → Type 0
 Kept Attempt X = X
+Kept Acquires X = X
 Kept Acquired X = X
 Kept Released X = X
 Kept Lapsed X = Unit {0}

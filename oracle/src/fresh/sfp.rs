@@ -1,18 +1,30 @@
-//! Fresh cases of `sfp.rs`: as the locked transfers, with chosen bytes.
+//! Fresh cases of `sfp.rs`: as the locked transfers, with chosen bytes, and
+//! the methods of its record.
 
 use super::*;
 
 impl Choice {
     pub fn module_call(&mut self) -> Case {
-        let function = self.one(&[IDENTIFY, IDENTIFY, IDENTIFY_QSFP, RATE_SELECT]);
+        let function = match self.below(9) {
+            0..=3 => IDENTIFY,
+            4..=5 => IDENTIFY_QSFP,
+            6..=7 => RATE_SELECT,
+            _ => METHOD,
+        };
         let mut case = self.at_port(function);
         case.args = [self.word(), self.word(), self.word()];
         match function {
             IDENTIFY => case.args = self.sent(|choice| choice.sfp_bytes()),
             IDENTIFY_QSFP => case.args = self.sent(|choice| choice.qsfp_bytes()),
-            _ => case.args[0] = self.below(2),
+            RATE_SELECT => case.args[0] = self.below(2),
+            _ => {
+                let kind = self.below(KINDS.len() as u32);
+                case.args = [self.below(NVM_KEY + 1), kind | self.word() & MULTISPEED, self.word()];
+            }
         }
-        self.bus(&mut case);
+        if function != METHOD {
+            self.bus(&mut case);
+        }
         case
     }
 

@@ -28,6 +28,7 @@ pub fn add(list: &mut List) {
     lost_modules(list);
     module_grants(list);
     random_modules(list);
+    methods(list);
 }
 
 /// A call and the bytes that the module sends to it, in the order of their
@@ -547,6 +548,21 @@ fn random_modules(list: &mut List) {
                 case.fail_at = if i % 3 == 1 { at } else { NEVER };
                 case.ones_at = if i % 3 == 2 { at } else { NEVER };
                 list.push(case);
+            }
+        }
+    }
+}
+
+/// Each method for every kind at every port; the rest of the record, which
+/// none of them looks at, is random.
+fn methods(list: &mut List) {
+    for (family, lan) in every_port() {
+        for kind in KINDS {
+            for method in [PRESENT, ONE_GIG, LINEAR, SUPPORTED, NVM_KEY] {
+                let class = kind as u32 | list.word() & MULTISPEED;
+                let args = [method, class, list.word()];
+                let case = list.case(METHOD, family, lan, method, vec![]);
+                list.push(Case { args, ..case });
             }
         }
     }

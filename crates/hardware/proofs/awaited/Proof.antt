@@ -1,6 +1,5 @@
 -- `awaited` meets its contract.
-use Rattle.hardware.specs.Asked.{andThen, familyNumbered, familyOpened, fits, openFamily, openLan, openPort, portOpened, question, validPort}
-use Rattle.hardware.specs.Numbers.{refusalNumber}
+use Rattle.hardware.specs.Asked.{fits}
 use Rattle.hardware.specs.Runs.{given}
 use borrow.Author.Needs.{needs}
 use Rattle.hardware.proofs.awaited.Statement.{statement}
@@ -43,39 +42,39 @@ enum-told-12 : tie.Need-enum-told-12
 enum-told-12 c = search needs
 
 returns : tie.Need-returns
-unfolding fits openFamily openLan openPort question andThen familyNumbered familyOpened portOpened validPort refusalNumber
+unfolding fits
 returns c = rw (c .before .before .enum-told .given .1, c .enum-told2 .given .1)
 
 returns-2 : tie.Need-returns-2
-unfolding fits openFamily openLan openPort question andThen familyNumbered familyOpened portOpened validPort refusalNumber
+unfolding fits
 returns-2 c = rw (c .before .before .enum-told .given .1, c .enum-told3 .given .1)
 
 returns-3 : tie.Need-returns-3
-unfolding fits openFamily openLan openPort question andThen familyNumbered familyOpened portOpened validPort refusalNumber
+unfolding fits
 returns-3 c = rw (c .before .before .enum-told .given .1, c .enum-told4 .given .1)
 
 returns-4 : tie.Need-returns-4
-unfolding fits openFamily openLan openPort question andThen familyNumbered familyOpened portOpened validPort refusalNumber
+unfolding fits
 returns-4 c = rw (c .before .before .enum-told5 .given .1, c .enum-told6 .given .1)
 
 returns-5 : tie.Need-returns-5
-unfolding fits openFamily openLan openPort question andThen familyNumbered familyOpened portOpened validPort refusalNumber
+unfolding fits
 returns-5 c = rw (c .before .before .enum-told5 .given .1, c .enum-told7 .given .1)
 
 returns-6 : tie.Need-returns-6
-unfolding fits openFamily openLan openPort question andThen familyNumbered familyOpened portOpened validPort refusalNumber
+unfolding fits
 returns-6 c = rw (c .before .before .enum-told5 .given .1, c .enum-told8 .given .1)
 
 returns-7 : tie.Need-returns-7
-unfolding fits openFamily openLan openPort question andThen familyNumbered familyOpened portOpened validPort refusalNumber
+unfolding fits
 returns-7 c = rw (c .before .before .enum-told9 .given .1, c .enum-told10 .given .1)
 
 returns-8 : tie.Need-returns-8
-unfolding fits openFamily openLan openPort question andThen familyNumbered familyOpened portOpened validPort refusalNumber
+unfolding fits
 returns-8 c = rw (c .before .before .enum-told9 .given .1, c .enum-told11 .given .1)
 
 returns-9 : tie.Need-returns-9
-unfolding fits openFamily openLan openPort question andThen familyNumbered familyOpened portOpened validPort refusalNumber
+unfolding fits
 returns-9 c = rw (c .before .before .enum-told9 .given .1, c .enum-told12 .given .1)
 
 pub awaited-spec : {M : Type 1} → statement M

@@ -1,9 +1,6 @@
 -- `read` meets its contract.
-use Rattle.hardware.specs.Asked.{familyNumbered, openLan, openPort, question}
-use Rattle.hardware.specs.Change.{changed, settled, stored}
-use Rattle.hardware.specs.Poll.{polled}
-use Rattle.hardware.specs.Prog.{_>>=_, erase, orErr, pick}
-use Rattle.hardware.specs.Registers.{checked, flushed, outcome, raw, word, written}
+use Rattle.hardware.specs.Prog.{pick}
+use Rattle.hardware.specs.Registers.{checked, word}
 use Rattle.hardware.specs.Runs.{given}
 use borrow.Author.Needs.{needs}
 use borrow.Author.Tests.{ne-eqb}
@@ -14,7 +11,7 @@ enum-known-a : tie.Need-enum-known-a
 enum-known-a c = search needs
 
 returns : tie.Need-returns
-unfolding erase _>>=_ orErr pick checked raw written flushed word outcome changed settled stored polled question openLan openPort familyNumbered
+unfolding pick checked word
 returns c = cc
 
 enum-told : tie.Need-enum-told
@@ -24,15 +21,15 @@ enum-told-2 : tie.Need-enum-told-2
 enum-told-2 c = search needs
 
 returns-2 : tie.Need-returns-2
-unfolding erase _>>=_ orErr pick checked raw written flushed word outcome changed settled stored polled question openLan openPort familyNumbered
+unfolding pick checked word
 returns-2 c = rw (c .before .before .a .given .1) (simp (ne-eqb _ _ (c .if1 .left)))
 
 returns-3 : tie.Need-returns-3
-unfolding erase _>>=_ orErr pick checked raw written flushed word outcome changed settled stored polled question openLan openPort familyNumbered
+unfolding checked word
 returns-3 c = cc
 
 returns-4 : tie.Need-returns-4
-unfolding erase _>>=_ orErr pick checked raw written flushed word outcome changed settled stored polled question openLan openPort familyNumbered
+unfolding checked word
 returns-4 c = cc
 
 pub read-spec : {M : Type 1} → statement M

@@ -1,9 +1,5 @@
 -- `read_raw` meets its contract.
-use Rattle.hardware.specs.Asked.{familyNumbered, openLan, openPort, question}
-use Rattle.hardware.specs.Change.{changed, settled, stored}
-use Rattle.hardware.specs.Poll.{polled}
-use Rattle.hardware.specs.Prog.{_>>=_, erase, orErr, pick}
-use Rattle.hardware.specs.Registers.{checked, flushed, outcome, raw, word, written}
+use Rattle.hardware.specs.Registers.{raw, word}
 use borrow.Author.Needs.{needs}
 use Rattle.hardware.proofs.read_raw.Statement.{statement}
 use Rattle.hardware.proofs.read_raw.Tie as tie
@@ -18,15 +14,15 @@ enum-told-2 : tie.Need-enum-told-2
 enum-told-2 c = search needs
 
 returns : tie.Need-returns
-unfolding erase _>>=_ orErr pick checked raw written flushed word outcome changed settled stored polled question openLan openPort familyNumbered
+unfolding raw word
 returns c = cc
 
 returns-2 : tie.Need-returns-2
-unfolding erase _>>=_ orErr pick checked raw written flushed word outcome changed settled stored polled question openLan openPort familyNumbered
+unfolding raw word
 returns-2 c = cc
 
 returns-3 : tie.Need-returns-3
-unfolding erase _>>=_ orErr pick checked raw written flushed word outcome changed settled stored polled question openLan openPort familyNumbered
+unfolding raw word
 returns-3 c = cc
 
 pub read-raw-spec : {M : Type 1} → statement M

@@ -1,6 +1,5 @@
 -- `same` meets its contract.
 use Rattle.hardware.specs.Asked.{is}
-use Rattle.hardware.specs.Poll.{validPoll}
 use borrow.Author.Needs.{needs}
 use Rattle.hardware.proofs.same.Statement.{statement}
 use Rattle.hardware.proofs.same.Tie as tie
@@ -12,7 +11,7 @@ family-number-requires-2 : tie.Need-family-number-requires-2
 family-number-requires-2 c κs = search needs
 
 returns : tie.Need-returns
-unfolding is validPoll
+unfolding is
 returns c = cc
 
 pub same-spec : {M : Type 1} → statement M

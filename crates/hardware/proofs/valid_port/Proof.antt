@@ -1,11 +1,10 @@
 -- `valid_port` meets its contract.
-use Rattle.hardware.specs.Asked.{andThen, familyNumbered, familyOpened, fits, openFamily, openLan, openPort, portOpened, question, validPort}
-use Rattle.hardware.specs.Numbers.{refusalNumber}
+use Rattle.hardware.specs.Asked.{validPort}
 use Rattle.hardware.proofs.valid_port.Statement.{statement}
 use Rattle.hardware.proofs.valid_port.Tie as tie
 
 returns : tie.Need-returns
-unfolding fits openFamily openLan openPort question andThen familyNumbered familyOpened portOpened validPort refusalNumber
+unfolding validPort
 returns c = cc
 
 pub valid-port-spec : {M : Type 1} → statement M

@@ -1,9 +1,5 @@
 -- `write` meets its contract.
-use Rattle.hardware.specs.Asked.{familyNumbered, openLan, openPort, question}
-use Rattle.hardware.specs.Change.{changed, settled, stored}
-use Rattle.hardware.specs.Poll.{polled}
-use Rattle.hardware.specs.Prog.{_>>=_, erase, orErr, pick}
-use Rattle.hardware.specs.Registers.{checked, flushed, outcome, raw, word, written}
+use Rattle.hardware.specs.Registers.{outcome, written}
 use borrow.Author.Needs.{needs}
 use Rattle.hardware.proofs.write.Statement.{statement}
 use Rattle.hardware.proofs.write.Tie as tie
@@ -18,15 +14,15 @@ enum-told-3 : tie.Need-enum-told-3
 enum-told-3 c = search needs
 
 returns : tie.Need-returns
-unfolding erase _>>=_ orErr pick checked raw written flushed word outcome changed settled stored polled question openLan openPort familyNumbered
+unfolding written outcome
 returns c = cc
 
 returns-2 : tie.Need-returns-2
-unfolding erase _>>=_ orErr pick checked raw written flushed word outcome changed settled stored polled question openLan openPort familyNumbered
+unfolding written outcome
 returns-2 c = cc
 
 returns-3 : tie.Need-returns-3
-unfolding erase _>>=_ orErr pick checked raw written flushed word outcome changed settled stored polled question openLan openPort familyNumbered
+unfolding written outcome
 returns-3 c = cc
 
 pub write-spec : {M : Type 1} → statement M

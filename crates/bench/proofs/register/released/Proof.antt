@@ -1,6 +1,4 @@
 -- `released` meets its contract.
-use mathlib.Core.Bool.{_&&_}
-use mathlib.Core.Path.{_∙_}
 use Rattle.wire.specs.Lines.{levels, master}
 use Rattle.bench.specs.Register.{released}
 use borrow.Author.Needs.{needs}

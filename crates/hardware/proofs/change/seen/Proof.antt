@@ -1,9 +1,7 @@
 -- `seen` meets its contract.
-use Rattle.hardware.specs.Asked.{familyNumbered, openLan, openPort, question}
-use Rattle.hardware.specs.Change.{accessUpdate, changed, restUpdate, settled, stored, updateNext}
-use Rattle.hardware.specs.Poll.{polled}
-use Rattle.hardware.specs.Prog.{_>>=_, erase, orErr, pick}
-use Rattle.hardware.specs.Registers.{checked, flushed, outcome, raw, word, written}
+use Rattle.hardware.specs.Change.{accessUpdate, restUpdate, stored, updateNext}
+use Rattle.hardware.specs.Prog.{_>>=_, erase, orErr}
+use Rattle.hardware.specs.Registers.{outcome, word}
 use Rattle.hardware.specs.Runs.{given}
 use borrow.Author.Needs.{needs}
 use Rattle.hardware.proofs.change.seen.Statement.{statement}
@@ -23,7 +21,7 @@ unfolding word orErr stored erase _>>=_ updateNext accessUpdate restUpdate
 returns c = rw (c .before .before .w .given .1, ← c .apply .ensures)
 
 returns-2 : tie.Need-returns-2
-unfolding erase _>>=_ orErr pick checked raw written flushed word outcome changed settled stored polled question openLan openPort familyNumbered updateNext
+unfolding erase orErr word outcome updateNext
 returns-2 c = cc
 
 pub seen-spec : {M : Type 1} → statement M

@@ -1,9 +1,7 @@
 -- `settle` meets its contract.
-use Rattle.hardware.specs.Asked.{familyNumbered, openLan, openPort, question}
-use Rattle.hardware.specs.Change.{accessUpdate, changed, restUpdate, settled, stored, updateNext}
-use Rattle.hardware.specs.Poll.{polled}
-use Rattle.hardware.specs.Prog.{_>>=_, erase, orErr, pick}
-use Rattle.hardware.specs.Registers.{checked, flushed, outcome, raw, word, written}
+use Rattle.hardware.specs.Change.{accessUpdate, restUpdate, settled, updateNext}
+use Rattle.hardware.specs.Prog.{erase, orErr}
+use Rattle.hardware.specs.Registers.{outcome}
 use Rattle.hardware.specs.Runs.{given}
 use borrow.Author.Needs.{needs}
 use Rattle.hardware.proofs.change.settle.Statement.{statement}
@@ -13,18 +11,18 @@ enum-told : tie.Need-enum-told
 enum-told c = search needs
 
 returns : tie.Need-returns
-unfolding erase _>>=_ orErr pick checked raw written flushed word outcome changed settled stored polled question openLan openPort familyNumbered updateNext accessUpdate restUpdate
+unfolding erase orErr outcome settled updateNext accessUpdate restUpdate
 returns c = rw (c .before .enum-told .given .1) (simp (c .if1 .taken))
 
 enum-known-o : tie.Need-enum-known-o
 enum-known-o c = search needs
 
 returns-2 : tie.Need-returns-2
-unfolding erase _>>=_ orErr pick checked raw written flushed word outcome changed settled stored polled question openLan openPort familyNumbered updateNext
+unfolding erase orErr outcome settled updateNext
 returns-2 c = cc
 
 returns-3 : tie.Need-returns-3
-unfolding erase _>>=_ orErr pick checked raw written flushed word outcome changed settled stored polled question openLan openPort familyNumbered updateNext
+unfolding erase orErr outcome updateNext
 returns-3 c = cc
 
 pub settle-spec : {M : Type 1} → statement M

@@ -27,7 +27,7 @@ unfolding word orErr polled pick erase _>>=_ pollNext accessPoll restPoll validP
 returns-2 c = (rw (c .before .before .before .v .given .1, ← c .before .none-of .ensures, c .if1 .left), λ n h. lt-ltb _ _ h)
 
 returns-3 : tie.Need-returns-3
-unfolding erase _>>=_ orErr pick word polled pollNext validPollNext
+unfolding erase orErr word pollNext validPollNext
 returns-3 c = (cc, λ n h. refl)
 
 pub seen-spec : {M : Type 1} → statement M

@@ -1,5 +1,4 @@
 -- `valid` meets its contract.
-use Rattle.hardware.specs.Asked.{is}
 use Rattle.hardware.specs.Poll.{validPoll}
 use borrow.Author.Needs.{needs}
 use Rattle.hardware.proofs.poll.valid.Statement.{statement}
@@ -12,11 +11,11 @@ enum-known-s-2 : tie.Need-enum-known-s-2
 enum-known-s-2 c = search needs
 
 returns : tie.Need-returns
-unfolding is validPoll
+unfolding validPoll
 returns c = cc
 
 returns-2 : tie.Need-returns-2
-unfolding is validPoll
+unfolding validPoll
 returns-2 c = cc
 
 pub valid-spec : {M : Type 1} → statement M

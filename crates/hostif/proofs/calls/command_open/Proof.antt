@@ -36,7 +36,7 @@ unfolding openCommand openedBlock asked portOpened saidCommand standsCommand
 returns-2 c = (rw (← c .before .before .before .before .before .open-port .ensures, c .before .before .before .p .given .1, ← c .before .fits2 .ensures _ refl, c .if1 .left), tt)
 
 returns-3 : tie.Need-returns-3
-unfolding openCommand openedBlock asked portOpened saidCommand standsCommand
+unfolding openCommand openedBlock portOpened saidCommand standsCommand
 returns-3 c = (rw (← c .before .before .before .open-port .ensures, c .before .q .given .1), tt)
 
 pub command-open-spec : {M : Type 1} → statement M

@@ -1,7 +1,7 @@
 -- `command_told` meets its contract.
 use Rattle.hardware.specs.Runs.{given}
-use Rattle.hostif.specs.Calls.{saidCommand, saidToken, standsCommand}
-use Rattle.hostif.specs.Hostif.{commandNext, tokenNext, validCommandNext}
+use Rattle.hostif.specs.Calls.{saidCommand, standsCommand}
+use Rattle.hostif.specs.Hostif.{commandNext, validCommandNext}
 use borrow.Author.Needs.{needs}
 use Rattle.hostif.proofs.calls.command_told.Statement.{statement}
 use Rattle.hostif.proofs.calls.command_told.Tie as tie
@@ -20,7 +20,7 @@ unfolding saidCommand commandNext standsCommand validCommandNext
 returns c = (rw (c .before .before .n .given .1, ← c .access .ensures), λ p h. (c .access .ensures, p, rw (c .before .before .n .given .1) at h))
 
 returns-2 : tie.Need-returns-2
-unfolding saidCommand saidToken commandNext tokenNext standsCommand
+unfolding saidCommand commandNext standsCommand
 returns-2 c = (rw (c .before .n2 .given .1), λ p h. tt)
 
 pub command-told-spec : {M : Type 1} → statement M

@@ -49,7 +49,7 @@ unfolding stepToken question saidToken standsToken
 returns-4 c = (rw (c .before .before .before .s .given .1, ← c .before .valid-port .ensures, c .if1 .left), tt)
 
 returns-5 : tie.Need-returns-5
-unfolding stepToken question saidToken standsToken
+unfolding stepToken saidToken standsToken
 returns-5 c = (rw (c .enum-told .given .1), tt)
 
 pub token-step-spec : {M : Type 1} → statement M

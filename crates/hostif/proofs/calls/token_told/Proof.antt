@@ -1,7 +1,7 @@
 -- `token_told` meets its contract.
 use Rattle.hardware.specs.Runs.{given}
-use Rattle.hostif.specs.Calls.{saidCommand, saidToken, standsToken}
-use Rattle.hostif.specs.Hostif.{commandNext, tokenNext, validTokenNext}
+use Rattle.hostif.specs.Calls.{saidToken, standsToken}
+use Rattle.hostif.specs.Hostif.{tokenNext, validTokenNext}
 use borrow.Author.Needs.{needs}
 use Rattle.hostif.proofs.calls.token_told.Statement.{statement}
 use Rattle.hostif.proofs.calls.token_told.Tie as tie
@@ -20,7 +20,7 @@ unfolding saidToken tokenNext standsToken validTokenNext
 returns c = (rw (c .before .before .n .given .1, ← c .access .ensures), λ p h. (c .access .ensures, p, rw (c .before .before .n .given .1) at h))
 
 returns-2 : tie.Need-returns-2
-unfolding saidCommand saidToken commandNext tokenNext standsToken
+unfolding saidToken tokenNext standsToken
 returns-2 c = (rw (c .before .n2 .given .1), λ p h. tt)
 
 pub token-told-spec : {M : Type 1} → statement M

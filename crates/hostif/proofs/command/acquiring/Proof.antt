@@ -1,10 +1,10 @@
 -- `acquiring` meets its contract.
 use Rattle.hardware.specs.Change.{accessUpdate, change, restUpdate}
-use Rattle.hardware.specs.Prog.{_>>=_, erase, followed, going, orErr, pick}
+use Rattle.hardware.specs.Prog.{_>>=_, erase, followed, going}
 use Rattle.hardware.specs.Registers.{byte, flag, outcome, word}
 use Rattle.hardware.specs.Runs.{given}
-use Rattle.hostif.specs.Hostif.{accessCommand, accessRequest, accessResponse, acquired, both, closed, commandNext, hicrRead, released, request, requestNext, requested, respond, responseNext, restCommand, restRequest, restResponse, validCommand, validCommandNext, validRequest}
-use Rattle.sync.specs.Resource.{acquireBitsNext, releaseBitsNext, validAcquireBitsNext}
+use Rattle.hostif.specs.Hostif.{accessCommand, accessRequest, acquired, both, closed, commandNext, hicrRead, released, request, requested, respond, restCommand, restRequest, validCommand, validCommandNext, validRequest}
+use Rattle.sync.specs.Resource.{acquireBitsNext, validAcquireBitsNext}
 use borrow.Author.Needs.{needs}
 use mathlib.Core.Path.{refl}
 use Rattle.hostif.proofs.command.acquiring.Statement.{statement}
@@ -23,15 +23,15 @@ enum-known-o : tie.Need-enum-known-o
 enum-known-o c = search needs
 
 returns : tie.Need-returns
-unfolding requestNext accessRequest restRequest responseNext accessResponse restResponse commandNext accessCommand restCommand acquireBitsNext releaseBitsNext validCommandNext validCommand validAcquireBitsNext
+unfolding commandNext accessCommand restCommand acquireBitsNext validCommandNext validCommand validAcquireBitsNext
 returns c = (λ l. rw (c .before .n .given .1) (going _ _ _), λ m h. rw (c .before .n .given .1) at h)
 
 returns-2 : tie.Need-returns-2
-unfolding requestNext accessRequest restRequest responseNext accessResponse restResponse commandNext accessCommand restCommand acquireBitsNext releaseBitsNext followed _>>=_ erase orErr pick word outcome byte flag hicrRead request respond both closed released requested acquired change accessUpdate restUpdate validCommand validCommandNext validRequest
+unfolding accessRequest restRequest commandNext accessCommand restCommand acquireBitsNext followed _>>=_ erase word outcome byte flag hicrRead request respond both closed released requested acquired change accessUpdate restUpdate validCommand validCommandNext validRequest
 returns-2 c = (λ l. rw (c .before .before .before .n2 .given .1, c .enum-told .given .1), λ m h. refl)
 
 returns-3 : tie.Need-returns-3
-unfolding requestNext accessRequest restRequest responseNext accessResponse restResponse commandNext accessCommand restCommand acquireBitsNext releaseBitsNext followed _>>=_ erase orErr pick word outcome byte flag hicrRead request respond both closed released requested acquired change accessUpdate restUpdate validCommand validCommandNext
+unfolding commandNext acquireBitsNext followed _>>=_ erase word outcome byte flag hicrRead request respond both closed released requested acquired change accessUpdate restUpdate validCommand validCommandNext
 returns-3 c = (λ l. rw (c .before .before .before .before .n2 .given .1, c .before .o .given .1), λ m h. refl)
 
 pub acquiring-spec : {M : Type 1} → statement M

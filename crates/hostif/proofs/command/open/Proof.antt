@@ -1,5 +1,5 @@
 -- `open` meets its contract.
-use Rattle.hardware.specs.Prog.{over}
+use Rattle.hardware.specs.Prog.{erase, over}
 use Rattle.hostif.specs.Hostif.{command}
 use Rattle.sync.specs.Regs.{tries}
 use Rattle.sync.specs.Resource.{acquireBits}
@@ -18,7 +18,7 @@ acquiring-requires : tie.Need-acquiring-requires
 acquiring-requires c κs = search needs
 
 returns : tie.Need-returns
-unfolding command acquireBits
+unfolding command acquireBits erase
 returns c = (λ l. over _ _ (c .acquiring .ensures .0 l) (rw (c .before .before .tries .ensures) at (c .before .«open» .ensures .0)), λ m. c .acquiring .ensures .1 m (c .before .«open» .ensures .1 (omega (arith, c .before .before .tries .ensures))))
 
 pub open-spec : {M : Type 1} → statement M

@@ -1,10 +1,8 @@
 -- `outcome_of` meets its contract.
 use Rattle.hardware.specs.Change.{accessUpdate, change, restUpdate}
-use Rattle.hardware.specs.Prog.{_>>=_, erase, followed, orErr, pick}
 use Rattle.hardware.specs.Registers.{byte, flag, outcome, word}
 use Rattle.hardware.specs.Runs.{given}
-use Rattle.hostif.specs.Hostif.{accessCommand, accessRequest, accessResponse, acquired, both, closed, commandNext, hicrRead, released, request, requestNext, requested, respond, responseNext, restCommand, restRequest, restResponse, validCommand}
-use Rattle.sync.specs.Resource.{acquireBitsNext, releaseBitsNext}
+use Rattle.hostif.specs.Hostif.{acquired, both, closed, hicrRead, released, request, requested, respond, validCommand}
 use borrow.Author.Needs.{needs}
 use Rattle.hostif.proofs.command.outcome_of.Statement.{statement}
 use Rattle.hostif.proofs.command.outcome_of.Tie as tie
@@ -22,15 +20,15 @@ enum-known-s-2 : tie.Need-enum-known-s-2
 enum-known-s-2 c = search needs
 
 returns : tie.Need-returns
-unfolding requestNext accessRequest restRequest responseNext accessResponse restResponse commandNext accessCommand restCommand acquireBitsNext releaseBitsNext followed _>>=_ erase orErr pick word outcome byte flag hicrRead request respond both closed released requested acquired change accessUpdate restUpdate validCommand
+unfolding word outcome byte flag hicrRead request respond both closed released requested acquired change accessUpdate restUpdate validCommand
 returns c = rw (c .before .before .before .s .given .1, c .enum-told .given .1)
 
 returns-2 : tie.Need-returns-2
-unfolding requestNext accessRequest restRequest responseNext accessResponse restResponse commandNext accessCommand restCommand acquireBitsNext releaseBitsNext followed _>>=_ erase orErr pick word outcome byte flag hicrRead request respond both closed released requested acquired change accessUpdate restUpdate validCommand
+unfolding word outcome byte flag hicrRead request respond both closed released requested acquired change accessUpdate restUpdate validCommand
 returns-2 c = rw (c .before .before .before .before .s .given .1, c .before .o .given .1)
 
 returns-3 : tie.Need-returns-3
-unfolding requestNext accessRequest restRequest responseNext accessResponse restResponse commandNext accessCommand restCommand acquireBitsNext releaseBitsNext followed _>>=_ erase orErr pick word outcome byte flag hicrRead request respond both closed released requested acquired change accessUpdate restUpdate validCommand
+unfolding word outcome byte flag hicrRead request respond both closed released requested acquired change accessUpdate restUpdate validCommand
 returns-3 c = rw (c .before .s2 .given .1)
 
 pub outcome-of-spec : {M : Type 1} → statement M

@@ -1,10 +1,10 @@
 -- `releasing` meets its contract.
 use Rattle.hardware.specs.Change.{accessUpdate, change, restUpdate}
-use Rattle.hardware.specs.Prog.{_>>=_, erase, followed, going, orErr, pick}
+use Rattle.hardware.specs.Prog.{_>>=_, erase, followed, going}
 use Rattle.hardware.specs.Registers.{byte, flag, outcome, word}
 use Rattle.hardware.specs.Runs.{given}
-use Rattle.hostif.specs.Hostif.{accessCommand, accessRequest, accessResponse, acquired, both, closed, commandNext, hicrRead, released, request, requestNext, requested, respond, responseNext, restCommand, restRequest, restResponse, validCommand, validCommandNext}
-use Rattle.sync.specs.Resource.{acquireBitsNext, releaseBitsNext, validReleaseBitsNext}
+use Rattle.hostif.specs.Hostif.{accessCommand, acquired, both, closed, commandNext, hicrRead, released, request, requested, respond, restCommand, validCommand, validCommandNext}
+use Rattle.sync.specs.Resource.{releaseBitsNext, validReleaseBitsNext}
 use borrow.Author.Needs.{needs}
 use mathlib.Core.Path.{refl}
 use Rattle.hostif.proofs.command.releasing.Statement.{statement}
@@ -20,11 +20,11 @@ outcome-of-requires : tie.Need-outcome-of-requires
 outcome-of-requires c κs = search needs
 
 returns : tie.Need-returns
-unfolding requestNext accessRequest restRequest responseNext accessResponse restResponse commandNext accessCommand restCommand acquireBitsNext releaseBitsNext validCommandNext validCommand validReleaseBitsNext
+unfolding commandNext accessCommand restCommand releaseBitsNext validCommandNext validCommand validReleaseBitsNext
 returns c = (λ l. rw (c .before .n .given .1) (going _ _ _), λ m h. rw (c .before .n .given .1) at h)
 
 returns-2 : tie.Need-returns-2
-unfolding requestNext accessRequest restRequest responseNext accessResponse restResponse commandNext accessCommand restCommand acquireBitsNext releaseBitsNext followed _>>=_ erase orErr pick word outcome byte flag hicrRead request respond both closed released requested acquired change accessUpdate restUpdate validCommand validCommandNext
+unfolding commandNext releaseBitsNext followed _>>=_ erase word outcome byte flag hicrRead request respond both closed released requested acquired change accessUpdate restUpdate validCommand validCommandNext
 returns-2 c = (λ l. rw (c .before .before .n2 .given .1, ← c .outcome-of .ensures), λ m h. refl)
 
 pub releasing-spec : {M : Type 1} → statement M

@@ -1,10 +1,9 @@
 -- `request_done` meets its contract.
 use Rattle.hardware.specs.Change.{accessUpdate, change, restUpdate}
-use Rattle.hardware.specs.Prog.{_>>=_, erase, followed, orErr, pick}
+use Rattle.hardware.specs.Prog.{_>>=_, erase}
 use Rattle.hardware.specs.Registers.{byte, flag, outcome, word}
 use Rattle.hardware.specs.Runs.{given}
-use Rattle.hostif.specs.Hostif.{accessCommand, accessRequest, accessResponse, acquired, both, closed, commandNext, hicrRead, released, request, requestNext, requested, respond, responseNext, restCommand, restRequest, restResponse, validCommand, validCommandNext, validResponse}
-use Rattle.sync.specs.Resource.{acquireBitsNext, releaseBitsNext}
+use Rattle.hostif.specs.Hostif.{accessCommand, accessResponse, acquired, both, closed, commandNext, hicrRead, released, request, requested, respond, restCommand, restResponse, validCommand, validCommandNext, validResponse}
 use borrow.Author.Needs.{needs}
 use mathlib.Core.Path.{refl}
 use Rattle.hostif.proofs.command.request_done.Statement.{statement}
@@ -20,11 +19,11 @@ release-requires : tie.Need-release-requires
 release-requires c κs = search needs
 
 returns : tie.Need-returns
-unfolding requestNext accessRequest restRequest responseNext accessResponse restResponse commandNext accessCommand restCommand acquireBitsNext releaseBitsNext followed _>>=_ erase orErr pick word outcome byte flag hicrRead request respond both closed released requested acquired change accessUpdate restUpdate validCommand validCommandNext validResponse
+unfolding accessResponse restResponse commandNext accessCommand restCommand _>>=_ erase word outcome byte flag hicrRead request respond both closed released requested acquired change accessUpdate restUpdate validCommand validCommandNext validResponse
 returns c = (λ l. rw (c .before .w .given .1), λ m. refl)
 
 returns-2 : tie.Need-returns-2
-unfolding requestNext accessRequest restRequest responseNext accessResponse restResponse commandNext accessCommand restCommand acquireBitsNext releaseBitsNext followed _>>=_ erase orErr pick word outcome byte flag hicrRead request respond both closed released requested acquired change accessUpdate restUpdate validCommand
+unfolding word outcome byte flag hicrRead request respond both closed released requested acquired change accessUpdate restUpdate validCommand
 returns-2 c = (λ l. rw (c .before .before .w2 .given .1) (c .release .ensures .0 l), c .release .ensures .1)
 
 pub request-done-spec : {M : Type 1} → statement M

@@ -1,10 +1,9 @@
 -- `requesting` meets its contract.
 use Rattle.hardware.specs.Change.{accessUpdate, change, restUpdate}
-use Rattle.hardware.specs.Prog.{_>>=_, erase, followed, going, orErr, pick}
+use Rattle.hardware.specs.Prog.{_>>=_, followed, going}
 use Rattle.hardware.specs.Registers.{byte, flag, outcome, word}
 use Rattle.hardware.specs.Runs.{given}
-use Rattle.hostif.specs.Hostif.{accessCommand, accessRequest, accessResponse, acquired, both, closed, commandNext, hicrRead, released, request, requestNext, requested, respond, responseNext, restCommand, restRequest, restResponse, validCommand, validCommandNext, validRequestNext}
-use Rattle.sync.specs.Resource.{acquireBitsNext, releaseBitsNext}
+use Rattle.hostif.specs.Hostif.{accessCommand, acquired, both, closed, commandNext, hicrRead, released, request, requestNext, requested, respond, restCommand, validCommand, validCommandNext, validRequestNext}
 use borrow.Author.Needs.{needs}
 use Rattle.hostif.proofs.command.requesting.Statement.{statement}
 use Rattle.hostif.proofs.command.requesting.Tie as tie
@@ -19,11 +18,11 @@ request-done-requires : tie.Need-request-done-requires
 request-done-requires c κs = search needs
 
 returns : tie.Need-returns
-unfolding requestNext accessRequest restRequest responseNext accessResponse restResponse commandNext accessCommand restCommand acquireBitsNext releaseBitsNext validCommandNext validCommand validRequestNext
+unfolding requestNext commandNext accessCommand restCommand validCommandNext validCommand validRequestNext
 returns c = (λ l. rw (c .before .n .given .1) (going _ _ _), λ m h. rw (c .before .n .given .1) at h)
 
 returns-2 : tie.Need-returns-2
-unfolding requestNext accessRequest restRequest responseNext accessResponse restResponse commandNext accessCommand restCommand acquireBitsNext releaseBitsNext followed _>>=_ erase orErr pick word outcome byte flag hicrRead request respond both closed released requested acquired change accessUpdate restUpdate validCommand
+unfolding requestNext followed _>>=_ word outcome byte flag hicrRead request respond both closed released requested acquired change accessUpdate restUpdate validCommand
 returns-2 c = (λ l. rw (c .before .before .n2 .given .1) (c .request-done .ensures .0 l), λ m h. c .request-done .ensures .1 m)
 
 pub requesting-spec : {M : Type 1} → statement M

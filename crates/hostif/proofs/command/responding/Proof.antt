@@ -1,10 +1,9 @@
 -- `responding` meets its contract.
 use Rattle.hardware.specs.Change.{accessUpdate, change, restUpdate}
-use Rattle.hardware.specs.Prog.{_>>=_, erase, followed, going, orErr, pick}
+use Rattle.hardware.specs.Prog.{_>>=_, followed, going}
 use Rattle.hardware.specs.Registers.{byte, flag, outcome, word}
 use Rattle.hardware.specs.Runs.{given}
-use Rattle.hostif.specs.Hostif.{accessCommand, accessRequest, accessResponse, acquired, both, closed, commandNext, hicrRead, released, request, requestNext, requested, respond, responseNext, restCommand, restRequest, restResponse, validCommand, validCommandNext, validResponseNext}
-use Rattle.sync.specs.Resource.{acquireBitsNext, releaseBitsNext}
+use Rattle.hostif.specs.Hostif.{accessCommand, acquired, both, closed, commandNext, hicrRead, released, request, requested, respond, responseNext, restCommand, validCommand, validCommandNext, validResponseNext}
 use borrow.Author.Needs.{needs}
 use Rattle.hostif.proofs.command.responding.Statement.{statement}
 use Rattle.hostif.proofs.command.responding.Tie as tie
@@ -19,11 +18,11 @@ release-requires : tie.Need-release-requires
 release-requires c κs = search needs
 
 returns : tie.Need-returns
-unfolding requestNext accessRequest restRequest responseNext accessResponse restResponse commandNext accessCommand restCommand acquireBitsNext releaseBitsNext validCommandNext validCommand validResponseNext
+unfolding responseNext commandNext accessCommand restCommand validCommandNext validCommand validResponseNext
 returns c = (λ l. rw (c .before .n .given .1) (going _ _ _), λ m h. rw (c .before .n .given .1) at h)
 
 returns-2 : tie.Need-returns-2
-unfolding requestNext accessRequest restRequest responseNext accessResponse restResponse commandNext accessCommand restCommand acquireBitsNext releaseBitsNext followed _>>=_ erase orErr pick word outcome byte flag hicrRead request respond both closed released requested acquired change accessUpdate restUpdate validCommand
+unfolding responseNext followed _>>=_ word outcome byte flag hicrRead request respond both closed released requested acquired change accessUpdate restUpdate validCommand
 returns-2 c = (λ l. rw (c .before .before .n2 .given .1) (c .release .ensures .0 l), λ m h. c .release .ensures .1 m)
 
 pub responding-spec : {M : Type 1} → statement M

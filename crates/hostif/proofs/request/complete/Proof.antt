@@ -1,10 +1,9 @@
 -- `complete` meets its contract.
-use Rattle.hardware.specs.Change.{accessUpdate, change, restUpdate, updateNext}
-use Rattle.hardware.specs.Poll.{pollNext}
-use Rattle.hardware.specs.Prog.{_>>=_, erase, followed, orErr, pick}
-use Rattle.hardware.specs.Registers.{byte, flag, outcome, word}
+use Rattle.hardware.specs.Change.{accessUpdate, change, restUpdate}
+use Rattle.hardware.specs.Prog.{erase, orErr, pick}
+use Rattle.hardware.specs.Registers.{word}
 use Rattle.hardware.specs.Runs.{given}
-use Rattle.hostif.specs.Hostif.{accessRequest, completed, enabled, hicrRead, polling, request, requestNext, restRequest, start, validRequest, validRequestNext, words}
+use Rattle.hostif.specs.Hostif.{completed, enabled, hicrRead, request, requestNext, start, validRequest, validRequestNext, words}
 use Rattle.sync.specs.Resource.{taken}
 use borrow.Author.Needs.{needs}
 use mathlib.Core.Path.{refl}
@@ -21,22 +20,22 @@ none-of-requires-2 : tie.Need-none-of-requires-2
 none-of-requires-2 c κs = search needs
 
 returns : tie.Need-returns
-unfolding requestNext accessRequest restRequest pollNext updateNext followed _>>=_ erase orErr pick word outcome byte flag completed polling start enabled hicrRead request change accessUpdate restUpdate validRequest words validRequestNext
+unfolding requestNext erase orErr pick word completed start enabled hicrRead request change accessUpdate restUpdate validRequest words validRequestNext
 returns c = (λ l. rw (c .before .before .before .before .before .w .given .1, ← c .before .before .before .none-of .ensures, c .before .before .if1 .taken, ← c .before .none-of2 .ensures, c .if2 .taken), λ m. refl)
 
 returns-2 : tie.Need-returns-2
-unfolding requestNext accessRequest restRequest pollNext updateNext followed _>>=_ erase orErr pick word outcome byte flag completed polling start enabled hicrRead request change accessUpdate restUpdate validRequest words validRequestNext
+unfolding requestNext erase orErr pick word completed start enabled hicrRead request change accessUpdate restUpdate validRequest words validRequestNext
 returns-2 c = (λ l. rw (c .before .before .before .before .before .w .given .1, ← c .before .before .before .none-of .ensures, c .before .before .if1 .taken, ← c .before .none-of2 .ensures, c .if2 .left), λ m. refl)
 
 enum-known-w-2 : tie.Need-enum-known-w-2
 enum-known-w-2 c = search needs
 
 returns-3 : tie.Need-returns-3
-unfolding requestNext accessRequest restRequest pollNext updateNext followed _>>=_ erase orErr pick word outcome byte flag completed polling start enabled hicrRead request change accessUpdate restUpdate validRequest words validRequestNext
+unfolding requestNext erase orErr pick word completed start enabled hicrRead request change accessUpdate restUpdate validRequest words validRequestNext
 returns-3 c = (λ l. rw (c .before .before .before .w .given .1, ← c .before .none-of .ensures, c .if1 .left), λ m. refl)
 
 returns-4 : tie.Need-returns-4
-unfolding requestNext accessRequest restRequest pollNext updateNext followed _>>=_ erase orErr pick word outcome byte flag completed polling start enabled hicrRead request change accessUpdate restUpdate validRequest words validRequestNext
+unfolding requestNext erase orErr word start enabled hicrRead request change accessUpdate restUpdate validRequest words validRequestNext
 returns-4 c = (λ l. rw (c .before .w2 .given .1), λ m. refl)
 
 pub complete-spec : {M : Type 1} → statement M

@@ -1,10 +1,9 @@
 -- `fwsts` meets its contract.
 use Rattle.hardware.specs.Change.{accessUpdate, change, restUpdate, updateNext}
-use Rattle.hardware.specs.Poll.{pollNext}
-use Rattle.hardware.specs.Prog.{_>>=_, erase, followed, going, orErr, pick}
-use Rattle.hardware.specs.Registers.{byte, flag, outcome, word}
+use Rattle.hardware.specs.Prog.{_>>=_, erase, followed, going, orErr}
+use Rattle.hardware.specs.Registers.{outcome, word}
 use Rattle.hardware.specs.Runs.{given}
-use Rattle.hostif.specs.Hostif.{accessRequest, completed, enabled, hicrRead, polling, request, requestNext, restRequest, start, validRequest, validRequestNext, words}
+use Rattle.hostif.specs.Hostif.{accessRequest, enabled, hicrRead, request, requestNext, restRequest, start, validRequest, validRequestNext, words}
 use borrow.Author.Needs.{needs}
 use mathlib.Core.Path.{refl}
 use Rattle.hostif.proofs.request.fwsts.Statement.{statement}
@@ -23,15 +22,15 @@ enum-known-o : tie.Need-enum-known-o
 enum-known-o c = search needs
 
 returns : tie.Need-returns
-unfolding requestNext accessRequest restRequest pollNext updateNext validRequestNext validRequest
+unfolding requestNext accessRequest restRequest updateNext validRequestNext validRequest
 returns c = (λ l. rw (c .before .n .given .1) (going _ _ _), λ m. refl)
 
 returns-2 : tie.Need-returns-2
-unfolding requestNext accessRequest restRequest pollNext updateNext followed _>>=_ erase orErr pick word outcome byte flag completed polling start enabled hicrRead request change accessUpdate restUpdate validRequest words validRequestNext
+unfolding requestNext accessRequest restRequest updateNext followed _>>=_ erase orErr outcome start enabled hicrRead request change accessUpdate restUpdate validRequest words validRequestNext
 returns-2 c = (λ l. rw (c .before .before .before .n2 .given .1, c .enum-told .given .1), λ m. refl)
 
 returns-3 : tie.Need-returns-3
-unfolding requestNext accessRequest restRequest pollNext updateNext followed _>>=_ erase orErr pick word outcome byte flag completed polling start enabled hicrRead request change accessUpdate restUpdate validRequest words validRequestNext
+unfolding requestNext updateNext followed _>>=_ erase orErr word outcome start enabled hicrRead request change accessUpdate restUpdate validRequest words validRequestNext
 returns-3 c = (λ l. rw (c .before .before .before .before .n2 .given .1, c .before .o .given .1), λ m. refl)
 
 pub fwsts-spec : {M : Type 1} → statement M

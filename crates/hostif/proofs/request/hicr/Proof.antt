@@ -1,11 +1,10 @@
 -- `hicr` meets its contract.
-use Rattle.hardware.specs.Change.{accessUpdate, change, restUpdate, updateNext}
-use Rattle.hardware.specs.Poll.{pollNext}
-use Rattle.hardware.specs.Prog.{_>>=_, erase, followed, orErr, pick}
-use Rattle.hardware.specs.Registers.{byte, flag, outcome, word}
+use Rattle.hardware.specs.Change.{accessUpdate, change, restUpdate}
+use Rattle.hardware.specs.Prog.{erase, orErr, pick}
+use Rattle.hardware.specs.Registers.{word}
 use Rattle.hardware.specs.Runs.{given}
 use Rattle.hostif.proofs.Laws.{first-word, words-at, words-none}
-use Rattle.hostif.specs.Hostif.{accessRequest, completed, enabled, hicrRead, polling, request, requestNext, restRequest, start, validRequest, validRequestNext, words}
+use Rattle.hostif.specs.Hostif.{enabled, hicrRead, request, requestNext, start, validRequest, validRequestNext, words}
 use Rattle.sync.specs.Resource.{taken}
 use borrow.Author.Needs.{needs}
 use mathlib.Core.Path.{refl}
@@ -20,7 +19,7 @@ none-of-requires : tie.Need-none-of-requires
 none-of-requires c κs = search needs
 
 returns : tie.Need-returns
-unfolding requestNext accessRequest restRequest pollNext updateNext followed _>>=_ erase orErr pick word outcome byte flag completed polling start enabled hicrRead request change accessUpdate restUpdate validRequest words validRequestNext
+unfolding requestNext erase orErr pick word start enabled hicrRead request change accessUpdate restUpdate validRequest words validRequestNext
 returns c = (λ l h. rw (c .before .before .before .w .given .1, ← c .before .none-of .ensures, c .if1 .taken), refl)
 
 returns-2 : tie.Need-returns-2
@@ -35,7 +34,7 @@ unfolding word orErr enabled pick validRequestNext validRequest
 returns-3 c = (λ l h. rw (c .before .before .before .before .w .given .1, ← c .before .before .none-of .ensures, c .before .if1 .left) (words-at l 0 _ (omega (arith, c .if2 .left))), first-word _ (c .if2 .left))
 
 returns-4 : tie.Need-returns-4
-unfolding requestNext accessRequest restRequest pollNext updateNext followed _>>=_ erase orErr pick word outcome byte flag completed polling start enabled hicrRead request change accessUpdate restUpdate validRequest words validRequestNext
+unfolding requestNext erase orErr word start enabled hicrRead request change accessUpdate restUpdate validRequest words validRequestNext
 returns-4 c = (λ l h. rw (c .before .w2 .given .1), refl)
 
 pub hicr-spec : {M : Type 1} → statement M

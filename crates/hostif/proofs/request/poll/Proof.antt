@@ -1,10 +1,9 @@
 -- `poll` meets its contract.
-use Rattle.hardware.specs.Change.{accessUpdate, change, restUpdate, updateNext}
+use Rattle.hardware.specs.Change.{accessUpdate, change, restUpdate}
 use Rattle.hardware.specs.Poll.{pollNext, validPollNext}
-use Rattle.hardware.specs.Prog.{_>>=_, erase, followed, going, orErr, pick}
-use Rattle.hardware.specs.Registers.{byte, flag, outcome, word}
+use Rattle.hardware.specs.Prog.{_>>=_, followed, going}
 use Rattle.hardware.specs.Runs.{given}
-use Rattle.hostif.specs.Hostif.{accessRequest, completed, enabled, hicrRead, polling, request, requestNext, restRequest, start, validRequest, validRequestNext, words}
+use Rattle.hostif.specs.Hostif.{accessRequest, enabled, hicrRead, request, requestNext, restRequest, start, validRequest, validRequestNext, words}
 use borrow.Author.Needs.{needs}
 use Rattle.hostif.proofs.request.poll.Statement.{statement}
 use Rattle.hostif.proofs.request.poll.Tie as tie
@@ -19,11 +18,11 @@ complete-requires : tie.Need-complete-requires
 complete-requires c κs = search needs
 
 returns : tie.Need-returns
-unfolding requestNext accessRequest restRequest pollNext updateNext validRequestNext validRequest validPollNext
+unfolding requestNext accessRequest restRequest pollNext validRequestNext validRequest validPollNext
 returns c = (λ l. rw (c .before .n .given .1) (going _ _ _), λ m h. rw (c .before .n .given .1) at h)
 
 returns-2 : tie.Need-returns-2
-unfolding requestNext accessRequest restRequest pollNext updateNext followed _>>=_ erase orErr pick word outcome byte flag completed polling start enabled hicrRead request change accessUpdate restUpdate validRequest words
+unfolding pollNext followed _>>=_ start enabled hicrRead request change accessUpdate restUpdate validRequest words
 returns-2 c = (λ l. rw (c .before .before .n2 .given .1) (c .complete .ensures .0 l), λ m h. c .complete .ensures .1 m)
 
 pub poll-spec : {M : Type 1} → statement M

@@ -1,10 +1,10 @@
 -- `started` meets its contract.
-use Rattle.hardware.specs.Change.{accessUpdate, change, restUpdate, updateNext}
-use Rattle.hardware.specs.Poll.{poll, pollNext}
-use Rattle.hardware.specs.Prog.{_>>=_, erase, followed, orErr, over, pick}
-use Rattle.hardware.specs.Registers.{byte, flag, outcome, word}
+use Rattle.hardware.specs.Change.{accessUpdate, change, restUpdate}
+use Rattle.hardware.specs.Poll.{poll}
+use Rattle.hardware.specs.Prog.{erase, orErr, over}
+use Rattle.hardware.specs.Registers.{outcome, word}
 use Rattle.hardware.specs.Runs.{given}
-use Rattle.hostif.specs.Hostif.{POLLS, accessRequest, completed, enabled, hicrRead, polling, request, requestNext, restRequest, start, validRequest, validRequestNext, words}
+use Rattle.hostif.specs.Hostif.{POLLS, enabled, hicrRead, polling, request, requestNext, start, validRequest, validRequestNext, words}
 use borrow.Author.Needs.{needs}
 use mathlib.Core.Path.{refl}
 use native.Mathlib.Omega.{arith}
@@ -31,7 +31,7 @@ unfolding outcome orErr polling
 returns c = (λ l. rw (c .before .before .before .enum-told .given .1) (over _ _ (c .poll .ensures .0 l) (rw (c .before .before .watch .ensures) at (c .before .«open» .ensures .0))), λ m. c .poll .ensures .1 m (c .before .«open» .ensures .1 POLLS (omega arith)))
 
 returns-2 : tie.Need-returns-2
-unfolding requestNext accessRequest restRequest pollNext updateNext followed _>>=_ erase orErr pick word outcome byte flag completed polling start enabled hicrRead request change accessUpdate restUpdate validRequest words validRequestNext
+unfolding requestNext erase orErr word outcome start enabled hicrRead request change accessUpdate restUpdate validRequest words validRequestNext
 returns-2 c = (λ l. rw (c .before .o .given .1), λ m. refl)
 
 pub started-spec : {M : Type 1} → statement M

@@ -3,7 +3,7 @@ use Rattle.hardware.specs.Poll.{poll}
 use Rattle.hardware.specs.Prog.{fed, over}
 use Rattle.hardware.specs.Registers.{read, write, written}
 use Rattle.hardware.specs.Runs.{given}
-use Rattle.hostif.specs.Hostif.{POLLS, hicrRead, polling, request, restRequest, validRequest}
+use Rattle.hostif.specs.Hostif.{POLLS, restRequest, validRequest}
 use borrow.Author.Needs.{needs}
 use Rattle.hostif.proofs.request.step.Statement.{statement}
 use Rattle.hostif.proofs.request.step.Tie as tie
@@ -60,23 +60,23 @@ poll-requires : tie.Need-poll-requires
 poll-requires c κs = search needs
 
 returns : tie.Need-returns
-unfolding restRequest request hicrRead polling
+unfolding restRequest
 returns c = (λ l h. rw (c .before .before .before .before .s .given .1) (over _ _ (c .fwsts .ensures .0 l) (rw (c .before .before .fwri .ensures) at (c .before .step .ensures))), λ v. c .fwsts .ensures .1 _)
 
 returns-2 : tie.Need-returns-2
-unfolding restRequest request hicrRead polling
+unfolding restRequest
 returns-2 c = (λ l h. rw (c .before .before .enum-told .given .1) (fed _ (c .hicr .ensures .0 l h) (c .before .read .ensures)), λ v. c .hicr .ensures .1)
 
 returns-3 : tie.Need-returns-3
-unfolding restRequest request hicrRead polling
+unfolding restRequest
 returns-3 c = (λ l h. rw (c .before .before .before .s2 .given .1) (fed _ (c .written .ensures .0 l h) (c .before .write .ensures)), λ v. c .written .ensures .1)
 
 returns-4 : tie.Need-returns-4
-unfolding restRequest request hicrRead polling
+unfolding restRequest
 returns-4 c = (λ l h. rw (c .before .before .before .s3 .given .1) (fed _ (c .started .ensures .0 l) (c .before .write2 .ensures)), λ v. c .started .ensures .1 _)
 
 returns-5 : tie.Need-returns-5
-unfolding restRequest request hicrRead polling validRequest
+unfolding restRequest validRequest
 returns-5 c = (λ l h. rw (c .before .before .before .before .s4 .given .1) (over _ _ (c .poll .ensures .0 l) (rw (c .before .before .watch .ensures) at (c .before .step2 .ensures .0))), λ v. c .poll .ensures .1 _ (c .before .step2 .ensures .1 POLLS (rw (c .before .before .before .before .s4 .given .1) at v)))
 
 pub step-spec : {M : Type 1} → statement M

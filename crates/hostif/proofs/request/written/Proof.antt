@@ -1,11 +1,10 @@
 -- `written` meets its contract.
-use Rattle.hardware.specs.Change.{accessUpdate, change, restUpdate, updateNext}
-use Rattle.hardware.specs.Poll.{pollNext}
-use Rattle.hardware.specs.Prog.{_>>=_, erase, followed, orErr, pick}
-use Rattle.hardware.specs.Registers.{byte, flag, outcome, word}
+use Rattle.hardware.specs.Change.{accessUpdate, change, restUpdate}
+use Rattle.hardware.specs.Prog.{erase, orErr}
+use Rattle.hardware.specs.Registers.{outcome, word}
 use Rattle.hardware.specs.Runs.{given}
 use Rattle.hostif.proofs.Laws.{words-at, words-none}
-use Rattle.hostif.specs.Hostif.{accessRequest, completed, enabled, hicrRead, polling, request, requestNext, restRequest, start, validRequest, validRequestNext, words}
+use Rattle.hostif.specs.Hostif.{enabled, hicrRead, request, requestNext, start, validRequest, validRequestNext, words}
 use Rattle.sync.specs.Resource.{taken}
 use borrow.Author.Needs.{needs}
 use borrow.Author.Tests.{lt-ltb}
@@ -35,7 +34,7 @@ unfolding outcome orErr validRequestNext validRequest
 returns-2 c = (λ l h. rw (c .before .enum-told .given .1) (words-none l _ _ (omega (arith, c .if1 .left))), refl)
 
 returns-3 : tie.Need-returns-3
-unfolding requestNext accessRequest restRequest pollNext updateNext followed _>>=_ erase orErr pick word outcome byte flag completed polling start enabled hicrRead request change accessUpdate restUpdate validRequest words validRequestNext
+unfolding requestNext erase orErr word outcome start enabled hicrRead request change accessUpdate restUpdate validRequest words validRequestNext
 returns-3 c = (λ l h. rw (c .before .o .given .1), refl)
 
 pub written-spec : {M : Type 1} → statement M

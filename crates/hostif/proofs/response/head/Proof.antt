@@ -1,9 +1,9 @@
 -- `head` meets its contract.
-use Rattle.hardware.specs.Prog.{_>>=_, erase, followed, orErr, pick}
-use Rattle.hardware.specs.Registers.{byte, flag, outcome, word}
+use Rattle.hardware.specs.Prog.{erase, pick}
+use Rattle.hardware.specs.Registers.{byte, word}
 use Rattle.hardware.specs.Runs.{given}
 use Rattle.hostif.proofs.Laws.{words-fit}
-use Rattle.hostif.specs.Hostif.{accessResponse, headSeen, lenOf, respond, responseNext, restResponse, statusOf, validResponse, validResponseNext, wordSeen, words, wordsOf}
+use Rattle.hostif.specs.Hostif.{headSeen, responseNext, statusOf, validResponse, validResponseNext, words, wordsOf}
 use Rattle.sync.specs.Resource.{taken}
 use borrow.Author.Needs.{needs}
 use borrow.Author.Tests.{le-ltb, lt-ltb}
@@ -51,7 +51,7 @@ unfolding word headSeen pick
 returns-2 c = (rw (c .before .before .before .before .before .before .before .before .before .w .given .1, le-ltb _ _ (rw (c .before .before .before .before .before .before .before .len .ensures) at (c .before .before .before .before .before .before .if1 .left)), ← c .before .words .ensures, ← c .before .before .before .before .store .ensures) (c .more .ensures .0 _), c .more .ensures .1 _ (omega (arith, c .before .words .ensures)) (words-fit _ _ (rw (c .before .before .before .before .before .before .before .len .ensures) at (c .before .before .before .before .before .before .if1 .left))))
 
 returns-3 : tie.Need-returns-3
-unfolding responseNext accessResponse restResponse followed _>>=_ erase orErr pick word outcome byte flag headSeen wordSeen respond lenOf statusOf wordsOf validResponse validResponseNext
+unfolding responseNext erase word byte headSeen statusOf wordsOf validResponse validResponseNext
 returns-3 c = (rw (c .before .w2 .given .1), refl)
 
 pub head-spec : {M : Type 1} → statement M

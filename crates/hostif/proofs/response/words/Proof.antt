@@ -1,7 +1,5 @@
 -- `words` meets its contract.
-use Rattle.hardware.specs.Prog.{_>>=_, erase, followed, orErr, pick}
-use Rattle.hardware.specs.Registers.{byte, flag, outcome, word}
-use Rattle.hostif.specs.Hostif.{accessResponse, headSeen, lenOf, respond, responseNext, restResponse, statusOf, validResponse, wordSeen, wordsOf}
+use Rattle.hostif.specs.Hostif.{lenOf, statusOf, validResponse, wordsOf}
 use borrow.Author.Needs.{needs}
 use native.Mathlib.Omega.{arith}
 use Rattle.hostif.proofs.response.words.Statement.{statement}
@@ -19,7 +17,7 @@ unfolding lenOf
 cast-result c = omega (arith, c .len .ensures)
 
 returns : tie.Need-returns
-unfolding responseNext accessResponse restResponse followed _>>=_ erase orErr pick word outcome byte flag headSeen wordSeen respond lenOf statusOf wordsOf validResponse
+unfolding statusOf wordsOf validResponse
 returns c = rw (← c .len .ensures)
 
 pub words-spec : {M : Type 1} → statement M

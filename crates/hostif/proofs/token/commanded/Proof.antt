@@ -1,8 +1,7 @@
 -- `commanded` meets its contract.
-use Rattle.hardware.specs.Prog.{_>>=_, erase, followed, going, orErr, pick}
-use Rattle.hardware.specs.Registers.{byte, flag, outcome, word}
+use Rattle.hardware.specs.Prog.{_>>=_, erase, followed, going}
 use Rattle.hardware.specs.Runs.{given}
-use Rattle.hostif.specs.Hostif.{accessToken, commandNext, header, restToken, tokenBlock, tokenNext, tokenSecond, tokenStatus, tokened, validCommandNext, validToken, validTokenNext}
+use Rattle.hostif.specs.Hostif.{accessToken, commandNext, header, restToken, tokenNext, tokened, validCommandNext, validToken, validTokenNext}
 use borrow.Author.Needs.{needs}
 use mathlib.Core.Path.{refl}
 use Rattle.hostif.proofs.token.commanded.Statement.{statement}
@@ -22,7 +21,7 @@ unfolding commandNext tokenNext accessToken restToken validTokenNext validToken 
 returns c = (rw (c .before .n .given .1) (going _ _ _), λ h. rw (c .before .n .given .1) at h)
 
 returns-2 : tie.Need-returns-2
-unfolding commandNext tokenNext accessToken restToken followed _>>=_ erase orErr pick word outcome byte flag tokenBlock tokenSecond tokenStatus tokened header validToken validTokenNext
+unfolding commandNext tokenNext followed _>>=_ erase tokened header validToken validTokenNext
 returns-2 c = (rw (c .before .before .n2 .given .1, ← c .status .ensures), λ h. refl)
 
 pub commanded-spec : {M : Type 1} → statement M

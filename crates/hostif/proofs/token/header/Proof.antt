@@ -1,7 +1,5 @@
 -- `header` meets its contract.
-use Rattle.hardware.specs.Prog.{_>>=_, erase, followed, orErr, pick}
-use Rattle.hardware.specs.Registers.{byte, flag, outcome, word}
-use Rattle.hostif.specs.Hostif.{accessToken, commandNext, header, restToken, tokenBlock, tokenNext, tokenSecond, tokenStatus, tokened, validToken}
+use Rattle.hostif.specs.Hostif.{header, tokened, validToken}
 use borrow.Author.Needs.{needs}
 use Rattle.hostif.proofs.token.header.Statement.{statement}
 use Rattle.hostif.proofs.token.header.Tie as tie
@@ -16,7 +14,7 @@ add-result-2 : tie.Need-add-result-2
 add-result-2 c = search needs
 
 returns : tie.Need-returns
-unfolding commandNext tokenNext accessToken restToken followed _>>=_ erase orErr pick word outcome byte flag tokenBlock tokenSecond tokenStatus tokened header validToken
+unfolding tokened header validToken
 returns c = cc
 
 pub header-spec : {M : Type 1} → statement M

@@ -1,8 +1,8 @@
 -- `status` meets its contract.
-use Rattle.hardware.specs.Prog.{_>>=_, erase, followed, orErr, pick}
-use Rattle.hardware.specs.Registers.{byte, flag, outcome, word}
+use Rattle.hardware.specs.Prog.{pick}
+use Rattle.hardware.specs.Registers.{byte, flag}
 use Rattle.hardware.specs.Runs.{given}
-use Rattle.hostif.specs.Hostif.{accessToken, commandNext, header, restToken, tokenBlock, tokenNext, tokenSecond, tokenStatus, tokened, validToken}
+use Rattle.hostif.specs.Hostif.{header, tokenStatus, tokened, validToken}
 use borrow.Author.Needs.{needs}
 use borrow.Author.Tests.{ne-eqb}
 use Rattle.hostif.proofs.token.status.Statement.{statement}
@@ -12,26 +12,26 @@ enum-known-s : tie.Need-enum-known-s
 enum-known-s c = search needs
 
 returns : tie.Need-returns
-unfolding commandNext tokenNext accessToken restToken followed _>>=_ erase orErr pick word outcome byte flag tokenBlock tokenSecond tokenStatus tokened header validToken
+unfolding pick byte flag tokenStatus tokened header validToken
 returns c = cc
 
 returns-2 : tie.Need-returns-2
-unfolding commandNext tokenNext accessToken restToken followed _>>=_ erase orErr pick word outcome byte flag tokenBlock tokenSecond tokenStatus tokened header validToken
+unfolding pick byte flag tokenStatus tokened header validToken
 returns-2 c = cc
 
 enum-known-s-2 : tie.Need-enum-known-s-2
 enum-known-s-2 c = search needs
 
 returns-3 : tie.Need-returns-3
-unfolding commandNext tokenNext accessToken restToken followed _>>=_ erase orErr pick word outcome byte flag tokenBlock tokenSecond tokenStatus tokened header validToken
+unfolding pick byte flag tokenStatus tokened header validToken
 returns-3 c = cc
 
 returns-4 : tie.Need-returns-4
-unfolding commandNext tokenNext accessToken restToken followed _>>=_ erase orErr pick word outcome byte flag tokenBlock tokenSecond tokenStatus tokened header validToken
+unfolding pick byte flag tokenStatus tokened header validToken
 returns-4 c = rw (c .before .before .before .s .given .1) (simp (ne-eqb _ _ (c .before .if1 .left), ne-eqb _ _ (c .if2 .left)))
 
 returns-5 : tie.Need-returns-5
-unfolding commandNext tokenNext accessToken restToken followed _>>=_ erase orErr pick word outcome byte flag tokenBlock tokenSecond tokenStatus tokened header validToken
+unfolding byte flag tokenStatus tokened header validToken
 returns-5 c = rw (c .before .s2 .given .1)
 
 pub status-spec : {M : Type 1} → statement M

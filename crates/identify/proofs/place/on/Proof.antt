@@ -83,8 +83,8 @@ after-length-requires c κs = search needs
 enum-known-p-11 : tie.Need-enum-known-p-11
 enum-known-p-11 c = search needs
 
-after-vendor-requires : tie.Need-after-vendor-requires
-after-vendor-requires c κs = search needs
+after-technology-requires : tie.Need-after-technology-requires
+after-technology-requires c κs = search needs
 
 returns : tie.Need-returns
 returns c = rw (c .before .before .p .given .1) (c .after-identifier .ensures)
@@ -138,7 +138,7 @@ unfolding capAt
 returns-13 c = rw (c .before .before .p10 .given .1) (c .after-length .ensures .0, λ h. c .after-length .ensures .1)
 
 returns-14 : tie.Need-returns-14
-returns-14 c = rw (c .before .before .p11 .given .1) (c .after-vendor .ensures .0, λ h. c .after-vendor .ensures .1 _)
+returns-14 c = rw (c .before .before .p11 .given .1) (c .after-technology .ensures .0, λ h. c .after-technology .ensures .1 _)
 
 pub on-spec : {M : Type 1} → statement M
 on-spec =
@@ -169,7 +169,7 @@ on-spec =
     enum-known-p-10
     after-length-requires
     enum-known-p-11
-    after-vendor-requires
+    after-technology-requires
     returns
     returns-2
     returns-3

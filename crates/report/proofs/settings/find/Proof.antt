@@ -23,7 +23,7 @@ shared-slice-read-if1 : tie.Need-shared-slice-read-if1 Inv-loop μ-loop
 shared-slice-read-if1 c = search needs
 
 returns : tie.Need-returns Inv-loop μ-loop
-returns c = omega (arith, place-found (c .before .before .before .before .args .b) (c .before .before .before .before .args .text .now) (c .before .before .before .loop .i) (omega arith) (c .if1 .taken))
+returns c = (omega (arith, place-found (c .before .before .before .before .args .b) (c .before .before .before .before .args .text .now) (c .before .before .before .loop .i) (omega arith) (c .if1 .taken)), omega arith)
 
 add-i : tie.Need-add-i Inv-loop μ-loop
 add-i c = search needs
@@ -35,7 +35,7 @@ loop-again : tie.Need-loop-again Inv-loop μ-loop
 loop-again c = (omega arith, place-next (c .before .before .before .before .args .b) (c .before .before .before .before .args .text .now) (c .before .before .before .loop .i) (omega arith) (c .if1 .left) ∙ c .before .before .before .loop .inv .1)
 
 returns-2 : tie.Need-returns-2 Inv-loop μ-loop
-returns-2 c = omega (arith, place-end (c .before .before .args .b) (c .before .before .args .text .now) (c .before .loop .i) (omega arith))
+returns-2 c = (omega (arith, place-end (c .before .before .args .b) (c .before .before .args .text .now) (c .before .loop .i) (omega arith)), omega arith)
 
 pub find-spec : {M : Type 1} → statement M
 find-spec =

@@ -8,6 +8,9 @@ use Rattle.report.proofs.settings.word.Tie as tie
 find-requires : tie.Need-find-requires
 find-requires c κs = search needs
 
+find-requires-2 : tie.Need-find-requires-2
+find-requires-2 c κs = search needs
+
 add-rest : tie.Need-add-rest
 add-rest c = search needs
 
@@ -40,6 +43,7 @@ word-spec =
     tie.close
     (tie.spec
     find-requires
+    find-requires-2
     add-rest
     slice-aggregate-setting
     sub-setting

@@ -1,10 +1,9 @@
 -- `mux` meets its contract.
-use Rattle.hardware.specs.Change.{accessUpdate, change, restUpdate, updateNext}
-use Rattle.hardware.specs.Prog.{_>>=_, erase, followed, orErr, pick}
-use Rattle.hardware.specs.Registers.{outcome, word}
-use Rattle.sync.specs.Lock.{lockNext, unlockNext}
+use Rattle.hardware.specs.Change.{accessUpdate, change, restUpdate}
+use Rattle.hardware.specs.Prog.{_>>=_, erase, pick}
+use Rattle.hardware.specs.Registers.{outcome}
 use Rattle.sync.specs.Regs.{mux}
-use Rattle.sync.specs.Resource.{accessAcquireBits, accessAcquireStage, acquireBitsNext, against, free, muxed, restAcquireBits, restAcquireStage, syncSeen, taken, tryAgain, tryRead, validAcquireBits, validAcquireBitsNext, validAcquireStage}
+use Rattle.sync.specs.Resource.{accessAcquireBits, accessAcquireStage, acquireBitsNext, muxed, restAcquireBits, restAcquireStage, taken, validAcquireBits, validAcquireBitsNext, validAcquireStage}
 use borrow.Author.Needs.{needs}
 use borrow.Author.Tests.{lt-ltb}
 use mathlib.Core.Path.{refl}
@@ -15,11 +14,11 @@ mux-requires : tie.Need-mux-requires
 mux-requires c κs = search needs
 
 returns : tie.Need-returns
-unfolding acquireBitsNext accessAcquireBits accessAcquireStage restAcquireBits restAcquireStage lockNext unlockNext updateNext followed _>>=_ erase orErr pick word outcome taken free muxed syncSeen tryRead tryAgain against change accessUpdate restUpdate validAcquireStage validAcquireBits validAcquireBitsNext
+unfolding acquireBitsNext accessAcquireBits accessAcquireStage restAcquireBits restAcquireStage _>>=_ erase pick muxed change accessUpdate restUpdate validAcquireStage validAcquireBits validAcquireBitsNext
 returns c = (rw (← c .before .mux .ensures, c .if1 .taken), λ h. rw (lt-ltb _ _ h))
 
 returns-2 : tie.Need-returns-2
-unfolding acquireBitsNext accessAcquireBits accessAcquireStage restAcquireBits restAcquireStage lockNext unlockNext updateNext followed _>>=_ erase orErr pick word outcome taken free muxed syncSeen tryRead tryAgain against change accessUpdate restUpdate validAcquireStage validAcquireBits validAcquireBitsNext
+unfolding acquireBitsNext erase pick outcome muxed accessUpdate restUpdate validAcquireStage validAcquireBits validAcquireBitsNext
 returns-2 c = (rw (← c .before .mux .ensures, c .if1 .left), λ h. refl)
 
 pub mux-spec : {M : Type 1} → statement M

@@ -1,10 +1,8 @@
 -- `muxing` meets its contract.
-use Rattle.hardware.specs.Change.{accessUpdate, change, restUpdate, updateNext}
-use Rattle.hardware.specs.Prog.{_>>=_, erase, followed, orErr, pick}
-use Rattle.hardware.specs.Registers.{outcome, word}
+use Rattle.hardware.specs.Change.{accessUpdate, restUpdate, updateNext}
+use Rattle.hardware.specs.Prog.{pick}
 use Rattle.hardware.specs.Runs.{given}
-use Rattle.sync.specs.Lock.{lockNext, unlockNext}
-use Rattle.sync.specs.Resource.{accessAcquireBits, accessAcquireStage, acquireBitsNext, against, free, muxed, restAcquireBits, restAcquireStage, syncSeen, taken, tryAgain, tryRead, validAcquireBits, validAcquireBitsNext, validAcquireStage}
+use Rattle.sync.specs.Resource.{accessAcquireBits, accessAcquireStage, acquireBitsNext, restAcquireBits, restAcquireStage, validAcquireBits, validAcquireBitsNext, validAcquireStage}
 use borrow.Author.Needs.{needs}
 use borrow.Author.Tests.{lt-ltb}
 use mathlib.Core.Path.{refl}
@@ -18,11 +16,11 @@ enum-known-n-2 : tie.Need-enum-known-n-2
 enum-known-n-2 c = search needs
 
 returns : tie.Need-returns
-unfolding acquireBitsNext accessAcquireBits accessAcquireStage restAcquireBits restAcquireStage lockNext unlockNext updateNext followed _>>=_ erase orErr pick word outcome taken free muxed syncSeen tryRead tryAgain against change accessUpdate restUpdate validAcquireStage validAcquireBits validAcquireBitsNext
+unfolding acquireBitsNext accessAcquireBits accessAcquireStage restAcquireBits restAcquireStage updateNext pick accessUpdate restUpdate validAcquireStage validAcquireBits validAcquireBitsNext
 returns c = (rw (c .before .n .given .1), λ h. rw (lt-ltb _ _ h))
 
 returns-2 : tie.Need-returns-2
-unfolding acquireBitsNext accessAcquireBits accessAcquireStage restAcquireBits restAcquireStage lockNext unlockNext updateNext followed _>>=_ erase orErr pick word outcome taken free muxed syncSeen tryRead tryAgain against change accessUpdate restUpdate validAcquireStage validAcquireBits validAcquireBitsNext
+unfolding acquireBitsNext updateNext accessUpdate restUpdate validAcquireStage validAcquireBits validAcquireBitsNext
 returns-2 c = (rw (c .before .n2 .given .1), λ h. refl)
 
 pub muxing-spec : {M : Type 1} → statement M

@@ -1,10 +1,10 @@
 -- `unlocking` meets its contract.
-use Rattle.hardware.specs.Change.{accessUpdate, change, restUpdate, updateNext}
+use Rattle.hardware.specs.Change.{accessUpdate, restUpdate}
 use Rattle.hardware.specs.Prog.{_>>=_, erase, followed, going, orErr, pick}
-use Rattle.hardware.specs.Registers.{outcome, word}
+use Rattle.hardware.specs.Registers.{outcome}
 use Rattle.hardware.specs.Runs.{given}
-use Rattle.sync.specs.Lock.{lockNext, unlockNext}
-use Rattle.sync.specs.Resource.{accessAcquireBits, accessAcquireStage, acquireBitsNext, against, free, muxed, restAcquireBits, restAcquireStage, syncSeen, taken, tryAgain, tryRead, validAcquireBits, validAcquireBitsNext, validAcquireStage}
+use Rattle.sync.specs.Lock.{unlockNext}
+use Rattle.sync.specs.Resource.{accessAcquireBits, accessAcquireStage, acquireBitsNext, restAcquireBits, restAcquireStage, tryAgain, validAcquireBits, validAcquireBitsNext, validAcquireStage}
 use borrow.Author.Needs.{needs}
 use borrow.Author.Tests.{lt-ltb}
 use mathlib.Core.Path.{refl}
@@ -24,15 +24,15 @@ enum-known-o : tie.Need-enum-known-o
 enum-known-o c = search needs
 
 returns : tie.Need-returns
-unfolding acquireBitsNext accessAcquireBits accessAcquireStage restAcquireBits restAcquireStage lockNext unlockNext updateNext validAcquireBitsNext validAcquireBits validAcquireStage pick
+unfolding acquireBitsNext accessAcquireBits accessAcquireStage restAcquireBits restAcquireStage unlockNext validAcquireBitsNext validAcquireBits validAcquireStage pick
 returns c = (rw (c .before .n .given .1) (going _ _ _), λ h. rw (lt-ltb _ _ h))
 
 returns-2 : tie.Need-returns-2
-unfolding acquireBitsNext accessAcquireBits accessAcquireStage restAcquireBits restAcquireStage lockNext unlockNext updateNext followed _>>=_ erase orErr pick word outcome taken free muxed syncSeen tryRead tryAgain against change accessUpdate restUpdate validAcquireStage validAcquireBits validAcquireBitsNext
+unfolding acquireBitsNext accessAcquireBits accessAcquireStage restAcquireBits restAcquireStage unlockNext followed _>>=_ erase orErr pick outcome tryAgain accessUpdate restUpdate validAcquireStage validAcquireBits validAcquireBitsNext
 returns-2 c = (rw (c .before .before .before .n2 .given .1, c .enum-told .given .1), λ h. rw (lt-ltb _ _ h))
 
 returns-3 : tie.Need-returns-3
-unfolding acquireBitsNext accessAcquireBits accessAcquireStage restAcquireBits restAcquireStage lockNext unlockNext updateNext followed _>>=_ erase orErr pick word outcome taken free muxed syncSeen tryRead tryAgain against change accessUpdate restUpdate validAcquireStage validAcquireBits validAcquireBitsNext
+unfolding acquireBitsNext unlockNext followed _>>=_ erase orErr outcome accessUpdate restUpdate validAcquireStage validAcquireBits validAcquireBitsNext
 returns-3 c = (rw (c .before .before .before .before .n2 .given .1, c .before .o .given .1), λ h. refl)
 
 pub unlocking-spec : {M : Type 1} → statement M

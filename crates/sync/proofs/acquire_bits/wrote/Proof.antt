@@ -1,11 +1,10 @@
 -- `wrote` meets its contract.
-use Rattle.hardware.specs.Change.{accessUpdate, change, restUpdate, updateNext}
-use Rattle.hardware.specs.Prog.{_>>=_, erase, followed, orErr, pick}
-use Rattle.hardware.specs.Registers.{outcome, word}
+use Rattle.hardware.specs.Change.{accessUpdate, restUpdate}
+use Rattle.hardware.specs.Prog.{erase, orErr}
+use Rattle.hardware.specs.Registers.{outcome}
 use Rattle.hardware.specs.Runs.{given}
-use Rattle.sync.specs.Lock.{lockNext, unlockNext}
 use Rattle.sync.specs.Regs.{mux}
-use Rattle.sync.specs.Resource.{accessAcquireBits, accessAcquireStage, acquireBitsNext, against, free, muxed, restAcquireBits, restAcquireStage, syncSeen, taken, tryAgain, tryRead, validAcquireBits, validAcquireBitsNext, validAcquireStage}
+use Rattle.sync.specs.Resource.{acquireBitsNext, taken, validAcquireBits, validAcquireBitsNext, validAcquireStage}
 use borrow.Author.Needs.{needs}
 use mathlib.Core.Path.{refl}
 use Rattle.sync.proofs.acquire_bits.wrote.Statement.{statement}
@@ -21,11 +20,11 @@ enum-known-w : tie.Need-enum-known-w
 enum-known-w c = search needs
 
 returns : tie.Need-returns
-unfolding acquireBitsNext accessAcquireBits accessAcquireStage restAcquireBits restAcquireStage lockNext unlockNext updateNext followed _>>=_ erase orErr pick word outcome taken free muxed syncSeen tryRead tryAgain against change accessUpdate restUpdate validAcquireStage validAcquireBits
+unfolding orErr outcome taken accessUpdate restUpdate validAcquireStage validAcquireBits
 returns c = (rw (c .before .enum-told .given .1) (c .mux .ensures .0), c .mux .ensures .1)
 
 returns-2 : tie.Need-returns-2
-unfolding acquireBitsNext accessAcquireBits accessAcquireStage restAcquireBits restAcquireStage lockNext unlockNext updateNext followed _>>=_ erase orErr pick word outcome taken free muxed syncSeen tryRead tryAgain against change accessUpdate restUpdate validAcquireStage validAcquireBits validAcquireBitsNext
+unfolding acquireBitsNext erase orErr outcome taken accessUpdate restUpdate validAcquireStage validAcquireBits validAcquireBitsNext
 returns-2 c = (rw (c .before .w .given .1), λ h. refl)
 
 pub wrote-spec : {M : Type 1} → statement M

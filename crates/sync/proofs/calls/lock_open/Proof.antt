@@ -1,8 +1,7 @@
 -- `lock_open` meets its contract.
-use Rattle.hardware.specs.Asked.{andThen, familyOpened, question, yes}
+use Rattle.hardware.specs.Asked.{andThen, familyOpened, yes}
 use Rattle.hardware.specs.Runs.{given}
-use Rattle.sync.specs.Calls.{openLock, openUnlock, saidLock, saidUnlock, standsLock, stepLock, stepUnlock}
-use Rattle.sync.specs.Lock.{lockNext, unlockNext}
+use Rattle.sync.specs.Calls.{openLock, saidLock, standsLock}
 use borrow.Author.Needs.{needs}
 use mathlib.Core.Path.{_∙_, ap}
 use Rattle.sync.proofs.calls.lock_open.Statement.{statement}
@@ -24,11 +23,11 @@ enum-known-q : tie.Need-enum-known-q
 enum-known-q c = search needs
 
 returns : tie.Need-returns
-unfolding saidLock saidUnlock stepLock stepUnlock openLock openUnlock lockNext unlockNext question andThen familyOpened
+unfolding openLock andThen familyOpened
 returns c = (rw (← c .before .before .before .before .before .open-family .ensures, c .before .before .before .f .given .1) (c .lock-told .ensures .0 ∙ ap yes (c .before .«open» .ensures .0)), c .lock-told .ensures .1 (c .before .«open» .ensures .1))
 
 returns-2 : tie.Need-returns-2
-unfolding saidLock saidUnlock stepLock stepUnlock openLock openUnlock lockNext unlockNext question andThen familyOpened standsLock
+unfolding saidLock openLock andThen familyOpened standsLock
 returns-2 c = (rw (← c .before .before .before .open-family .ensures, c .before .q .given .1), tt)
 
 pub lock-open-spec : {M : Type 1} → statement M

@@ -1,8 +1,7 @@
 -- `lock_step` meets its contract.
-use Rattle.hardware.specs.Asked.{andThen, familyOpened, question, yes}
+use Rattle.hardware.specs.Asked.{question, yes}
 use Rattle.hardware.specs.Runs.{given}
-use Rattle.sync.specs.Calls.{openLock, openUnlock, saidLock, saidUnlock, standsLock, stepLock, stepUnlock}
-use Rattle.sync.specs.Lock.{lockNext, unlockNext}
+use Rattle.sync.specs.Calls.{saidLock, standsLock, stepLock}
 use Rattle.sync.specs.Resource.{taken}
 use borrow.Author.Needs.{needs}
 use mathlib.Core.Path.{_∙_, ap, sym}
@@ -39,11 +38,11 @@ enum-told : tie.Need-enum-told
 enum-told c = search needs
 
 returns-3 : tie.Need-returns-3
-unfolding saidLock saidUnlock stepLock stepUnlock openLock openUnlock lockNext unlockNext question andThen familyOpened standsLock
+unfolding saidLock stepLock question standsLock
 returns-3 c = (rw (c .before .before .before .s .given .1, ← c .before .valid .ensures, c .if1 .left), tt)
 
 returns-4 : tie.Need-returns-4
-unfolding saidLock saidUnlock stepLock stepUnlock openLock openUnlock lockNext unlockNext question andThen familyOpened standsLock
+unfolding saidLock stepLock standsLock
 returns-4 c = (rw (c .enum-told .given .1), tt)
 
 pub lock-step-spec : {M : Type 1} → statement M

@@ -1,8 +1,7 @@
 -- `lock_told` meets its contract.
-use Rattle.hardware.specs.Asked.{andThen, familyOpened, question}
 use Rattle.hardware.specs.Runs.{given}
-use Rattle.sync.specs.Calls.{openLock, openUnlock, saidLock, saidUnlock, standsLock, stepLock, stepUnlock}
-use Rattle.sync.specs.Lock.{lockNext, unlockNext, validLockNext}
+use Rattle.sync.specs.Calls.{saidLock, standsLock}
+use Rattle.sync.specs.Lock.{lockNext, validLockNext}
 use borrow.Author.Needs.{needs}
 use Rattle.sync.proofs.calls.lock_told.Statement.{statement}
 use Rattle.sync.proofs.calls.lock_told.Tie as tie
@@ -17,11 +16,11 @@ enum-known-n-2 : tie.Need-enum-known-n-2
 enum-known-n-2 c = search needs
 
 returns : tie.Need-returns
-unfolding saidLock saidUnlock stepLock stepUnlock openLock openUnlock lockNext unlockNext question andThen familyOpened standsLock validLockNext
+unfolding saidLock lockNext standsLock validLockNext
 returns c = (rw (c .before .before .n .given .1, ← c .access .ensures), λ h. (c .access .ensures, rw (c .before .before .n .given .1) at h))
 
 returns-2 : tie.Need-returns-2
-unfolding saidLock saidUnlock stepLock stepUnlock openLock openUnlock lockNext unlockNext question andThen familyOpened standsLock
+unfolding saidLock lockNext standsLock
 returns-2 c = (rw (c .before .n2 .given .1), λ h. tt)
 
 pub lock-told-spec : {M : Type 1} → statement M

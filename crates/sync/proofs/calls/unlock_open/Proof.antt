@@ -1,8 +1,7 @@
 -- `unlock_open` meets its contract.
-use Rattle.hardware.specs.Asked.{andThen, familyOpened, question, yes}
+use Rattle.hardware.specs.Asked.{andThen, familyOpened, yes}
 use Rattle.hardware.specs.Runs.{given}
-use Rattle.sync.specs.Calls.{openLock, openUnlock, saidLock, saidUnlock, standsUnlock, stepLock, stepUnlock}
-use Rattle.sync.specs.Lock.{lockNext, unlockNext}
+use Rattle.sync.specs.Calls.{openUnlock, saidUnlock, standsUnlock}
 use borrow.Author.Needs.{needs}
 use mathlib.Core.Path.{_∙_, ap}
 use Rattle.sync.proofs.calls.unlock_open.Statement.{statement}
@@ -24,11 +23,11 @@ enum-known-q : tie.Need-enum-known-q
 enum-known-q c = search needs
 
 returns : tie.Need-returns
-unfolding saidLock saidUnlock stepLock stepUnlock openLock openUnlock lockNext unlockNext question andThen familyOpened
+unfolding openUnlock andThen familyOpened
 returns c = (rw (← c .before .before .before .before .before .open-family .ensures, c .before .before .before .f .given .1) (c .unlock-told .ensures .0 ∙ ap yes (c .before .«open» .ensures)), c .unlock-told .ensures .1)
 
 returns-2 : tie.Need-returns-2
-unfolding saidLock saidUnlock stepLock stepUnlock openLock openUnlock lockNext unlockNext question andThen familyOpened standsUnlock
+unfolding saidUnlock openUnlock andThen familyOpened standsUnlock
 returns-2 c = (rw (← c .before .before .before .open-family .ensures, c .before .q .given .1), tt)
 
 pub unlock-open-spec : {M : Type 1} → statement M

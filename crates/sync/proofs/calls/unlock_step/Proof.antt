@@ -1,8 +1,7 @@
 -- `unlock_step` meets its contract.
-use Rattle.hardware.specs.Asked.{andThen, familyOpened, question, yes}
+use Rattle.hardware.specs.Asked.{question, yes}
 use Rattle.hardware.specs.Runs.{given}
-use Rattle.sync.specs.Calls.{openLock, openUnlock, saidLock, saidUnlock, standsUnlock, stepLock, stepUnlock}
-use Rattle.sync.specs.Lock.{lockNext, unlockNext}
+use Rattle.sync.specs.Calls.{saidUnlock, standsUnlock, stepUnlock}
 use Rattle.sync.specs.Resource.{taken}
 use borrow.Author.Needs.{needs}
 use mathlib.Core.Path.{_∙_, ap}
@@ -36,7 +35,7 @@ unfolding stepUnlock saidUnlock question standsUnlock
 returns-2 c = (rw (c .before .before .before .before .s .given .1, ← c .before .before .access .ensures, ← c .before .awaited .ensures, c .if1 .left), tt)
 
 returns-3 : tie.Need-returns-3
-unfolding saidLock saidUnlock stepLock stepUnlock openLock openUnlock lockNext unlockNext question andThen familyOpened standsUnlock
+unfolding saidUnlock stepUnlock standsUnlock
 returns-3 c = (rw (c .enum-told .given .1), tt)
 
 pub unlock-step-spec : {M : Type 1} → statement M

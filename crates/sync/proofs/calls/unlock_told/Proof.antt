@@ -1,8 +1,7 @@
 -- `unlock_told` meets its contract.
-use Rattle.hardware.specs.Asked.{andThen, familyOpened, question}
 use Rattle.hardware.specs.Runs.{given}
-use Rattle.sync.specs.Calls.{openLock, openUnlock, saidLock, saidUnlock, standsUnlock, stepLock, stepUnlock}
-use Rattle.sync.specs.Lock.{lockNext, unlockNext}
+use Rattle.sync.specs.Calls.{saidUnlock, standsUnlock}
+use Rattle.sync.specs.Lock.{unlockNext}
 use borrow.Author.Needs.{needs}
 use Rattle.sync.proofs.calls.unlock_told.Statement.{statement}
 use Rattle.sync.proofs.calls.unlock_told.Tie as tie
@@ -17,11 +16,11 @@ enum-known-n-2 : tie.Need-enum-known-n-2
 enum-known-n-2 c = search needs
 
 returns : tie.Need-returns
-unfolding saidLock saidUnlock stepLock stepUnlock openLock openUnlock lockNext unlockNext question andThen familyOpened standsUnlock
+unfolding saidUnlock unlockNext standsUnlock
 returns c = (rw (c .before .before .n .given .1, ← c .access .ensures), c .access .ensures)
 
 returns-2 : tie.Need-returns-2
-unfolding saidLock saidUnlock stepLock stepUnlock openLock openUnlock lockNext unlockNext question andThen familyOpened standsUnlock
+unfolding saidUnlock unlockNext standsUnlock
 returns-2 c = (rw (c .before .n2 .given .1), tt)
 
 pub unlock-told-spec : {M : Type 1} → statement M

@@ -1,10 +1,9 @@
 -- `back` meets its contract.
-use Rattle.hardware.specs.Change.{change, updateNext}
-use Rattle.hardware.specs.Poll.{pollNext}
-use Rattle.hardware.specs.Prog.{_>>=_, erase, followed, going, orErr, pick}
-use Rattle.hardware.specs.Registers.{flag, outcome, word}
+use Rattle.hardware.specs.Change.{updateNext}
+use Rattle.hardware.specs.Prog.{_>>=_, erase, followed, going, orErr}
+use Rattle.hardware.specs.Registers.{outcome}
 use Rattle.hardware.specs.Runs.{given}
-use Rattle.sync.specs.Lock.{accessLock, lapsed, lock, lockNext, regsmpDone, restLock, second, smbiDone, swesmbiDone, swesmbiNext, validLock, validLockNext}
+use Rattle.sync.specs.Lock.{accessLock, lockNext, restLock, validLock, validLockNext}
 use borrow.Author.Needs.{needs}
 use mathlib.Core.Path.{refl}
 use Rattle.sync.proofs.lock.back.Statement.{statement}
@@ -27,11 +26,11 @@ unfolding lockNext accessLock restLock updateNext validLockNext validLock
 returns c = (rw (c .before .n .given .1) (going _ _ _), refl)
 
 returns-2 : tie.Need-returns-2
-unfolding swesmbiNext restLock accessLock lockNext lock second lapsed smbiDone swesmbiDone regsmpDone validLock followed _>>=_ erase orErr pick word outcome flag pollNext updateNext change validLockNext
+unfolding lockNext followed _>>=_ erase orErr outcome updateNext validLockNext
 returns-2 c = (rw (c .before .before .before .n2 .given .1, c .enum-told .given .1), refl)
 
 returns-3 : tie.Need-returns-3
-unfolding swesmbiNext restLock accessLock lockNext lock second lapsed smbiDone swesmbiDone regsmpDone validLock followed _>>=_ erase orErr pick word outcome flag pollNext updateNext change validLockNext
+unfolding lockNext followed _>>=_ erase orErr outcome updateNext validLockNext
 returns-3 c = (rw (c .before .before .before .before .n2 .given .1, c .before .o .given .1), refl)
 
 pub back-spec : {M : Type 1} → statement M

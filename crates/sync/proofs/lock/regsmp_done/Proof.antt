@@ -1,10 +1,8 @@
 -- `regsmp_done` meets its contract.
-use Rattle.hardware.specs.Change.{change, updateNext}
-use Rattle.hardware.specs.Poll.{pollNext}
-use Rattle.hardware.specs.Prog.{_>>=_, erase, followed, orErr, pick}
-use Rattle.hardware.specs.Registers.{flag, outcome, word}
+use Rattle.hardware.specs.Prog.{erase, orErr, pick}
+use Rattle.hardware.specs.Registers.{outcome, word}
 use Rattle.hardware.specs.Runs.{given}
-use Rattle.sync.specs.Lock.{accessLock, lapsed, lock, lockNext, regsmpDone, restLock, second, smbiDone, swesmbiDone, swesmbiNext, validLock, validLockNext}
+use Rattle.sync.specs.Lock.{lockNext, regsmpDone, validLockNext}
 use Rattle.sync.specs.Resource.{taken}
 use borrow.Author.Needs.{needs}
 use mathlib.Core.Path.{refl}
@@ -18,7 +16,7 @@ none-of-requires : tie.Need-none-of-requires
 none-of-requires c κs = search needs
 
 returns : tie.Need-returns
-unfolding swesmbiNext restLock accessLock lockNext lock second lapsed smbiDone swesmbiDone regsmpDone validLock followed _>>=_ erase orErr pick word outcome flag pollNext updateNext change validLockNext
+unfolding lockNext regsmpDone erase orErr pick word outcome validLockNext
 returns c = (rw (c .before .before .before .w .given .1, ← c .before .none-of .ensures, c .if1 .taken), refl)
 
 lapse-requires : tie.Need-lapse-requires
@@ -28,11 +26,11 @@ enum-known-w-2 : tie.Need-enum-known-w-2
 enum-known-w-2 c = search needs
 
 returns-2 : tie.Need-returns-2
-unfolding swesmbiNext restLock accessLock lockNext lock second lapsed smbiDone swesmbiDone regsmpDone validLock followed _>>=_ erase orErr pick word outcome flag pollNext updateNext change
+unfolding regsmpDone orErr pick word
 returns-2 c = (rw (c .before .before .before .before .w .given .1, ← c .before .before .none-of .ensures, c .before .if1 .left) (c .lapse .ensures .0), c .lapse .ensures .1)
 
 returns-3 : tie.Need-returns-3
-unfolding swesmbiNext restLock accessLock lockNext lock second lapsed smbiDone swesmbiDone regsmpDone validLock followed _>>=_ erase orErr pick word outcome flag pollNext updateNext change validLockNext
+unfolding lockNext erase orErr word outcome validLockNext
 returns-3 c = (rw (c .before .w2 .given .1), refl)
 
 pub regsmp-done-spec : {M : Type 1} → statement M

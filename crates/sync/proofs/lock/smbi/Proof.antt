@@ -1,10 +1,8 @@
 -- `smbi` meets its contract.
-use Rattle.hardware.specs.Change.{change, updateNext}
 use Rattle.hardware.specs.Poll.{pollNext, validPollNext}
-use Rattle.hardware.specs.Prog.{_>>=_, erase, followed, going, orErr, pick}
-use Rattle.hardware.specs.Registers.{flag, outcome, word}
+use Rattle.hardware.specs.Prog.{_>>=_, followed, going}
 use Rattle.hardware.specs.Runs.{given}
-use Rattle.sync.specs.Lock.{accessLock, lapsed, lock, lockNext, regsmpDone, restLock, second, smbiDone, swesmbiDone, swesmbiNext, validLock, validLockNext}
+use Rattle.sync.specs.Lock.{accessLock, lockNext, restLock, validLock, validLockNext}
 use borrow.Author.Needs.{needs}
 use Rattle.sync.proofs.lock.smbi.Statement.{statement}
 use Rattle.sync.proofs.lock.smbi.Tie as tie
@@ -19,11 +17,11 @@ smbi-done-requires : tie.Need-smbi-done-requires
 smbi-done-requires c κs = search needs
 
 returns : tie.Need-returns
-unfolding swesmbiNext restLock accessLock lockNext pollNext updateNext validLockNext validLock validPollNext
+unfolding restLock accessLock lockNext pollNext validLockNext validLock validPollNext
 returns c = (rw (c .before .n .given .1) (going _ _ _), λ h. rw (c .before .n .given .1) at h)
 
 returns-2 : tie.Need-returns-2
-unfolding swesmbiNext restLock accessLock lockNext lock second lapsed smbiDone swesmbiDone regsmpDone validLock followed _>>=_ erase orErr pick word outcome flag pollNext updateNext change
+unfolding followed _>>=_ pollNext
 returns-2 c = (rw (c .before .before .n2 .given .1) (c .smbi-done .ensures .0), λ h. c .smbi-done .ensures .1)
 
 pub smbi-spec : {M : Type 1} → statement M

@@ -57,11 +57,11 @@ unfolding restLock validLock
 returns c = (rw (c .before .before .before .before .s .given .1) (over _ _ (c .smbi2 .ensures .0) (rw (c .before .before .smbi .ensures) at (c .before .step .ensures .0))), λ h. c .smbi2 .ensures .1 (c .before .step .ensures .1 TRIES (rw (c .before .before .before .before .s .given .1) at h)))
 
 returns-2 : tie.Need-returns-2
-unfolding restLock lock second validLock
+unfolding restLock validLock
 returns-2 c = (rw (c .before .before .before .s2 .given .1) (over _ _ (c .swesmbi .ensures .0) (c .before .step2 .ensures .0)), λ h. c .swesmbi .ensures .1 (c .before .step2 .ensures .1 (rw (c .before .before .before .s2 .given .1) at h)))
 
 returns-3 : tie.Need-returns-3
-unfolding restLock lock second validLock
+unfolding restLock validLock
 returns-3 c = (rw (c .before .before .before .before .s3 .given .1) (over _ _ (c .regsmp2 .ensures .0) (rw (c .before .before .regsmp .ensures) at (c .before .step3 .ensures .0))), λ h. c .regsmp2 .ensures .1 (c .before .step3 .ensures .1 TRIES (rw (c .before .before .before .before .s3 .given .1) at h)))
 
 returns-4 : tie.Need-returns-4

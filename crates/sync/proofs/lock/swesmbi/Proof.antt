@@ -1,10 +1,7 @@
 -- `swesmbi` meets its contract.
-use Rattle.hardware.specs.Change.{change, updateNext}
-use Rattle.hardware.specs.Poll.{pollNext}
-use Rattle.hardware.specs.Prog.{_>>=_, erase, followed, going, orErr, pick}
-use Rattle.hardware.specs.Registers.{flag, outcome, word}
+use Rattle.hardware.specs.Prog.{_>>=_, followed, going}
 use Rattle.hardware.specs.Runs.{given}
-use Rattle.sync.specs.Lock.{accessLock, lapsed, lock, lockNext, regsmpDone, restLock, second, smbiDone, swesmbiDone, swesmbiNext, validLock, validLockNext, validSwesmbiNext}
+use Rattle.sync.specs.Lock.{accessLock, lockNext, restLock, swesmbiNext, validLock, validLockNext, validSwesmbiNext}
 use borrow.Author.Needs.{needs}
 use Rattle.sync.proofs.lock.swesmbi.Statement.{statement}
 use Rattle.sync.proofs.lock.swesmbi.Tie as tie
@@ -19,11 +16,11 @@ swesmbi-done-requires : tie.Need-swesmbi-done-requires
 swesmbi-done-requires c κs = search needs
 
 returns : tie.Need-returns
-unfolding swesmbiNext restLock accessLock lockNext pollNext updateNext validLockNext validLock validSwesmbiNext
+unfolding swesmbiNext restLock accessLock lockNext validLockNext validLock validSwesmbiNext
 returns c = (rw (c .before .n .given .1) (going _ _ _), λ h. rw (c .before .n .given .1) at h)
 
 returns-2 : tie.Need-returns-2
-unfolding swesmbiNext restLock accessLock lockNext lock second lapsed smbiDone swesmbiDone regsmpDone validLock followed _>>=_ erase orErr pick word outcome flag pollNext updateNext change
+unfolding swesmbiNext followed _>>=_
 returns-2 c = (rw (c .before .before .n2 .given .1) (c .swesmbi-done .ensures .0), λ h. c .swesmbi-done .ensures .1)
 
 pub swesmbi-spec : {M : Type 1} → statement M

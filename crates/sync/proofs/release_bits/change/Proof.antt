@@ -1,6 +1,6 @@
 -- `change` meets its contract.
 use Rattle.sync.specs.Regs.{bits}
-use Rattle.sync.specs.Resource.{accessReleaseBits, clearBits, cleared, releaseBits, restReleaseBits, unmuxed, validReleaseBits}
+use Rattle.sync.specs.Resource.{clearBits}
 use borrow.Author.Needs.{needs}
 use Rattle.sync.proofs.release_bits.change.Statement.{statement}
 use Rattle.sync.proofs.release_bits.change.Tie as tie
@@ -12,7 +12,7 @@ clear-sync-requires : tie.Need-clear-sync-requires
 clear-sync-requires c κs = search needs
 
 returns : tie.Need-returns
-unfolding restReleaseBits accessReleaseBits releaseBits unmuxed cleared validReleaseBits clearBits
+unfolding clearBits
 returns c = rw (← c .before .bits .ensures) (c .clear-sync .ensures)
 
 pub change-spec : {M : Type 1} → statement M

@@ -1,6 +1,6 @@
 -- `clear_done` meets its contract.
 use Rattle.hardware.specs.Prog.{over}
-use Rattle.sync.specs.Resource.{cleared, releaseBits, restReleaseBits, unmuxed}
+use Rattle.sync.specs.Resource.{cleared}
 use borrow.Author.Needs.{needs}
 use Rattle.sync.proofs.release_bits.clear_done.Statement.{statement}
 use Rattle.sync.proofs.release_bits.clear_done.Tie as tie
@@ -12,7 +12,7 @@ unlocking-requires : tie.Need-unlocking-requires
 unlocking-requires c κs = search needs
 
 returns : tie.Need-returns
-unfolding restReleaseBits releaseBits unmuxed cleared
+unfolding cleared
 returns c = (over _ _ (c .unlocking .ensures .0) (c .before .«open» .ensures), c .unlocking .ensures .1)
 
 pub clear-done-spec : {M : Type 1} → statement M

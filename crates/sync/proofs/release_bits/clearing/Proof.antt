@@ -1,10 +1,8 @@
 -- `clearing` meets its contract.
-use Rattle.hardware.specs.Change.{accessUpdate, change, restUpdate, updateNext}
-use Rattle.hardware.specs.Prog.{_>>=_, erase, followed, going, orErr, pick}
-use Rattle.hardware.specs.Registers.{outcome, word}
+use Rattle.hardware.specs.Change.{updateNext}
+use Rattle.hardware.specs.Prog.{_>>=_, followed, going}
 use Rattle.hardware.specs.Runs.{given}
-use Rattle.sync.specs.Lock.{lockNext, unlockNext}
-use Rattle.sync.specs.Resource.{accessReleaseBits, clearBits, cleared, clearing, muxed, releaseBits, releaseBitsNext, restReleaseBits, settle, unmuxed, validReleaseBits, validReleaseBitsNext}
+use Rattle.sync.specs.Resource.{accessReleaseBits, releaseBitsNext, restReleaseBits, validReleaseBits, validReleaseBitsNext}
 use borrow.Author.Needs.{needs}
 use mathlib.Core.Path.{refl}
 use Rattle.sync.proofs.release_bits.clearing.Statement.{statement}
@@ -20,11 +18,11 @@ clear-done-requires : tie.Need-clear-done-requires
 clear-done-requires c κs = search needs
 
 returns : tie.Need-returns
-unfolding releaseBitsNext accessReleaseBits restReleaseBits lockNext unlockNext updateNext validReleaseBitsNext validReleaseBits
+unfolding releaseBitsNext accessReleaseBits restReleaseBits updateNext validReleaseBitsNext validReleaseBits
 returns c = (rw (c .before .n .given .1) (going _ _ _), refl)
 
 returns-2 : tie.Need-returns-2
-unfolding releaseBitsNext accessReleaseBits restReleaseBits lockNext unlockNext updateNext followed _>>=_ erase orErr pick word outcome muxed settle cleared clearing clearBits unmuxed releaseBits change accessUpdate restUpdate validReleaseBits
+unfolding updateNext followed _>>=_ validReleaseBits
 returns-2 c = (rw (c .before .before .n2 .given .1) (c .clear-done .ensures .0), c .clear-done .ensures .1)
 
 pub clearing-spec : {M : Type 1} → statement M

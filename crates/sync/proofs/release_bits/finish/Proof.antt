@@ -1,10 +1,8 @@
 -- `finish` meets its contract.
-use Rattle.hardware.specs.Change.{accessUpdate, change, restUpdate, updateNext}
-use Rattle.hardware.specs.Prog.{_>>=_, erase, followed, orErr, pick}
-use Rattle.hardware.specs.Registers.{outcome, word}
+use Rattle.hardware.specs.Prog.{erase, orErr, pick}
+use Rattle.hardware.specs.Registers.{outcome}
 use Rattle.hardware.specs.Runs.{given}
-use Rattle.sync.specs.Lock.{lockNext, unlockNext}
-use Rattle.sync.specs.Resource.{accessReleaseBits, clearBits, cleared, clearing, muxed, releaseBits, releaseBitsNext, restReleaseBits, settle, taken, unmuxed, validReleaseBits, validReleaseBitsNext}
+use Rattle.sync.specs.Resource.{accessReleaseBits, releaseBitsNext, restReleaseBits, settle, taken, validReleaseBits, validReleaseBitsNext}
 use borrow.Author.Needs.{needs}
 use mathlib.Core.Path.{refl}
 use Rattle.sync.proofs.release_bits.finish.Statement.{statement}
@@ -17,18 +15,18 @@ same-requires : tie.Need-same-requires
 same-requires c κs = search needs
 
 returns : tie.Need-returns
-unfolding releaseBitsNext accessReleaseBits restReleaseBits lockNext unlockNext updateNext followed _>>=_ erase orErr pick word outcome muxed settle cleared clearing clearBits unmuxed releaseBits change accessUpdate restUpdate validReleaseBits validReleaseBitsNext
+unfolding releaseBitsNext erase orErr pick outcome settle validReleaseBits validReleaseBitsNext
 returns c = (rw (c .before .before .enum-told .given .1, ← c .before .same .ensures, c .if1 .taken), refl)
 
 enum-known-w : tie.Need-enum-known-w
 enum-known-w c = search needs
 
 returns-2 : tie.Need-returns-2
-unfolding releaseBitsNext accessReleaseBits restReleaseBits lockNext unlockNext updateNext followed _>>=_ erase orErr pick word outcome muxed settle cleared clearing clearBits unmuxed releaseBits change accessUpdate restUpdate validReleaseBits validReleaseBitsNext
+unfolding releaseBitsNext accessReleaseBits restReleaseBits erase orErr pick outcome settle validReleaseBits validReleaseBitsNext
 returns-2 c = (rw (c .before .before .enum-told .given .1, ← c .before .same .ensures, c .if1 .left), refl)
 
 returns-3 : tie.Need-returns-3
-unfolding releaseBitsNext accessReleaseBits restReleaseBits lockNext unlockNext updateNext followed _>>=_ erase orErr pick word outcome muxed settle cleared clearing clearBits unmuxed releaseBits change accessUpdate restUpdate validReleaseBits validReleaseBitsNext
+unfolding releaseBitsNext erase orErr outcome validReleaseBits validReleaseBitsNext
 returns-3 c = (rw (c .before .w .given .1), refl)
 
 pub finish-spec : {M : Type 1} → statement M

@@ -1,6 +1,6 @@
 -- `lock` meets its contract.
 use Rattle.hardware.specs.Prog.{over}
-use Rattle.sync.specs.Resource.{cleared, releaseBits, restReleaseBits, unmuxed}
+use Rattle.sync.specs.Resource.{unmuxed}
 use borrow.Author.Needs.{needs}
 use Rattle.sync.proofs.release_bits.lock.Statement.{statement}
 use Rattle.sync.proofs.release_bits.lock.Tie as tie
@@ -12,7 +12,7 @@ locking-requires : tie.Need-locking-requires
 locking-requires c κs = search needs
 
 returns : tie.Need-returns
-unfolding restReleaseBits releaseBits unmuxed cleared
+unfolding unmuxed
 returns c = (over _ _ (c .locking .ensures .0) (c .before .«open» .ensures .0), c .locking .ensures .1 (c .before .«open» .ensures .1))
 
 pub lock-spec : {M : Type 1} → statement M

@@ -1,10 +1,9 @@
 -- `open` meets its contract.
-use Rattle.hardware.specs.Change.{accessUpdate, change, restUpdate, updateNext}
-use Rattle.hardware.specs.Prog.{_>>=_, erase, followed, orErr, pick}
-use Rattle.hardware.specs.Registers.{outcome, word}
-use Rattle.sync.specs.Lock.{lock, lockNext, unlockNext}
+use Rattle.hardware.specs.Change.{accessUpdate, change, restUpdate}
+use Rattle.hardware.specs.Prog.{_>>=_, erase, orErr, pick}
+use Rattle.sync.specs.Lock.{lock}
 use Rattle.sync.specs.Regs.{mux}
-use Rattle.sync.specs.Resource.{accessReleaseBits, clearBits, cleared, clearing, muxed, releaseBits, releaseBitsNext, restReleaseBits, settle, taken, unmuxed, validReleaseBits, validReleaseBitsNext}
+use Rattle.sync.specs.Resource.{accessReleaseBits, muxed, releaseBits, releaseBitsNext, restReleaseBits, taken, validReleaseBits, validReleaseBitsNext}
 use borrow.Author.Needs.{needs}
 use mathlib.Core.Path.{refl}
 use Rattle.sync.proofs.release_bits.open.Statement.{statement}
@@ -14,14 +13,14 @@ mux-requires : tie.Need-mux-requires
 mux-requires c κs = search needs
 
 returns : tie.Need-returns
-unfolding releaseBitsNext accessReleaseBits restReleaseBits lockNext unlockNext updateNext followed _>>=_ erase orErr pick word outcome muxed settle cleared clearing clearBits unmuxed releaseBits change accessUpdate restUpdate validReleaseBits validReleaseBitsNext
+unfolding releaseBitsNext accessReleaseBits restReleaseBits _>>=_ erase pick muxed releaseBits change accessUpdate restUpdate validReleaseBits validReleaseBitsNext
 returns c = (rw (← c .before .mux .ensures, c .if1 .taken), refl)
 
 lock-requires : tie.Need-lock-requires
 lock-requires c κs = search needs
 
 returns-2 : tie.Need-returns-2
-unfolding releaseBitsNext accessReleaseBits restReleaseBits lockNext unlockNext updateNext followed _>>=_ erase orErr pick word outcome muxed settle cleared clearing clearBits unmuxed releaseBits change accessUpdate restUpdate validReleaseBits
+unfolding _>>=_ orErr pick muxed releaseBits validReleaseBits
 returns-2 c = (rw (← c .before .before .mux .ensures, c .before .if1 .left) (c .lock .ensures .0), c .lock .ensures .1)
 
 pub open-spec : {M : Type 1} → statement M

@@ -1,10 +1,9 @@
 -- `step` meets its contract.
-use Rattle.hardware.specs.Change.{accessUpdate, change, restUpdate, updateNext}
-use Rattle.hardware.specs.Prog.{_>>=_, erase, followed, orErr, over, pick}
-use Rattle.hardware.specs.Registers.{outcome, word}
+use Rattle.hardware.specs.Change.{accessUpdate, change, restUpdate}
+use Rattle.hardware.specs.Prog.{erase, over}
+use Rattle.hardware.specs.Registers.{outcome}
 use Rattle.hardware.specs.Runs.{given}
-use Rattle.sync.specs.Lock.{lockNext, unlockNext}
-use Rattle.sync.specs.Resource.{accessAcquireBits, accessAcquireStage, accessReleaseBits, acquireBitsNext, against, clearBits, cleared, clearing, free, muxed, releaseBits, releaseBitsNext, restAcquireBits, restAcquireStage, restReleaseBits, settle, syncSeen, taken, tryAgain, tryRead, unmuxed, validAcquireBits, validAcquireStage, validReleaseBits, validReleaseBitsNext}
+use Rattle.sync.specs.Resource.{against, clearBits, cleared, clearing, releaseBits, releaseBitsNext, restReleaseBits, settle, tryAgain, unmuxed, validAcquireBits, validAcquireStage, validReleaseBits, validReleaseBitsNext}
 use borrow.Author.Needs.{needs}
 use mathlib.Core.Path.{refl}
 use Rattle.sync.proofs.release_bits.step.Statement.{statement}
@@ -56,23 +55,23 @@ enum-told : tie.Need-enum-told
 enum-told c = search needs
 
 returns : tie.Need-returns
-unfolding restReleaseBits releaseBits unmuxed cleared
+unfolding restReleaseBits
 returns c = (rw (c .before .before .before .before .s .given .1) (over _ _ (c .muxing .ensures .0) (rw (c .before .before .set-mux .ensures) at (c .before .step .ensures))), λ h. c .muxing .ensures .1)
 
 returns-2 : tie.Need-returns-2
-unfolding restReleaseBits releaseBits unmuxed cleared validReleaseBits
+unfolding restReleaseBits validReleaseBits
 returns-2 c = (rw (c .before .before .before .s2 .given .1) (over _ _ (c .locking .ensures .0) (c .before .step2 .ensures .0)), λ h. c .locking .ensures .1 (c .before .step2 .ensures .1 (rw (c .before .before .before .s2 .given .1) at h)))
 
 returns-3 : tie.Need-returns-3
-unfolding restReleaseBits releaseBits unmuxed cleared
+unfolding restReleaseBits
 returns-3 c = (rw (c .before .before .before .before .s3 .given .1) (over _ _ (c .clearing .ensures .0) (rw (c .before .before .change .ensures) at (c .before .step3 .ensures))), λ h. c .clearing .ensures .1)
 
 returns-4 : tie.Need-returns-4
-unfolding restReleaseBits releaseBits unmuxed cleared
+unfolding restReleaseBits
 returns-4 c = (rw (c .before .before .before .s4 .given .1) (over _ _ (c .unlocking .ensures .0) (c .before .step4 .ensures)), λ h. c .unlocking .ensures .1)
 
 returns-5 : tie.Need-returns-5
-unfolding acquireBitsNext accessAcquireBits accessAcquireStage restAcquireBits restAcquireStage releaseBitsNext accessReleaseBits restReleaseBits lockNext unlockNext updateNext followed _>>=_ erase orErr pick word outcome taken free muxed syncSeen tryRead tryAgain settle cleared clearing clearBits against unmuxed releaseBits change accessUpdate restUpdate validAcquireStage validAcquireBits validReleaseBits validReleaseBitsNext
+unfolding releaseBitsNext restReleaseBits erase outcome tryAgain settle cleared clearing clearBits against unmuxed releaseBits change accessUpdate restUpdate validAcquireStage validAcquireBits validReleaseBits validReleaseBitsNext
 returns-5 c = (rw (c .enum-told .given .1), λ h. refl)
 
 pub step-spec : {M : Type 1} → statement M

@@ -1,10 +1,9 @@
 -- `unlocking` meets its contract.
-use Rattle.hardware.specs.Change.{accessUpdate, change, restUpdate, updateNext}
-use Rattle.hardware.specs.Prog.{_>>=_, erase, followed, going, orErr, pick}
-use Rattle.hardware.specs.Registers.{outcome, word}
+use Rattle.hardware.specs.Prog.{_>>=_, erase, followed, going, orErr}
+use Rattle.hardware.specs.Registers.{outcome}
 use Rattle.hardware.specs.Runs.{given}
-use Rattle.sync.specs.Lock.{lockNext, unlockNext}
-use Rattle.sync.specs.Resource.{accessReleaseBits, clearBits, cleared, clearing, muxed, releaseBits, releaseBitsNext, restReleaseBits, settle, unmuxed, validReleaseBits, validReleaseBitsNext}
+use Rattle.sync.specs.Lock.{unlockNext}
+use Rattle.sync.specs.Resource.{accessReleaseBits, releaseBitsNext, restReleaseBits, validReleaseBits, validReleaseBitsNext}
 use borrow.Author.Needs.{needs}
 use mathlib.Core.Path.{refl}
 use Rattle.sync.proofs.release_bits.unlocking.Statement.{statement}
@@ -26,15 +25,15 @@ enum-known-o : tie.Need-enum-known-o
 enum-known-o c = search needs
 
 returns : tie.Need-returns
-unfolding releaseBitsNext accessReleaseBits restReleaseBits lockNext unlockNext updateNext validReleaseBitsNext validReleaseBits
+unfolding releaseBitsNext accessReleaseBits restReleaseBits unlockNext validReleaseBitsNext validReleaseBits
 returns c = (rw (c .before .n .given .1) (going _ _ _), refl)
 
 returns-2 : tie.Need-returns-2
-unfolding releaseBitsNext accessReleaseBits restReleaseBits lockNext unlockNext updateNext followed _>>=_ erase orErr pick word outcome muxed settle cleared clearing clearBits unmuxed releaseBits change accessUpdate restUpdate validReleaseBits
+unfolding unlockNext followed _>>=_ orErr outcome validReleaseBits
 returns-2 c = (rw (c .before .before .before .before .n2 .given .1, c .before .enum-told .given .1) (c .finish .ensures .0), c .finish .ensures .1)
 
 returns-3 : tie.Need-returns-3
-unfolding releaseBitsNext accessReleaseBits restReleaseBits lockNext unlockNext updateNext followed _>>=_ erase orErr pick word outcome muxed settle cleared clearing clearBits unmuxed releaseBits change accessUpdate restUpdate validReleaseBits validReleaseBitsNext
+unfolding releaseBitsNext unlockNext followed _>>=_ erase orErr outcome validReleaseBits validReleaseBitsNext
 returns-3 c = (rw (c .before .before .before .before .n2 .given .1, c .before .o .given .1), refl)
 
 pub unlocking-spec : {M : Type 1} → statement M

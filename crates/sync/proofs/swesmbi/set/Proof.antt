@@ -1,9 +1,9 @@
 -- `set` meets its contract.
 use Rattle.hardware.specs.Change.{updateNext}
-use Rattle.hardware.specs.Prog.{_>>=_, erase, followed, going, orErr, pick}
-use Rattle.hardware.specs.Registers.{flag, outcome, word}
+use Rattle.hardware.specs.Prog.{_>>=_, erase, followed, going, orErr}
+use Rattle.hardware.specs.Registers.{flag, outcome}
 use Rattle.hardware.specs.Runs.{given}
-use Rattle.sync.specs.Lock.{accessSwesmbi, restSwesmbi, swesmbiCheck, swesmbiNext, swesmbiSeen, validSwesmbi, validSwesmbiNext}
+use Rattle.sync.specs.Lock.{accessSwesmbi, restSwesmbi, swesmbiCheck, swesmbiNext, validSwesmbi, validSwesmbiNext}
 use borrow.Author.Needs.{needs}
 use borrow.Author.Tests.{lt-ltb}
 use mathlib.Core.Path.{refl}
@@ -27,11 +27,11 @@ unfolding restSwesmbi accessSwesmbi swesmbiNext updateNext validSwesmbiNext vali
 returns c = (rw (c .before .n .given .1) (going _ _ _), λ h. lt-ltb _ _ h)
 
 returns-2 : tie.Need-returns-2
-unfolding restSwesmbi accessSwesmbi swesmbiNext swesmbiSeen swesmbiCheck validSwesmbi followed _>>=_ erase orErr pick word outcome flag updateNext validSwesmbiNext
+unfolding restSwesmbi accessSwesmbi swesmbiNext swesmbiCheck validSwesmbi followed _>>=_ erase orErr outcome updateNext validSwesmbiNext
 returns-2 c = (rw (c .before .before .before .n2 .given .1, c .enum-told .given .1), λ h. lt-ltb _ _ h)
 
 returns-3 : tie.Need-returns-3
-unfolding restSwesmbi accessSwesmbi swesmbiNext swesmbiSeen swesmbiCheck validSwesmbi followed _>>=_ erase orErr pick word outcome flag updateNext validSwesmbiNext
+unfolding swesmbiNext followed _>>=_ erase orErr outcome flag updateNext validSwesmbiNext
 returns-3 c = (rw (c .before .before .before .before .n2 .given .1, c .before .o .given .1), λ h. refl)
 
 pub set-spec : {M : Type 1} → statement M

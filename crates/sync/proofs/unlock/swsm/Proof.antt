@@ -1,9 +1,7 @@
 -- `swsm` meets its contract.
-use Rattle.hardware.specs.Change.{change, updateNext}
-use Rattle.hardware.specs.Prog.{_>>=_, erase, followed, orErr, pick}
-use Rattle.hardware.specs.Registers.{flag, outcome, word}
+use Rattle.hardware.specs.Change.{updateNext}
 use Rattle.hardware.specs.Runs.{given}
-use Rattle.sync.specs.Lock.{accessUnlock, restUnlock, unlock, unlockNext}
+use Rattle.sync.specs.Lock.{accessUnlock, restUnlock, unlockNext}
 use borrow.Author.Needs.{needs}
 use Rattle.sync.proofs.unlock.swsm.Statement.{statement}
 use Rattle.sync.proofs.unlock.swsm.Tie as tie
@@ -15,11 +13,11 @@ enum-known-n-2 : tie.Need-enum-known-n-2
 enum-known-n-2 c = search needs
 
 returns : tie.Need-returns
-unfolding restUnlock accessUnlock unlockNext unlock followed _>>=_ erase orErr pick word outcome flag updateNext change
+unfolding restUnlock accessUnlock unlockNext updateNext
 returns c = rw (c .before .n .given .1)
 
 returns-2 : tie.Need-returns-2
-unfolding restUnlock accessUnlock unlockNext unlock followed _>>=_ erase orErr pick word outcome flag updateNext change
+unfolding unlockNext updateNext
 returns-2 c = rw (c .before .n2 .given .1)
 
 pub swsm-spec : {M : Type 1} → statement M

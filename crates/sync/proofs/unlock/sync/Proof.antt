@@ -1,9 +1,9 @@
 -- `sync` meets its contract.
 use Rattle.hardware.specs.Change.{accessUpdate, change, restUpdate, updateNext}
-use Rattle.hardware.specs.Prog.{_>>=_, erase, followed, going, orErr, pick}
-use Rattle.hardware.specs.Registers.{flag, outcome, word}
+use Rattle.hardware.specs.Prog.{_>>=_, erase, followed, going, orErr}
+use Rattle.hardware.specs.Registers.{outcome}
 use Rattle.hardware.specs.Runs.{given}
-use Rattle.sync.specs.Lock.{accessUnlock, restUnlock, unlock, unlockNext}
+use Rattle.sync.specs.Lock.{accessUnlock, restUnlock, unlockNext}
 use borrow.Author.Needs.{needs}
 use Rattle.sync.proofs.unlock.sync.Statement.{statement}
 use Rattle.sync.proofs.unlock.sync.Tie as tie
@@ -29,7 +29,7 @@ unfolding unlockNext accessUnlock restUnlock followed outcome orErr updateNext c
 returns-2 c = rw (c .before .before .before .n2 .given .1, c .enum-told .given .1)
 
 returns-3 : tie.Need-returns-3
-unfolding restUnlock accessUnlock unlockNext unlock followed _>>=_ erase orErr pick word outcome flag updateNext change
+unfolding unlockNext followed _>>=_ erase orErr outcome updateNext
 returns-3 c = rw (c .before .before .before .before .n2 .given .1, c .before .o .given .1)
 
 pub sync-spec : {M : Type 1} → statement M

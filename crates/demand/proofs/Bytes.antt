@@ -14,7 +14,7 @@ use Rattle.bench.specs.declared.receiver.Chosen.the-variants.{A0}
 use Rattle.bench.specs.declared.receiver.Receiver.{Receiver}
 use Rattle.bench.specs.declared.receiver.Stage.{Stage}
 use Rattle.bench.specs.declared.receiver.Stage.the-variants.{Address}
-use Rattle.bench.specs.Receiver.{at, stopped, taken, rise, fall, pulls}
+use Rattle.bench.specs.Receiver.{at, stopped, taken, rise, fall}
 use Rattle.bench.specs.Bench.{onward, under}
 use Rattle.demand.specs.Claim.{Met, machine}
 use Rattle.demand.proofs.Bits.{tookBits, shifted-taken}

@@ -66,7 +66,7 @@ module _ (l : Layout) {A : Type 0} (Q : A → Type 0) (rest : List Answer) where
   lucky-premises (give b p) w k = lucky-premises p w k
 
 -- so many more answers, which no run looks at
-abbrev dones : ℕ → List Answer
+abbrev pub dones : ℕ → List Answer
 dones zero = []
 dones (suc n) = Done ∷ dones n
 

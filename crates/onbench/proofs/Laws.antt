@@ -28,6 +28,7 @@ use Rattle.hardware.specs.Runs.{Ends}
 use Rattle.hardware.proofs.Ends.{ends-more, ends-tally}
 use Rattle.bus.specs.declared.Layout.{Layout}
 use Rattle.bus.specs.Layout.{layoutOf}
+use Rattle.wire.specs.Lines.{ready}
 use Rattle.wire.specs.Always.{World}
 use Rattle.bench.specs.declared.register.Desk.{Desk}
 use Rattle.bench.specs.Register.{side, world, accessed}
@@ -432,6 +433,14 @@ module _ (family device lan : ℕ) (d : Desk) (ns : List ℕ) where
   refused-both o q e h =
       both (ranOf (record { how = Stopped q; desk = d })) (ap (λ z. ranIdentify z (world d) (decodedAll ns)) (ap portOpened (sym e) ∙ h))
 
+  -- the bytes of a page are bytes
+  pub of-bytes : (r : Ran (Counted (R Module))) → ((n : ℕ) → getD (d .bench .a0 .bytes) n 0 < 256) → Both r
+      → (r ≡ ranIdentify (openPort family device lan) (world d) (decodedAll ns))
+      × ((port : Port) → yes port ≡ openPort family device lan → ready (layoutOf (port .family)) (d .word) ≡ true → Premises port (d .bench) (d .word) (decodedAll ns)
+      → Came r ⊎ (IDENTIFY-STEPS (port .family) ≤ length ns) → Demand3 port (d .bench) (d .word) (decodedAll ns) r)
+  unfolding Starts
+  of-bytes r small h = (h .0, λ port e go. h .1 port e (small, go))
+
 module _ (family device lan : ℕ) (d : Desk) where
   granted-both : (r : Ran (Counted (R Module))) → r ≡ grantedIdentify (openPort family device lan) (world d)
       → (r ≡ grantedIdentify (openPort family device lan) (world d))
@@ -460,3 +469,11 @@ module _ (family device lan : ℕ) (d : Desk) where
       × ((port : Port) → yes port ≡ openPort family device lan → Starts port (d .bench) (d .word) → Granted3 port (d .bench) (d .word) (ranOf (record { how = Stopped q; desk = d })))
   unfolding portOpened ranOf howOf grantedIdentify
   granted-unopened o q e h = granted-both (ranOf (record { how = Stopped q; desk = d })) (ap (λ z. grantedIdentify z (world d)) (ap portOpened (sym e) ∙ h))
+
+  pub granted-of-bytes : (r : Ran (Counted (R Module))) → ((n : ℕ) → getD (d .bench .a0 .bytes) n 0 < 256)
+      → (r ≡ grantedIdentify (openPort family device lan) (world d))
+      × ((port : Port) → yes port ≡ openPort family device lan → Starts port (d .bench) (d .word) → Granted3 port (d .bench) (d .word) r)
+      → (r ≡ grantedIdentify (openPort family device lan) (world d))
+      × ((port : Port) → yes port ≡ openPort family device lan → ready (layoutOf (port .family)) (d .word) ≡ true → Granted3 port (d .bench) (d .word) r)
+  unfolding Starts
+  granted-of-bytes r small h = (h .0, λ port e go. h .1 port e (small, go))

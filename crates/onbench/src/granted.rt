@@ -11,13 +11,13 @@ use identify::calls::IdentifyCall;
 use identify::calls::IdentifyTold;
 ghost use Prim.Native.Nat.{ℕ};
 ghost use mathlib.Core.Path.{_≡_};
-ghost use mathlib.Core.Bool.{false};
+ghost use mathlib.Core.Bool.{true, false};
 ghost use Rattle.hardware.specs.declared.Port.{Port};
 ghost use Rattle.hardware.specs.Asked.{yes, openPort};
 ghost use Rattle.bus.specs.Layout.{layoutOf};
+ghost use Rattle.wire.specs.Lines.{ready};
 ghost use Rattle.bench.specs.Register.{world};
 ghost use Rattle.identify.specs.Calls.{saidIdentify, standsIdentify};
-ghost use Rattle.demand.specs.Claim.{Starts};
 ghost use Rattle.demand.specs.Ran.{grantedIdentify, Granted3};
 ghost use Rattle.onbench.specs.Run.{ranOf, grantedOf, Moved, Bounded};
 
@@ -89,8 +89,10 @@ fn play(family: Family, told: IdentifyTold, d: Desk) -> Run
 // Demand 3 of the call where every lock and grant comes at once.
 pub fn identify_granted(family: u32, device: u16, lan: u32, d: Desk) -> Run
     ensures { λ r. ⌜ ranOf r ≡ grantedIdentify (openPort family device lan) (world d) ⌝ }
-    ensures { λ r. ⌜ ((port : Port) → yes port ≡ openPort family device lan → Starts port (d .bench) (d .word) → Granted3 port (d .bench) (d .word) (ranOf r)) ⌝ }
+    ensures { λ r. ⌜ ((port : Port) → yes port ≡ openPort family device lan → ready (layoutOf (port .family)) (d .word) ≡ true → Granted3 port (d .bench) (d .word) (ranOf r)) ⌝ }
 {
+    let page = d.bench.a0.bytes;
+    crate::bytes(&page);
     match hardware::open_port(family, device, lan) {
         Opening::Port(p) => {
             let f = p.family;

@@ -8,17 +8,18 @@ use hardware::Refusal;
 use identify::calls::IdentifyCall;
 use identify::calls::IdentifyTold;
 use identify::walk::Identified;
-ghost use Prim.Native.Nat.{_≤_};
+ghost use Prim.Native.Nat.{ℕ, _<_, _≤_};
 ghost use mathlib.Core.Path.{_≡_};
 ghost use mathlib.Core.Bool.{true, false};
 ghost use mathlib.Core.Logic.{_⊎_};
-ghost use lib.ListN.{length};
+ghost use lib.ListN.{length, getD};
 ghost use Rattle.hardware.specs.declared.Port.{Port};
 ghost use Rattle.hardware.specs.Asked.{yes, openPort};
 ghost use Rattle.bus.specs.Layout.{layoutOf};
+ghost use Rattle.wire.specs.Lines.{ready};
 ghost use Rattle.bench.specs.Register.{world};
 ghost use Rattle.sfp.proofs.Ends.{IDENTIFY-STEPS};
-ghost use Rattle.demand.specs.Claim.{Starts, Premises};
+ghost use Rattle.demand.specs.Claim.{Premises};
 ghost use Rattle.demand.specs.Ran.{Came, ranIdentify, Demand3};
 ghost use Rattle.onbench.specs.Run.{decoded, decodedAll, ranOf, leftOf, stopsAt, Moved, Bounded};
 ghost use Rattle.identify.specs.Calls.{saidIdentify, standsIdentify};
@@ -157,12 +158,27 @@ fn play(family: Family, told: IdentifyTold, d: Desk, answers: &[u64]) -> Run
     finish(s)
 }
 
+fn length(page: &[u8]) -> usize
+    ensures { λ n. ⌜ n ≡ length (now (page .entry)) ⌝ }
+{
+    page.len()
+}
+
+// Each byte of a page is below 256, as its type says; the claim needs it said.
+pub(crate) fn bytes(page: &[u8]) -> usize
+    ensures { λ _. ⌜ ((n : ℕ) → getD (now (page .entry)) n 0 < 256) ⌝ }
+{
+    length(page)
+}
+
 // Demand 3 of the call: what it comes to for every list of answers, and the claim where they meet the premises and it
 // comes to its end, as it does over every list that is long enough.
 pub fn identify_on_bench(family: u32, device: u16, lan: u32, d: Desk, answers: &[u64]) -> Run
     ensures { λ r. ⌜ ranOf r ≡ ranIdentify (openPort family device lan) (world d) (decodedAll (now (answers .entry))) ⌝ }
-    ensures { λ r. ⌜ ((port : Port) → yes port ≡ openPort family device lan → Starts port (d .bench) (d .word) → Premises port (d .bench) (d .word) (decodedAll (now (answers .entry))) → Came (ranOf r) ⊎ (IDENTIFY-STEPS (port .family) ≤ length (now (answers .entry))) → Demand3 port (d .bench) (d .word) (decodedAll (now (answers .entry))) (ranOf r)) ⌝ }
+    ensures { λ r. ⌜ ((port : Port) → yes port ≡ openPort family device lan → ready (layoutOf (port .family)) (d .word) ≡ true → Premises port (d .bench) (d .word) (decodedAll (now (answers .entry))) → Came (ranOf r) ⊎ (IDENTIFY-STEPS (port .family) ≤ length (now (answers .entry))) → Demand3 port (d .bench) (d .word) (decodedAll (now (answers .entry))) (ranOf r)) ⌝ }
 {
+    let page = d.bench.a0.bytes;
+    bytes(&page);
     match hardware::open_port(family, device, lan) {
         Opening::Port(p) => {
             let f = p.family;

@@ -1,8 +1,5 @@
 -- `acted` meets its contract.
-use Rattle.bench.specs.Bench.{acted, onward}
-use Rattle.bench.specs.Receiver.{at}
-use Rattle.hardware.specs.Change.{stored}
-use Rattle.hardware.specs.Runs.{given}
+use Rattle.bench.specs.Bench.{acted}
 use borrow.Author.Needs.{needs}
 use Rattle.bench.proofs.acted.Statement.{statement}
 use Rattle.bench.proofs.acted.Tie as tie

@@ -1,6 +1,5 @@
 -- `current` meets its contract.
 use Rattle.bench.specs.Bench.{pageOf}
-use Rattle.hardware.specs.Runs.{given}
 use borrow.Author.Needs.{needs}
 use Rattle.bench.proofs.current.Statement.{statement}
 use Rattle.bench.proofs.current.Tie as tie

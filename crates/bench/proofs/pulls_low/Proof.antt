@@ -1,6 +1,5 @@
 -- `pulls_low` meets its contract.
-use Rattle.bench.specs.Bench.{pullsLow, under}
-use Rattle.bench.specs.Receiver.{pulls}
+use Rattle.bench.specs.Bench.{pullsLow}
 use borrow.Author.Needs.{needs}
 use Rattle.bench.proofs.pulls_low.Statement.{statement}
 use Rattle.bench.proofs.pulls_low.Tie as tie

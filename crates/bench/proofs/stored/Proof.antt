@@ -1,5 +1,4 @@
 -- `stored` meets its contract.
-use Rattle.bench.specs.Bench.{onward}
 use borrow.Author.Needs.{needs}
 use Rattle.bench.proofs.stored.Statement.{statement}
 use Rattle.bench.proofs.stored.Tie as tie

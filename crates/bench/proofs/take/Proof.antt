@@ -1,6 +1,5 @@
 -- `take` meets its contract.
 use Rattle.bench.specs.Bench.{takesEdge}
-use Rattle.bench.specs.Receiver.{edged}
 use borrow.Author.Needs.{needs}
 use Rattle.bench.proofs.take.Statement.{statement}
 use Rattle.bench.proofs.take.Tie as tie

@@ -1,6 +1,5 @@
 -- `with_page` meets its contract.
-use Rattle.bench.specs.Bench.{acted, withPage}
-use Rattle.hardware.specs.Runs.{given}
+use Rattle.bench.specs.Bench.{withPage}
 use borrow.Author.Needs.{needs}
 use Rattle.bench.proofs.with_page.Statement.{statement}
 use Rattle.bench.proofs.with_page.Tie as tie

@@ -1,6 +1,5 @@
 -- `is_i2c` meets its contract.
 use Rattle.bus.specs.Bus.{isI2c}
-use Rattle.hardware.specs.Runs.{given}
 use borrow.Author.Needs.{needs}
 use Rattle.bus.proofs.is_i2c.Statement.{statement}
 use Rattle.bus.proofs.is_i2c.Tie as tie

@@ -1,5 +1,5 @@
 -- `layout_of` meets its contract.
-use Rattle.bus.specs.Layout.{layoutOf, x550em}
+use Rattle.bus.specs.Layout.{layoutOf}
 use Rattle.hardware.specs.Prog.{pick}
 use borrow.Author.Needs.{needs}
 use Rattle.bus.proofs.layout_of.Statement.{statement}

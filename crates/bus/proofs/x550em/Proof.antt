@@ -1,6 +1,5 @@
 -- `x550em` meets its contract.
 use Rattle.bus.specs.Layout.{x550em}
-use Rattle.hardware.specs.Runs.{given}
 use borrow.Author.Needs.{needs}
 use Rattle.bus.proofs.x550em.Statement.{statement}
 use Rattle.bus.proofs.x550em.Tie as tie

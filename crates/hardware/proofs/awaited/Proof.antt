@@ -1,6 +1,5 @@
 -- `awaited` meets its contract.
 use Rattle.hardware.specs.Asked.{fits}
-use Rattle.hardware.specs.Runs.{given}
 use borrow.Author.Needs.{needs}
 use Rattle.hardware.proofs.awaited.Statement.{statement}
 use Rattle.hardware.proofs.awaited.Tie as tie

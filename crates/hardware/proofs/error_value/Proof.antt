@@ -1,6 +1,5 @@
 -- `error_value` meets its contract.
 use Rattle.hardware.proofs.Laws.{two-values}
-use Rattle.hardware.specs.Runs.{given}
 use borrow.Author.Needs.{needs}
 use mathlib.Core.Path.{_∙_}
 use Rattle.hardware.proofs.error_value.Statement.{statement}

@@ -1,6 +1,5 @@
 -- `open_port` meets its contract.
 use Rattle.hardware.specs.Asked.{andThen, familyOpened, openPort, portOpened}
-use Rattle.hardware.specs.Runs.{given}
 use borrow.Author.Needs.{needs}
 use Rattle.hardware.proofs.open_port.Statement.{statement}
 use Rattle.hardware.proofs.open_port.Tie as tie

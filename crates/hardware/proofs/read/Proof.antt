@@ -1,7 +1,6 @@
 -- `read` meets its contract.
 use Rattle.hardware.specs.Prog.{pick}
 use Rattle.hardware.specs.Registers.{checked, word}
-use Rattle.hardware.specs.Runs.{given}
 use borrow.Author.Needs.{needs}
 use borrow.Author.Tests.{ne-eqb}
 use Rattle.hardware.proofs.read.Statement.{statement}

@@ -1,8 +1,6 @@
 -- `attempts` meets its contract.
-use Rattle.bus.specs.Layout.{x550em}
 use Rattle.hardware.specs.Prog.{pick}
 use Rattle.i2c.specs.I2c.{attempts}
-use Rattle.sync.specs.Resource.{taken}
 use borrow.Author.Needs.{needs}
 use Rattle.i2c.proofs.attempts.Statement.{statement}
 use Rattle.i2c.proofs.attempts.Tie as tie

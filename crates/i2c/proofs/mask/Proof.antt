@@ -1,9 +1,6 @@
 -- `mask` meets its contract.
-use Rattle.bus.specs.Layout.{x550em}
 use Rattle.hardware.specs.Prog.{pick}
 use Rattle.i2c.specs.I2c.{mask}
-use Rattle.sync.specs.Regs.{phy}
-use Rattle.sync.specs.Resource.{taken}
 use borrow.Author.Needs.{needs}
 use Rattle.i2c.proofs.mask.Statement.{statement}
 use Rattle.i2c.proofs.mask.Tie as tie

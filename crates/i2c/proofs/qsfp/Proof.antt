@@ -1,7 +1,6 @@
 -- `qsfp` meets its contract.
 use Rattle.hardware.specs.Prog.{pick}
 use Rattle.i2c.specs.I2c.{qsfp}
-use Rattle.sync.specs.Resource.{taken}
 use borrow.Author.Needs.{needs}
 use Rattle.i2c.proofs.qsfp.Statement.{statement}
 use Rattle.i2c.proofs.qsfp.Tie as tie

@@ -1,6 +1,4 @@
 -- `finish` meets its contract.
-use Rattle.demand.proofs.Benched.{told}
-use Rattle.hardware.specs.Runs.{given}
 use Rattle.onbench.specs.Run.{howOf, ranOf, stopsAt}
 use borrow.Author.Needs.{needs}
 use Rattle.onbench.proofs.finish.Statement.{statement}

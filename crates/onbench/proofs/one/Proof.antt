@@ -1,8 +1,5 @@
 -- `one` meets its contract.
 use Rattle.bus.specs.Layout.{layoutOf}
-use Rattle.demand.proofs.Benched.{told}
-use Rattle.demand.specs.Claim.{visit}
-use Rattle.hardware.specs.Runs.{given}
 use Rattle.onbench.proofs.Laws.{one-ask, one-end, one-refused}
 use Rattle.onbench.specs.Run.{leftOf}
 use borrow.Author.Needs.{needs}

@@ -1,8 +1,6 @@
 -- `visit` meets its contract.
-use Rattle.bench.specs.Receiver.{at}
 use Rattle.bus.specs.Layout.{layoutOf}
 use Rattle.onbench.proofs.Laws.{visit-away, visit-here, visit-out}
-use Rattle.sync.specs.Resource.{taken}
 use borrow.Author.Needs.{needs}
 use Rattle.onbench.proofs.visit.Statement.{statement}
 use Rattle.onbench.proofs.visit.Tie as tie

@@ -3,8 +3,7 @@ use Rattle.hostif.specs.Acquire.{acquiredAll, afterBits}
 use Rattle.acquire.specs.Acquire.{accessAcquire, accessAcquireAt, acquireNext, restAcquire, restAcquireAt, validAcquire, validAcquireAt, validAcquireNext}
 use Rattle.hardware.specs.Prog.{_>>=_, erase, followed, going, orErr, pick}
 use Rattle.hardware.specs.Registers.{outcome}
-use Rattle.hardware.specs.Runs.{given}
-use Rattle.sync.specs.Resource.{acquireBitsNext, taken, validAcquireBitsNext}
+use Rattle.sync.specs.Resource.{acquireBitsNext, validAcquireBitsNext}
 use borrow.Author.Needs.{needs}
 use borrow.Author.Tests.{lt-ltb}
 use mathlib.Core.Path.{refl}

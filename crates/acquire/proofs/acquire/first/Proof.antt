@@ -1,5 +1,4 @@
 -- `first` meets its contract.
-use Rattle.sync.specs.Regs.{tries}
 use Rattle.sync.specs.Resource.{acquireBits}
 use borrow.Author.Needs.{needs}
 use native.Mathlib.Omega.{arith}

@@ -1,8 +1,6 @@
 -- `open` meets its contract.
 use Rattle.hostif.specs.Acquire.{acquire, afterBits}
 use Rattle.hardware.specs.Prog.{erase, over, pick}
-use Rattle.sync.specs.Regs.{bits}
-use Rattle.sync.specs.Resource.{taken}
 use borrow.Author.Needs.{needs}
 use native.Mathlib.Omega.{arith}
 use Rattle.acquire.proofs.acquire.open.Statement.{statement}

@@ -5,8 +5,6 @@ use Rattle.acquire.specs.Acquire.{acquireNext, validAcquireNext}
 use Rattle.hardware.proofs.Laws.{one-less}
 use Rattle.hardware.specs.Prog.{erase, over, pick}
 use Rattle.hardware.specs.Registers.{outcome}
-use Rattle.sync.specs.Regs.{bits}
-use Rattle.sync.specs.Resource.{taken}
 use borrow.Author.Needs.{needs}
 use mathlib.Core.Path.{_∙_, refl}
 use Rattle.acquire.proofs.acquire.open_token.Statement.{statement}

@@ -1,6 +1,5 @@
 -- `stage_access` meets its contract.
 use Rattle.acquire.specs.Acquire.{accessAcquireAt}
-use Rattle.hardware.specs.Runs.{given}
 use borrow.Author.Needs.{needs}
 use Rattle.acquire.proofs.acquire.stage_access.Statement.{statement}
 use Rattle.acquire.proofs.acquire.stage_access.Tie as tie

@@ -1,9 +1,6 @@
 -- `stage_step` meets its contract.
 use Rattle.acquire.specs.Acquire.{restAcquireAt, validAcquireAt}
 use Rattle.hardware.specs.Prog.{over}
-use Rattle.hardware.specs.Runs.{given}
-use Rattle.hostif.specs.Hostif.{token}
-use Rattle.sync.specs.Regs.{bits}
 use borrow.Author.Needs.{needs}
 use native.Mathlib.Omega.{arith}
 use Rattle.acquire.proofs.acquire.stage_step.Statement.{statement}

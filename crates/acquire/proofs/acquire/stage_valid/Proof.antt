@@ -1,6 +1,5 @@
 -- `stage_valid` meets its contract.
 use Rattle.acquire.specs.Acquire.{validAcquireAt}
-use Rattle.hardware.specs.Runs.{given}
 use borrow.Author.Needs.{needs}
 use Rattle.acquire.proofs.acquire.stage_valid.Statement.{statement}
 use Rattle.acquire.proofs.acquire.stage_valid.Tie as tie

@@ -1,7 +1,6 @@
 -- `token` meets its contract.
 use Rattle.acquire.specs.Acquire.{accessAcquire, accessAcquireAt, accessRelease, acquireNext, releaseNext, restAcquire, restAcquireAt, restRelease, validAcquire, validAcquireAt, validAcquireNext}
 use Rattle.hardware.specs.Prog.{_>>=_, followed, going, pick}
-use Rattle.hardware.specs.Runs.{given}
 use Rattle.hostif.specs.Hostif.{tokenNext, validTokenNext}
 use Rattle.sync.specs.Resource.{acquireBitsNext, releaseBitsNext}
 use borrow.Author.Needs.{needs}

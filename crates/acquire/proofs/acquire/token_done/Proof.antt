@@ -3,8 +3,6 @@ use Rattle.hostif.specs.Acquire.{acquiredAll, tokenSeen}
 use Rattle.acquire.specs.Acquire.{acquireNext, validAcquireNext}
 use Rattle.hardware.specs.Prog.{erase}
 use Rattle.hardware.specs.Registers.{flag, outcome}
-use Rattle.hardware.specs.Runs.{given}
-use Rattle.sync.specs.Resource.{taken}
 use borrow.Author.Needs.{needs}
 use mathlib.Core.Path.{refl}
 use Rattle.acquire.proofs.acquire.token_done.Statement.{statement}

@@ -3,7 +3,6 @@ use Rattle.hostif.specs.Acquire.{notGranted}
 use Rattle.acquire.specs.Acquire.{accessAcquire, accessAcquireAt, acquireNext, restAcquire, restAcquireAt, validAcquire, validAcquireAt, validAcquireNext}
 use Rattle.hardware.specs.Prog.{erase, pick}
 use Rattle.hardware.specs.Registers.{flag, outcome}
-use Rattle.hardware.specs.Runs.{given}
 use borrow.Author.Needs.{needs}
 use borrow.Author.Tests.{lt-ltb}
 use mathlib.Core.Path.{refl}

@@ -4,7 +4,6 @@ use Rattle.acquire.specs.Acquire.{accessAcquire, accessAcquireAt, access
 use Rattle.acquire.specs.Calls.{openAcquire, openRelease, stepAcquire, stepRelease}
 use Rattle.hardware.specs.Asked.{andThen, portOpened, question}
 use Rattle.hardware.specs.Prog.{over}
-use Rattle.hostif.specs.Hostif.{token}
 use Rattle.sync.specs.Resource.{acquireBits}
 use borrow.Author.Needs.{needs}
 use Rattle.acquire.proofs.acquire.try_token.Statement.{statement}

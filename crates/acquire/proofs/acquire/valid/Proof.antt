@@ -1,7 +1,6 @@
 -- `valid` meets its contract.
 use Rattle.acquire.specs.Acquire.{validAcquire}
 use Rattle.hardware.specs.Prog.{pick}
-use Rattle.sync.specs.Resource.{taken}
 use borrow.Author.Needs.{needs}
 use borrow.Author.Tests.{le-ltb, lt-ltb}
 use Rattle.acquire.proofs.acquire.valid.Statement.{statement}

@@ -2,7 +2,6 @@
 use Rattle.acquire.specs.Calls.{openAcquire, saidAcquire, standsAcquire}
 use Rattle.hardware.proofs.Laws.{opened-valid}
 use Rattle.hardware.specs.Asked.{andThen, portOpened, yes}
-use Rattle.hardware.specs.Runs.{given}
 use borrow.Author.Needs.{needs}
 use mathlib.Core.Path.{_∙_, ap}
 use Rattle.acquire.proofs.calls.acquire_open.Statement.{statement}

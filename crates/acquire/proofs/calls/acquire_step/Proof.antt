@@ -1,8 +1,6 @@
 -- `acquire_step` meets its contract.
 use Rattle.acquire.specs.Calls.{saidAcquire, standsAcquire, stepAcquire}
 use Rattle.hardware.specs.Asked.{question, yes}
-use Rattle.hardware.specs.Runs.{given}
-use Rattle.sync.specs.Resource.{taken}
 use borrow.Author.Needs.{needs}
 use mathlib.Core.Path.{_∙_, ap, sym}
 use Rattle.acquire.proofs.calls.acquire_step.Statement.{statement}

@@ -1,7 +1,6 @@
 -- `acquire_told` meets its contract.
 use Rattle.acquire.specs.Acquire.{acquireNext, validAcquireNext}
 use Rattle.acquire.specs.Calls.{saidAcquire, standsAcquire}
-use Rattle.hardware.specs.Runs.{given}
 use borrow.Author.Needs.{needs}
 use Rattle.acquire.proofs.calls.acquire_told.Statement.{statement}
 use Rattle.acquire.proofs.calls.acquire_told.Tie as tie

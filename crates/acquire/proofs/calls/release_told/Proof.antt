@@ -1,7 +1,6 @@
 -- `release_told` meets its contract.
 use Rattle.acquire.specs.Acquire.{releaseNext, validReleaseNext}
 use Rattle.acquire.specs.Calls.{saidRelease, standsRelease}
-use Rattle.hardware.specs.Runs.{given}
 use borrow.Author.Needs.{needs}
 use Rattle.acquire.proofs.calls.release_told.Statement.{statement}
 use Rattle.acquire.proofs.calls.release_told.Tie as tie

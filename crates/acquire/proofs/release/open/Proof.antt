@@ -2,8 +2,6 @@
 use Rattle.hostif.specs.Acquire.{release}
 use Rattle.hardware.specs.Prog.{erase, over, pick}
 use Rattle.hardware.specs.Registers.{outcome}
-use Rattle.hostif.specs.Hostif.{token}
-use Rattle.sync.specs.Resource.{taken}
 use borrow.Author.Needs.{needs}
 use Rattle.acquire.proofs.release.open.Statement.{statement}
 use Rattle.acquire.proofs.release.open.Tie as tie

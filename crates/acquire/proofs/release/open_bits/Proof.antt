@@ -2,8 +2,6 @@
 use Rattle.hostif.specs.Acquire.{giveBits, withBits}
 use Rattle.acquire.specs.Acquire.{releaseNext, validReleaseNext}
 use Rattle.hardware.specs.Prog.{_>>=_, erase, orErr, over, pick}
-use Rattle.sync.specs.Regs.{bits}
-use Rattle.sync.specs.Resource.{taken}
 use borrow.Author.Needs.{needs}
 use borrow.Author.Tests.{eq-eqb, ne-eqb}
 use mathlib.Core.Path.{refl}

@@ -4,9 +4,6 @@ use Rattle.acquire.specs.Acquire.{accessAcquire, accessAcquireAt, access
 use Rattle.acquire.specs.Calls.{openAcquire, openRelease, stepAcquire, stepRelease}
 use Rattle.hardware.specs.Asked.{andThen, portOpened, question}
 use Rattle.hardware.specs.Prog.{over}
-use Rattle.hardware.specs.Runs.{given}
-use Rattle.hostif.specs.Hostif.{token}
-use Rattle.sync.specs.Regs.{bits}
 use Rattle.sync.specs.Resource.{acquireBits}
 use borrow.Author.Needs.{needs}
 use Rattle.acquire.proofs.release.step.Statement.{statement}

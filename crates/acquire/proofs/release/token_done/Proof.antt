@@ -1,7 +1,6 @@
 -- `token_done` meets its contract.
 use Rattle.hostif.specs.Acquire.{gave, tokenGiven}
 use Rattle.hardware.specs.Registers.{flag, outcome}
-use Rattle.hardware.specs.Runs.{given}
 use borrow.Author.Needs.{needs}
 use Rattle.acquire.proofs.release.token_done.Statement.{statement}
 use Rattle.acquire.proofs.release.token_done.Tie as tie

@@ -1,5 +1,5 @@
 -- `addressed` meets its contract.
-use Rattle.bench.specs.Receiver.{addressed, at, chose}
+use Rattle.bench.specs.Receiver.{addressed}
 use Rattle.hardware.specs.Prog.{pick}
 use borrow.Author.Needs.{needs}
 use borrow.Author.Tests.{eq-eqb, ne-eqb}

@@ -1,7 +1,6 @@
 -- `bit` meets its contract.
 use Rattle.bench.proofs.Laws.{lowest}
 use Rattle.bus.specs.Bus.{bitOf}
-use Rattle.hardware.specs.Registers.{byte}
 use borrow.Author.Needs.{needs}
 use mathlib.Core.Path.{refl}
 use Rattle.bench.proofs.receiver.bit.Statement.{statement}

@@ -1,5 +1,4 @@
 -- `byte_asks` meets its contract.
-use Rattle.bench.specs.Receiver.{taken}
 use Rattle.hardware.specs.Prog.{pick}
 use Rattle.bench.proofs.receiver.byte_asks.Statement.{statement}
 use Rattle.bench.proofs.receiver.byte_asks.Tie as tie

@@ -1,8 +1,6 @@
 -- `edged` meets its contract.
 use Rattle.bench.specs.Edges.{edgeOf}
-use Rattle.bench.specs.Receiver.{asksOn, edged, fall, rise}
-use Rattle.bus.specs.Bus.{quiet, start, stop}
-use Rattle.hardware.specs.Runs.{given}
+use Rattle.bench.specs.Receiver.{asksOn, edged}
 use borrow.Author.Needs.{needs}
 use Rattle.bench.proofs.receiver.edged.Statement.{statement}
 use Rattle.bench.proofs.receiver.edged.Tie as tie

@@ -1,9 +1,7 @@
 -- `fall` meets its contract.
 use Rattle.bench.proofs.Laws.{asks-at, fall-at, pick-false, pick-true}
-use Rattle.bench.specs.Receiver.{addressed, asksAt, at, fallAt, fresh, taken}
-use Rattle.bus.specs.Bus.{quiet}
+use Rattle.bench.specs.Receiver.{asksAt, at, fallAt}
 use Rattle.hardware.specs.Prog.{pick}
-use Rattle.hardware.specs.Runs.{given}
 use borrow.Author.Needs.{needs}
 use borrow.Author.Tests.{le-ltb, lt-ltb}
 use mathlib.Core.Path.{_∙_, refl, sym}

@@ -1,7 +1,5 @@
 -- `pulls` meets its contract.
 use Rattle.bench.specs.Receiver.{pulls, pullsAt}
-use Rattle.hardware.specs.Runs.{given}
-use Rattle.wire.specs.Bits.{bit}
 use borrow.Author.Needs.{needs}
 use Rattle.bench.proofs.receiver.pulls.Statement.{statement}
 use Rattle.bench.proofs.receiver.pulls.Tie as tie

@@ -1,9 +1,7 @@
 -- `rise` meets its contract.
 use Rattle.bench.proofs.Laws.{rise-at}
-use Rattle.bench.specs.Receiver.{notes, riseAt, taken, takes}
-use Rattle.bus.specs.Bus.{sda}
+use Rattle.bench.specs.Receiver.{riseAt}
 use Rattle.hardware.specs.Prog.{pick}
-use Rattle.hardware.specs.Runs.{given}
 use borrow.Author.Needs.{needs}
 use borrow.Author.Tests.{le-ltb, lt-ltb}
 use native.Mathlib.Numerals.{add-one}

@@ -1,5 +1,5 @@
 -- `start` meets its contract.
-use Rattle.bench.specs.Receiver.{fresh, started}
+use Rattle.bench.specs.Receiver.{started}
 use borrow.Author.Needs.{needs}
 use Rattle.bench.proofs.receiver.start.Statement.{statement}
 use Rattle.bench.proofs.receiver.start.Tie as tie

@@ -1,5 +1,5 @@
 -- `stop` meets its contract.
-use Rattle.bench.specs.Receiver.{at, stopped}
+use Rattle.bench.specs.Receiver.{stopped}
 use borrow.Author.Needs.{needs}
 use Rattle.bench.proofs.receiver.stop.Statement.{statement}
 use Rattle.bench.proofs.receiver.stop.Tie as tie

@@ -1,5 +1,4 @@
 -- `takes` meets its contract.
-use Rattle.bench.specs.Receiver.{taken}
 use borrow.Author.Needs.{needs}
 use Rattle.bench.proofs.receiver.takes.Statement.{statement}
 use Rattle.bench.proofs.receiver.takes.Tie as tie

@@ -1,6 +1,5 @@
 -- `access` meets its contract.
-use Rattle.bench.specs.Register.{accessed, elsewhere}
-use Rattle.hardware.specs.Runs.{given}
+use Rattle.bench.specs.Register.{accessed}
 use borrow.Author.Needs.{needs}
 use Rattle.bench.proofs.register.access.Statement.{statement}
 use Rattle.bench.proofs.register.access.Tie as tie

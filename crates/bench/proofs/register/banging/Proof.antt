@@ -1,5 +1,4 @@
 -- `banging` meets its contract.
-use Rattle.bench.specs.Receiver.{taken}
 use Rattle.wire.specs.Lines.{banging}
 use borrow.Author.Needs.{needs}
 use borrow.Author.Tests.{ne-eqb}

@@ -1,5 +1,4 @@
 -- `input` meets its contract.
-use Rattle.bench.specs.Receiver.{taken}
 use Rattle.wire.specs.Lines.{input}
 use Rattle.bench.proofs.register.input.Statement.{statement}
 use Rattle.bench.proofs.register.input.Tie as tie

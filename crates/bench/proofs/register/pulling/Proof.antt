@@ -1,6 +1,5 @@
 -- `pulling` meets its contract.
-use Rattle.bench.specs.Receiver.{taken}
-use Rattle.wire.specs.Lines.{banging, pulling}
+use Rattle.wire.specs.Lines.{pulling}
 use borrow.Author.Needs.{needs}
 use Rattle.bench.proofs.register.pulling.Statement.{statement}
 use Rattle.bench.proofs.register.pulling.Tie as tie

@@ -1,8 +1,6 @@
 -- `read_at` meets its contract.
-use Rattle.bench.specs.Receiver.{taken}
-use Rattle.bench.specs.Register.{accessed, elsewhere}
+use Rattle.bench.specs.Register.{accessed}
 use Rattle.hardware.specs.Prog.{pick}
-use Rattle.wire.specs.Always.{reading}
 use borrow.Author.Needs.{needs}
 use borrow.Author.Tests.{eq-eqb, ne-eqb}
 use Rattle.bench.proofs.register.read_at.Statement.{statement}

@@ -1,6 +1,6 @@
 -- `reading` meets its contract.
 use Rattle.wire.specs.Always.{reading}
-use Rattle.wire.specs.Lines.{input, inputs, levels, master}
+use Rattle.wire.specs.Lines.{inputs, levels, master}
 use borrow.Author.Needs.{needs}
 use mathlib.Core.Path.{_∙_}
 use Rattle.bench.proofs.register.reading.Statement.{statement}

@@ -1,6 +1,5 @@
 -- `ready` meets its contract.
-use Rattle.bench.specs.Receiver.{taken}
-use Rattle.wire.specs.Lines.{banging, ready}
+use Rattle.wire.specs.Lines.{ready}
 use borrow.Author.Needs.{needs}
 use Rattle.bench.proofs.register.ready.Statement.{statement}
 use Rattle.bench.proofs.register.ready.Tie as tie

@@ -1,6 +1,6 @@
 -- `scl_high` meets its contract.
 use Rattle.bench.proofs.Laws.{or-false}
-use Rattle.wire.specs.Lines.{pulling, pullsScl}
+use Rattle.wire.specs.Lines.{pullsScl}
 use borrow.Author.Needs.{needs}
 use mathlib.Core.Bool.{not}
 use mathlib.Core.Path.{_∙_, ap, sym}

@@ -1,10 +1,8 @@
 -- `scl_moves` meets its contract.
 use Rattle.bench.specs.Edges.{edgeOf}
-use Rattle.bench.specs.Receiver.{taken}
 use Rattle.wire.specs.Always.{takesAll}
 use Rattle.wire.specs.Lines.{sclEdge}
 use borrow.Author.Needs.{needs}
-use lib.ListN.{take}
 use Rattle.bench.proofs.register.scl_moves.Statement.{statement}
 use Rattle.bench.proofs.register.scl_moves.Tie as tie
 

@@ -1,7 +1,6 @@
 -- `sda_high` meets its contract.
 use Rattle.bench.proofs.Laws.{or-false, or-true}
-use Rattle.bench.specs.Receiver.{taken}
-use Rattle.wire.specs.Lines.{pulling, pullsSda}
+use Rattle.wire.specs.Lines.{pullsSda}
 use borrow.Author.Needs.{needs}
 use mathlib.Core.Bool.{not}
 use mathlib.Core.Path.{_∙_, ap, sym}

@@ -1,10 +1,8 @@
 -- `sda_moves` meets its contract.
 use Rattle.bench.specs.Edges.{edgeOf}
-use Rattle.bench.specs.Receiver.{taken}
 use Rattle.wire.specs.Always.{takesAll}
 use Rattle.wire.specs.Lines.{sdaEdge}
 use borrow.Author.Needs.{needs}
-use lib.ListN.{take}
 use Rattle.bench.proofs.register.sda_moves.Statement.{statement}
 use Rattle.bench.proofs.register.sda_moves.Tie as tie
 

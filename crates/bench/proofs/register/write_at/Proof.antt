@@ -1,8 +1,6 @@
 -- `write_at` meets its contract.
-use Rattle.bench.specs.Receiver.{taken}
-use Rattle.bench.specs.Register.{accessed, elsewhere}
+use Rattle.bench.specs.Register.{accessed}
 use Rattle.hardware.specs.Prog.{pick}
-use Rattle.hardware.specs.Registers.{write}
 use borrow.Author.Needs.{needs}
 use borrow.Author.Tests.{eq-eqb, ne-eqb}
 use Rattle.bench.proofs.register.write_at.Statement.{statement}

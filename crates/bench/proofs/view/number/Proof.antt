@@ -1,5 +1,4 @@
 -- `number` meets its contract.
-use Rattle.bench.specs.Receiver.{taken}
 use Rattle.hardware.specs.Prog.{pick}
 use borrow.Author.Needs.{needs}
 use Rattle.bench.proofs.view.number.Statement.{statement}

@@ -1,11 +1,10 @@
 -- `view` meets its contract.
 use Rattle.bench.proofs.Laws.{page-a0, page-a2, part-size, viewed-fits}
-use Rattle.bench.specs.Receiver.{at, taken}
-use Rattle.bench.specs.View.{view, viewAt, viewed}
+use Rattle.bench.specs.Receiver.{at}
+use Rattle.bench.specs.View.{view, viewAt}
 use Rattle.hardware.specs.Prog.{pick}
 use borrow.Author.Needs.{needs}
 use borrow.Author.Tests.{eq-eqb, ne-eqb}
-use lib.ListN.{length}
 use mathlib.Core.Path.{_∙_, sym}
 use native.Mathlib.Nat.{zero-add}
 use native.Mathlib.Omega.{arith}

@@ -1,5 +1,5 @@
 -- `viewed` meets its contract.
-use Rattle.bench.specs.View.{viewed, within}
+use Rattle.bench.specs.View.{viewed}
 use Rattle.hardware.specs.Prog.{pick}
 use borrow.Author.Needs.{needs}
 use borrow.Author.Tests.{ne-eqb}

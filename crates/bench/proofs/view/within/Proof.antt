@@ -1,7 +1,6 @@
 -- `within` meets its contract.
 use Prim.Native.Nat.{_+_}
 use Rattle.bench.proofs.Laws.{left-fits}
-use Rattle.bench.specs.Receiver.{taken}
 use Rattle.bench.specs.View.{within}
 use borrow.Author.Needs.{needs}
 use borrow.Author.Tests.{lt-leb}

@@ -1,6 +1,5 @@
 -- `command` meets its contract.
 use Rattle.bus.specs.Clear.{commandOf}
-use Rattle.hardware.specs.Runs.{given}
 use borrow.Author.Needs.{needs}
 use Rattle.bus.proofs.clear.command.Statement.{statement}
 use Rattle.bus.proofs.clear.command.Tie as tie

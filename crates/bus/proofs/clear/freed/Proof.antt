@@ -4,7 +4,6 @@ use Rattle.bus.specs.Clear.{accessClear, clearNext, commandOf, restClear
 use Rattle.bus.specs.Command.{jobNext, validJobNext}
 use Rattle.hardware.specs.Prog.{erase}
 use Rattle.hardware.specs.Registers.{byte}
-use Rattle.hardware.specs.Runs.{given}
 use borrow.Author.Needs.{needs}
 use mathlib.Core.Path.{refl}
 use Rattle.bus.proofs.clear.freed.Statement.{statement}

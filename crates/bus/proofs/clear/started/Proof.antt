@@ -1,10 +1,9 @@
 -- `started` meets its contract.
-use Rattle.bus.specs.Bus.{orHeld, orQuiet, quieted, stop}
+use Rattle.bus.specs.Bus.{orHeld, orQuiet, quieted}
 use Rattle.bus.specs.Clear.{accessClear, clearNext, commandOf, restClear, restPart, validClear, validClearNext}
 use Rattle.bus.specs.Command.{jobNext, validJobNext}
 use Rattle.hardware.specs.Prog.{_>>=_, erase, followed, going, pick}
 use Rattle.hardware.specs.Registers.{byte}
-use Rattle.hardware.specs.Runs.{given}
 use borrow.Author.Needs.{needs}
 use mathlib.Core.Path.{refl}
 use Rattle.bus.proofs.clear.started.Statement.{statement}

@@ -2,7 +2,6 @@
 use Rattle.bus.specs.Bus.{done, none}
 use Rattle.bus.specs.Clear.{commandOf, restClear, restPart, validClear}
 use Rattle.hardware.specs.Prog.{over}
-use Rattle.hardware.specs.Runs.{given}
 use borrow.Author.Needs.{needs}
 use mathlib.Core.Path.{_∙_}
 use Rattle.bus.proofs.clear.step.Statement.{statement}

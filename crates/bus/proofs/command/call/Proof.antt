@@ -1,8 +1,5 @@
 -- `call` meets its contract.
-use Rattle.bus.specs.Bus.{send, start}
 use Rattle.bus.specs.Command.{callAt}
-use Rattle.hardware.specs.Registers.{read}
-use Rattle.hardware.specs.Runs.{given}
 use borrow.Author.Needs.{needs}
 use Rattle.bus.proofs.command.call.Statement.{statement}
 use Rattle.bus.proofs.command.call.Tie as tie

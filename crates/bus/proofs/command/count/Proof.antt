@@ -1,6 +1,5 @@
 -- `count` meets its contract.
 use Rattle.bus.specs.Command.{callCount}
-use Rattle.hardware.specs.Runs.{given}
 use borrow.Author.Needs.{needs}
 use Rattle.bus.proofs.command.count.Statement.{statement}
 use Rattle.bus.proofs.command.count.Tie as tie

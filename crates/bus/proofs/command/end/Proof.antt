@@ -1,5 +1,4 @@
 -- `end` meets its contract.
-use Rattle.bus.specs.Bus.{stop}
 use Rattle.bus.specs.Command.{endCall}
 use Rattle.hardware.specs.Prog.{pick}
 use borrow.Author.Needs.{needs}

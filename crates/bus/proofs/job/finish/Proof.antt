@@ -3,7 +3,6 @@ use Rattle.bus.specs.Bus.{orHeld}
 use Rattle.bus.specs.Command.{finished, jobNext, validJobNext}
 use Rattle.hardware.specs.Prog.{erase, pick}
 use Rattle.hardware.specs.Registers.{byte}
-use Rattle.hardware.specs.Runs.{given}
 use borrow.Author.Needs.{needs}
 use borrow.Author.Tests.{eq-eqb, ne-eqb}
 use mathlib.Core.Path.{refl}

@@ -5,7 +5,6 @@ use Rattle.bus.specs.Command.{accessJob, callCount, jobNext, restJob, va
 use Rattle.bus.specs.Line.{lineNext, validLineNext}
 use Rattle.hardware.specs.Prog.{erase}
 use Rattle.hardware.specs.Registers.{byte, outcome}
-use Rattle.hardware.specs.Runs.{given}
 use borrow.Author.Needs.{needs}
 use mathlib.Core.Path.{refl}
 use Rattle.bus.proofs.job.lined.Statement.{statement}

@@ -1,6 +1,5 @@
 -- `access` meets its contract.
 use Rattle.bus.specs.Line.{accessAt, accessLine}
-use Rattle.hardware.specs.Runs.{given}
 use borrow.Author.Needs.{needs}
 use Rattle.bus.proofs.line.access.Statement.{statement}
 use Rattle.bus.proofs.line.access.Tie as tie

@@ -3,7 +3,6 @@ use Rattle.bus.specs.Bus.{ackSeen, orHeld, wait}
 use Rattle.bus.specs.Line.{accessAt, accessLine, lineNext, restAt, restLine, sensed, validLine, validLineNext}
 use Rattle.hardware.specs.Prog.{erase, pick}
 use Rattle.hardware.specs.Registers.{outcome, word}
-use Rattle.hardware.specs.Runs.{given}
 use borrow.Author.Needs.{needs}
 use mathlib.Core.Path.{refl}
 use Rattle.bus.proofs.line.ack_seen.Statement.{statement}

@@ -1,9 +1,8 @@
 -- `open` meets its contract.
 use Rattle.bus.proofs.Laws.{ack-open, scl-open}
-use Rattle.bus.specs.Bus.{close, get, look, put, releaseSda, sample, sclLow, sda, wait}
+use Rattle.bus.specs.Bus.{close, get, look, put, releaseSda, sample, sclLow, wait}
 use Rattle.bus.specs.Line.{accessAt, accessLine, called, lineNext, restAt, restLine, settled, validCall, validGoal, validLine}
 use Rattle.hardware.specs.Prog.{erase}
-use Rattle.hardware.specs.Runs.{given}
 use borrow.Author.Needs.{needs}
 use Rattle.bus.proofs.line.open.Statement.{statement}
 use Rattle.bus.proofs.line.open.Tie as tie

@@ -3,7 +3,6 @@ use Rattle.bus.specs.Bus.{orHeld, sclSeen}
 use Rattle.bus.specs.Line.{lineNext, validLineNext}
 use Rattle.hardware.specs.Prog.{erase, pick}
 use Rattle.hardware.specs.Registers.{outcome, word}
-use Rattle.hardware.specs.Runs.{given}
 use borrow.Author.Needs.{needs}
 use mathlib.Core.Path.{refl}
 use Rattle.bus.proofs.line.scl_seen.Statement.{statement}

@@ -1,6 +1,5 @@
 -- `settle_us` meets its contract.
 use Rattle.bus.specs.Line.{settleUs}
-use Rattle.hardware.specs.Runs.{given}
 use borrow.Author.Needs.{needs}
 use Rattle.bus.proofs.line.settle_us.Statement.{statement}
 use Rattle.bus.proofs.line.settle_us.Tie as tie

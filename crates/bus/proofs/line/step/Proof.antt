@@ -3,8 +3,7 @@ use Rattle.bus.proofs.Laws.{fed-held}
 use Rattle.bus.specs.Bus.{orHeld}
 use Rattle.bus.specs.Line.{lineNext, restAt, restLine, validLine, validLineNext}
 use Rattle.hardware.specs.Prog.{erase}
-use Rattle.hardware.specs.Registers.{flush, outcome, word, write}
-use Rattle.hardware.specs.Runs.{given}
+use Rattle.hardware.specs.Registers.{outcome, word}
 use borrow.Author.Needs.{needs}
 use mathlib.Core.Path.{refl}
 use Rattle.bus.proofs.line.step.Statement.{statement}

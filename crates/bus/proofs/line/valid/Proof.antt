@@ -1,6 +1,5 @@
 -- `valid` meets its contract.
 use Rattle.bus.specs.Line.{validLine}
-use Rattle.hardware.specs.Runs.{given}
 use borrow.Author.Needs.{needs}
 use Rattle.bus.proofs.line.valid.Statement.{statement}
 use Rattle.bus.proofs.line.valid.Tie as tie

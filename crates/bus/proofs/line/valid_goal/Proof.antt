@@ -1,6 +1,5 @@
 -- `valid_goal` meets its contract.
 use Rattle.bus.specs.Line.{validGoal}
-use Rattle.hardware.specs.Runs.{given}
 use borrow.Author.Needs.{needs}
 use Rattle.bus.proofs.line.valid_goal.Statement.{statement}
 use Rattle.bus.proofs.line.valid_goal.Tie as tie

@@ -3,7 +3,6 @@ use Rattle.bus.specs.Bus.{flushing, orHeld}
 use Rattle.bus.specs.Line.{accessAt, accessLine, lineNext, restAt, restLine, validLine, validLineNext}
 use Rattle.hardware.specs.Prog.{erase}
 use Rattle.hardware.specs.Registers.{outcome, word}
-use Rattle.hardware.specs.Runs.{given}
 use borrow.Author.Needs.{needs}
 use mathlib.Core.Path.{refl}
 use Rattle.bus.proofs.line.write_seen.Statement.{statement}

@@ -2,7 +2,6 @@
 use Rattle.hardware.specs.Change.{accessUpdate, restUpdate, stored, updateNext}
 use Rattle.hardware.specs.Prog.{_>>=_, erase, orErr}
 use Rattle.hardware.specs.Registers.{outcome, word}
-use Rattle.hardware.specs.Runs.{given}
 use borrow.Author.Needs.{needs}
 use Rattle.hardware.proofs.change.seen.Statement.{statement}
 use Rattle.hardware.proofs.change.seen.Tie as tie

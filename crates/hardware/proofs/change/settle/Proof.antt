@@ -2,7 +2,6 @@
 use Rattle.hardware.specs.Change.{accessUpdate, restUpdate, settled, updateNext}
 use Rattle.hardware.specs.Prog.{erase, orErr}
 use Rattle.hardware.specs.Registers.{outcome}
-use Rattle.hardware.specs.Runs.{given}
 use borrow.Author.Needs.{needs}
 use Rattle.hardware.proofs.change.settle.Statement.{statement}
 use Rattle.hardware.proofs.change.settle.Tie as tie

@@ -1,8 +1,6 @@
 -- `step` meets its contract.
 use Rattle.hardware.specs.Change.{restUpdate, updateNext}
 use Rattle.hardware.specs.Prog.{erase, fed, ret}
-use Rattle.hardware.specs.Registers.{flush, read, write}
-use Rattle.hardware.specs.Runs.{given}
 use borrow.Author.Needs.{needs}
 use mathlib.Core.Path.{ap}
 use Rattle.hardware.proofs.change.step.Statement.{statement}

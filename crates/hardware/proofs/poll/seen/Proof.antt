@@ -2,7 +2,6 @@
 use Rattle.hardware.specs.Poll.{accessPoll, pollNext, polled, restPoll, validPoll, validPollNext}
 use Rattle.hardware.specs.Prog.{_>>=_, erase, orErr, pick}
 use Rattle.hardware.specs.Registers.{word}
-use Rattle.hardware.specs.Runs.{given}
 use borrow.Author.Needs.{needs}
 use borrow.Author.Tests.{lt-ltb}
 use mathlib.Core.Path.{refl}

@@ -2,8 +2,6 @@
 use Rattle.hardware.proofs.Laws.{below}
 use Rattle.hardware.specs.Poll.{restPoll, validPoll}
 use Rattle.hardware.specs.Prog.{fed}
-use Rattle.hardware.specs.Registers.{read}
-use Rattle.hardware.specs.Runs.{given}
 use borrow.Author.Needs.{needs}
 use borrow.Author.Tests.{ltb-true}
 use Rattle.hardware.proofs.poll.step.Statement.{statement}

@@ -1,6 +1,5 @@
 -- `command_on` meets its contract.
 use Rattle.hostif.specs.Calls.{asked, saidCommand, standsCommand, stepped}
-use Rattle.sync.specs.Resource.{taken}
 use borrow.Author.Needs.{needs}
 use mathlib.Core.Path.{_∙_, sym}
 use Rattle.hostif.proofs.calls.command_on.Statement.{statement}

@@ -1,9 +1,7 @@
 -- `command_open` meets its contract.
 use Rattle.hardware.proofs.Laws.{opened-valid}
 use Rattle.hardware.specs.Asked.{portOpened}
-use Rattle.hardware.specs.Runs.{given}
 use Rattle.hostif.specs.Calls.{asked, goes, openCommand, openedBlock, saidCommand, standsCommand}
-use Rattle.sync.specs.Resource.{taken}
 use borrow.Author.Needs.{needs}
 use mathlib.Core.Path.{_∙_, ap, refl}
 use Rattle.hostif.proofs.calls.command_open.Statement.{statement}

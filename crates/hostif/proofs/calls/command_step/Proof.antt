@@ -1,8 +1,6 @@
 -- `command_step` meets its contract.
-use Rattle.hardware.specs.Runs.{given}
 use Rattle.hostif.proofs.Laws.{block-fits}
 use Rattle.hostif.specs.Calls.{asked, saidCommand, standsCommand, stepCommand, stepped}
-use Rattle.sync.specs.Resource.{taken}
 use borrow.Author.Needs.{needs}
 use mathlib.Core.Path.{_∙_, refl, sym}
 use Rattle.hostif.proofs.calls.command_step.Statement.{statement}

@@ -1,5 +1,4 @@
 -- `command_told` meets its contract.
-use Rattle.hardware.specs.Runs.{given}
 use Rattle.hostif.specs.Calls.{saidCommand, standsCommand}
 use Rattle.hostif.specs.Hostif.{commandNext, validCommandNext}
 use borrow.Author.Needs.{needs}

@@ -1,7 +1,6 @@
 -- `fits` meets its contract.
 use Rattle.hardware.specs.Prog.{pick}
 use Rattle.hostif.specs.Calls.{blockFits}
-use Rattle.sync.specs.Resource.{taken}
 use borrow.Author.Tests.{le-leb, lt-leb}
 use Rattle.hostif.proofs.calls.fits.Statement.{statement}
 use Rattle.hostif.proofs.calls.fits.Tie as tie

@@ -1,7 +1,6 @@
 -- `token_open` meets its contract.
 use Rattle.hardware.proofs.Laws.{opened-valid}
 use Rattle.hardware.specs.Asked.{andThen, portOpened, yes}
-use Rattle.hardware.specs.Runs.{given}
 use Rattle.hostif.specs.Calls.{openToken, saidToken, standsToken}
 use borrow.Author.Needs.{needs}
 use mathlib.Core.Path.{_∙_, ap}

@@ -1,8 +1,6 @@
 -- `token_step` meets its contract.
 use Rattle.hardware.specs.Asked.{question, yes}
-use Rattle.hardware.specs.Runs.{given}
 use Rattle.hostif.specs.Calls.{saidToken, standsToken, stepToken}
-use Rattle.sync.specs.Resource.{taken}
 use borrow.Author.Needs.{needs}
 use mathlib.Core.Path.{_∙_, ap, sym}
 use Rattle.hostif.proofs.calls.token_step.Statement.{statement}

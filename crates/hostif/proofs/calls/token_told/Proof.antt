@@ -1,5 +1,4 @@
 -- `token_told` meets its contract.
-use Rattle.hardware.specs.Runs.{given}
 use Rattle.hostif.specs.Calls.{saidToken, standsToken}
 use Rattle.hostif.specs.Hostif.{tokenNext, validTokenNext}
 use borrow.Author.Needs.{needs}

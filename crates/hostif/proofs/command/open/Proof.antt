@@ -1,7 +1,6 @@
 -- `open` meets its contract.
 use Rattle.hardware.specs.Prog.{erase, over}
 use Rattle.hostif.specs.Hostif.{command}
-use Rattle.sync.specs.Regs.{tries}
 use Rattle.sync.specs.Resource.{acquireBits}
 use borrow.Author.Needs.{needs}
 use native.Mathlib.Omega.{arith}

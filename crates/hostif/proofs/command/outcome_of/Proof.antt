@@ -1,7 +1,6 @@
 -- `outcome_of` meets its contract.
 use Rattle.hardware.specs.Change.{accessUpdate, change, restUpdate}
 use Rattle.hardware.specs.Registers.{byte, flag, outcome, word}
-use Rattle.hardware.specs.Runs.{given}
 use Rattle.hostif.specs.Hostif.{acquired, both, closed, hicrRead, released, request, requested, respond, validCommand}
 use borrow.Author.Needs.{needs}
 use Rattle.hostif.proofs.command.outcome_of.Statement.{statement}

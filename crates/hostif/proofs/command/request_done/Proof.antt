@@ -2,7 +2,6 @@
 use Rattle.hardware.specs.Change.{accessUpdate, change, restUpdate}
 use Rattle.hardware.specs.Prog.{_>>=_, erase}
 use Rattle.hardware.specs.Registers.{byte, flag, outcome, word}
-use Rattle.hardware.specs.Runs.{given}
 use Rattle.hostif.specs.Hostif.{accessCommand, accessResponse, acquired, both, closed, commandNext, hicrRead, released, request, requested, respond, restCommand, restResponse, validCommand, validCommandNext, validResponse}
 use borrow.Author.Needs.{needs}
 use mathlib.Core.Path.{refl}

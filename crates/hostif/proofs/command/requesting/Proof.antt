@@ -2,7 +2,6 @@
 use Rattle.hardware.specs.Change.{accessUpdate, change, restUpdate}
 use Rattle.hardware.specs.Prog.{_>>=_, followed, going}
 use Rattle.hardware.specs.Registers.{byte, flag, outcome, word}
-use Rattle.hardware.specs.Runs.{given}
 use Rattle.hostif.specs.Hostif.{accessCommand, acquired, both, closed, commandNext, hicrRead, released, request, requestNext, requested, respond, restCommand, validCommand, validCommandNext, validRequestNext}
 use borrow.Author.Needs.{needs}
 use Rattle.hostif.proofs.command.requesting.Statement.{statement}

@@ -1,6 +1,5 @@
 -- `step` meets its contract.
 use Rattle.hardware.specs.Prog.{over}
-use Rattle.hardware.specs.Runs.{given}
 use Rattle.hostif.specs.Hostif.{restCommand, validCommand}
 use borrow.Author.Needs.{needs}
 use mathlib.Core.Path.{refl}

@@ -1,5 +1,4 @@
 -- `valid` meets its contract.
-use Rattle.hardware.specs.Runs.{given}
 use Rattle.hostif.specs.Hostif.{validCommand}
 use borrow.Author.Needs.{needs}
 use Rattle.hostif.proofs.command.valid.Statement.{statement}

@@ -1,5 +1,4 @@
 -- `access` meets its contract.
-use Rattle.hardware.specs.Runs.{given}
 use Rattle.hostif.specs.Hostif.{accessRequest}
 use borrow.Author.Needs.{needs}
 use Rattle.hostif.proofs.request.access.Statement.{statement}

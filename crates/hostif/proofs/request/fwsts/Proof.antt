@@ -2,7 +2,6 @@
 use Rattle.hardware.specs.Change.{accessUpdate, change, restUpdate, updateNext}
 use Rattle.hardware.specs.Prog.{_>>=_, erase, followed, going, orErr}
 use Rattle.hardware.specs.Registers.{outcome, word}
-use Rattle.hardware.specs.Runs.{given}
 use Rattle.hostif.specs.Hostif.{accessRequest, enabled, hicrRead, request, requestNext, restRequest, start, validRequest, validRequestNext, words}
 use borrow.Author.Needs.{needs}
 use mathlib.Core.Path.{refl}

@@ -2,10 +2,8 @@
 use Rattle.hardware.specs.Change.{accessUpdate, change, restUpdate}
 use Rattle.hardware.specs.Prog.{erase, orErr, pick}
 use Rattle.hardware.specs.Registers.{word}
-use Rattle.hardware.specs.Runs.{given}
 use Rattle.hostif.proofs.Laws.{first-word, words-at, words-none}
 use Rattle.hostif.specs.Hostif.{enabled, hicrRead, request, requestNext, start, validRequest, validRequestNext, words}
-use Rattle.sync.specs.Resource.{taken}
 use borrow.Author.Needs.{needs}
 use mathlib.Core.Path.{refl}
 use native.Mathlib.Omega.{arith}

@@ -1,8 +1,5 @@
 -- `step` meets its contract.
-use Rattle.hardware.specs.Poll.{poll}
 use Rattle.hardware.specs.Prog.{fed, over}
-use Rattle.hardware.specs.Registers.{read, write, written}
-use Rattle.hardware.specs.Runs.{given}
 use Rattle.hostif.specs.Hostif.{POLLS, restRequest, validRequest}
 use borrow.Author.Needs.{needs}
 use Rattle.hostif.proofs.request.step.Statement.{statement}

@@ -1,6 +1,5 @@
 -- `valid` meets its contract.
 use Rattle.hardware.specs.Prog.{pick}
-use Rattle.hardware.specs.Runs.{given}
 use Rattle.hostif.specs.Hostif.{validRequest}
 use borrow.Author.Needs.{needs}
 use Rattle.hostif.proofs.request.valid.Statement.{statement}

@@ -2,10 +2,8 @@
 use Rattle.hardware.specs.Change.{accessUpdate, change, restUpdate}
 use Rattle.hardware.specs.Prog.{erase, orErr}
 use Rattle.hardware.specs.Registers.{outcome, word}
-use Rattle.hardware.specs.Runs.{given}
 use Rattle.hostif.proofs.Laws.{words-at, words-none}
 use Rattle.hostif.specs.Hostif.{enabled, hicrRead, request, requestNext, start, validRequest, validRequestNext, words}
-use Rattle.sync.specs.Resource.{taken}
 use borrow.Author.Needs.{needs}
 use borrow.Author.Tests.{lt-ltb}
 use mathlib.Core.Path.{refl}

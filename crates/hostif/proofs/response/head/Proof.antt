@@ -1,10 +1,8 @@
 -- `head` meets its contract.
 use Rattle.hardware.specs.Prog.{erase, pick}
 use Rattle.hardware.specs.Registers.{byte, word}
-use Rattle.hardware.specs.Runs.{given}
 use Rattle.hostif.proofs.Laws.{words-fit}
-use Rattle.hostif.specs.Hostif.{headSeen, responseNext, statusOf, validResponse, validResponseNext, words, wordsOf}
-use Rattle.sync.specs.Resource.{taken}
+use Rattle.hostif.specs.Hostif.{headSeen, responseNext, statusOf, validResponse, validResponseNext, wordsOf}
 use borrow.Author.Needs.{needs}
 use borrow.Author.Tests.{le-ltb, lt-ltb}
 use mathlib.Core.Path.{refl}

@@ -4,7 +4,6 @@ use Rattle.hardware.specs.Prog.{erase, pick}
 use Rattle.hardware.specs.Registers.{byte}
 use Rattle.hostif.proofs.Laws.{fill-more}
 use Rattle.hostif.specs.Hostif.{fill, responseNext, validResponse, validResponseNext}
-use Rattle.sync.specs.Resource.{taken}
 use borrow.Author.Needs.{needs}
 use borrow.Author.Tests.{lt-ltb}
 use mathlib.Core.Path.{refl}

@@ -1,7 +1,6 @@
 -- `rest` meets its contract.
 use Rattle.hardware.specs.Prog.{erase}
 use Rattle.hardware.specs.Registers.{byte, word}
-use Rattle.hardware.specs.Runs.{given}
 use Rattle.hostif.specs.Hostif.{responseNext, statusOf, validResponse, validResponseNext, wordSeen, wordsOf}
 use borrow.Author.Needs.{needs}
 use mathlib.Core.Path.{refl}

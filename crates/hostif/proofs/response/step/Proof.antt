@@ -1,5 +1,4 @@
 -- `step` meets its contract.
-use Rattle.hardware.specs.Runs.{given}
 use Rattle.hostif.proofs.Laws.{rest-fits}
 use Rattle.hostif.specs.Hostif.{restResponse}
 use borrow.Author.Needs.{needs}

@@ -1,8 +1,6 @@
 -- `valid` meets its contract.
 use Rattle.hardware.specs.Prog.{pick}
-use Rattle.hardware.specs.Runs.{given}
-use Rattle.hostif.specs.Hostif.{validResponse, words}
-use Rattle.sync.specs.Resource.{taken}
+use Rattle.hostif.specs.Hostif.{validResponse}
 use borrow.Author.Needs.{needs}
 use borrow.Author.Tests.{le-ltb, lt-ltb}
 use Rattle.hostif.proofs.response.valid.Statement.{statement}

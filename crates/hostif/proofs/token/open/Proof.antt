@@ -1,7 +1,6 @@
 -- `open` meets its contract.
 use Rattle.hardware.specs.Prog.{over}
-use Rattle.hostif.specs.Hostif.{header, token, tokenBlock}
-use Rattle.sync.specs.Lock.{second}
+use Rattle.hostif.specs.Hostif.{token, tokenBlock}
 use borrow.Author.Needs.{needs}
 use Rattle.hostif.proofs.token.open.Statement.{statement}
 use Rattle.hostif.proofs.token.open.Tie as tie

@@ -1,7 +1,6 @@
 -- `second` meets its contract.
 use Rattle.hardware.specs.Prog.{pick}
 use Rattle.hostif.specs.Hostif.{header, tokenSecond, tokened, validToken}
-use Rattle.sync.specs.Resource.{taken}
 use borrow.Author.Needs.{needs}
 use Rattle.hostif.proofs.token.second.Statement.{statement}
 use Rattle.hostif.proofs.token.second.Tie as tie

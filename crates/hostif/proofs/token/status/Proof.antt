@@ -1,7 +1,6 @@
 -- `status` meets its contract.
 use Rattle.hardware.specs.Prog.{pick}
 use Rattle.hardware.specs.Registers.{byte, flag}
-use Rattle.hardware.specs.Runs.{given}
 use Rattle.hostif.specs.Hostif.{header, tokenStatus, tokened, validToken}
 use borrow.Author.Needs.{needs}
 use borrow.Author.Tests.{ne-eqb}

@@ -1,7 +1,6 @@
 -- `even` meets its contract.
 use Prim.Native.Nat.{_%_}
 use Rattle.i2c.specs.Calls.{evenDevice}
-use Rattle.script.specs.Script.{device}
 use borrow.Author.Needs.{needs}
 use lib.Dec.{eqb}
 use mathlib.Core.Path.{ap}

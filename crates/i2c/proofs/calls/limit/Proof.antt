@@ -1,5 +1,4 @@
 -- `limit` meets its contract.
-use Rattle.hardware.specs.Runs.{given}
 use Rattle.i2c.specs.Calls.{limitOf}
 use borrow.Author.Needs.{needs}
 use Rattle.i2c.proofs.calls.limit.Statement.{statement}

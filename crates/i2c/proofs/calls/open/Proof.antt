@@ -2,12 +2,9 @@
 use Rattle.hardware.proofs.Laws.{opened-valid}
 use Rattle.hardware.specs.Asked.{andThen, portOpened, question, yes}
 use Rattle.hardware.specs.Prog.{over-after}
-use Rattle.hardware.specs.Runs.{given}
 use Rattle.i2c.proofs.Laws.{limit-most, limit-room, upto}
 use Rattle.i2c.specs.Calls.{limitOf, openTransfer, saidTransfer, standsTransfer}
-use Rattle.i2c.specs.I2c.{attempts, transferred}
-use Rattle.sync.specs.Regs.{tries}
-use Rattle.sync.specs.Resource.{taken}
+use Rattle.i2c.specs.I2c.{transferred}
 use borrow.Author.Needs.{needs}
 use borrow.Author.Tests.{le-leb, lt-leb}
 use mathlib.Core.Path.{_∙_, ap, refl}

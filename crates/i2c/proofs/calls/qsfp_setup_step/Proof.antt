@@ -1,8 +1,6 @@
 -- `qsfp_setup_step` meets its contract.
 use Rattle.hardware.specs.Asked.{question, yes}
-use Rattle.hardware.specs.Runs.{given}
 use Rattle.i2c.specs.Calls.{saidSetup, standsSetup, stepSetup}
-use Rattle.sync.specs.Resource.{taken}
 use borrow.Author.Needs.{needs}
 use mathlib.Core.Path.{_∙_, ap}
 use Rattle.i2c.proofs.calls.qsfp_setup_step.Statement.{statement}

@@ -1,6 +1,5 @@
 -- `setup_told` meets its contract.
 use Rattle.hardware.specs.Change.{updateNext}
-use Rattle.hardware.specs.Runs.{given}
 use Rattle.i2c.specs.Calls.{saidSetup, standsSetup}
 use borrow.Author.Needs.{needs}
 use Rattle.i2c.proofs.calls.setup_told.Statement.{statement}

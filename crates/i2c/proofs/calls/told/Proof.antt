@@ -1,7 +1,6 @@
 -- `told` meets its contract.
 use Rattle.hardware.specs.Asked.{yes}
 use Rattle.hardware.specs.Prog.{_>>=_, after, going-after, tally}
-use Rattle.hardware.specs.Runs.{given}
 use Rattle.i2c.specs.Calls.{restCall, saidTransfer, standsTransfer}
 use Rattle.i2c.specs.I2c.{givesValue}
 use Rattle.i2c.specs.Moves.{movesNext, validMovesNext}

@@ -1,10 +1,8 @@
 -- `transfer_step` meets its contract.
 use Rattle.hardware.specs.Asked.{question, yes}
 use Rattle.hardware.specs.Prog.{over-after}
-use Rattle.hardware.specs.Runs.{given}
 use Rattle.i2c.proofs.Laws.{limit-most}
 use Rattle.i2c.specs.Calls.{limitOf, restCall, saidTransfer, standsTransfer, stepTransfer}
-use Rattle.sync.specs.Resource.{taken}
 use borrow.Author.Needs.{needs}
 use mathlib.Core.Path.{_∙_, ap, refl, sym}
 use Rattle.i2c.proofs.calls.transfer_step.Statement.{statement}

@@ -1,5 +1,4 @@
 -- `tries` meets its contract.
-use Rattle.hardware.specs.Runs.{given}
 use Rattle.i2c.specs.Calls.{triesOf}
 use borrow.Author.Needs.{needs}
 use Rattle.i2c.proofs.calls.tries.Statement.{statement}

@@ -1,6 +1,5 @@
 -- `access` meets its contract.
 use Rattle.hardware.specs.Registers.{micros}
-use Rattle.hardware.specs.Runs.{given}
 use Rattle.hardware.specs.declared.Access.the-variants.{Wait}
 use Rattle.i2c.specs.Moves.{accessMoves}
 use borrow.Author.Needs.{needs}

@@ -2,9 +2,8 @@
 use Rattle.hardware.specs.Change.{accessUpdate, change, restUpdate}
 use Rattle.hardware.specs.Prog.{_>>=_, pick, tally}
 use Rattle.i2c.specs.I2c.{givenBus}
-use Rattle.i2c.specs.Moves.{accessMoves, closing, madeOf, movesNext, restMoves, shakes, validMoves, validMovesNext}
+use Rattle.i2c.specs.Moves.{accessMoves, closing, madeOf, movesNext, restMoves, validMoves, validMovesNext}
 use Rattle.sync.specs.Lock.{lock}
-use Rattle.sync.specs.Resource.{taken}
 use borrow.Author.Needs.{needs}
 use borrow.Author.Tests.{le-leb}
 use Rattle.i2c.proofs.moves.close.Statement.{statement}

@@ -1,7 +1,6 @@
 -- `enter` meets its contract.
 use Rattle.hardware.specs.Prog.{over-after}
 use Rattle.i2c.specs.Moves.{entered}
-use Rattle.sync.specs.Lock.{lock}
 use borrow.Author.Needs.{needs}
 use Rattle.i2c.proofs.moves.enter.Statement.{statement}
 use Rattle.i2c.proofs.moves.enter.Tie as tie

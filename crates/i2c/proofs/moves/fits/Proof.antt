@@ -1,5 +1,4 @@
 -- `fits` meets its contract.
-use Rattle.i2c.specs.Tries.{wanted}
 use borrow.Author.Needs.{needs}
 use Rattle.i2c.proofs.moves.fits.Statement.{statement}
 use Rattle.i2c.proofs.moves.fits.Tie as tie

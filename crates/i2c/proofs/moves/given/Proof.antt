@@ -2,7 +2,6 @@
 use Rattle.hardware.specs.Change.{updateNext}
 use Rattle.hardware.specs.Prog.{_>>=_, erase, followed, going-tally, orErr, tally}
 use Rattle.hardware.specs.Registers.{outcome}
-use Rattle.hardware.specs.Runs.{given}
 use Rattle.i2c.specs.Moves.{accessMoves, madeOf, movesNext, restMoves, validMoves, validMovesNext}
 use Rattle.sync.specs.Lock.{lock}
 use Rattle.transfer.specs.Attempt.{got}

@@ -1,15 +1,11 @@
 -- `grant` meets its contract.
 use Prim.Native.Nat.{_-_}
 use Rattle.bus.proofs.Laws.{picked}
-use Rattle.bus.specs.Bus.{close}
 use Rattle.hardware.specs.Prog.{_>>=_, orErr, pick, tally}
 use Rattle.i2c.proofs.Laws.{granted-more}
 use Rattle.i2c.specs.I2c.{granted}
 use Rattle.i2c.specs.Moves.{awaitingGrant, onGranted, validMoves, validMovesNext}
-use Rattle.script.specs.Script.{device}
 use Rattle.sync.specs.Lock.{lock}
-use Rattle.sync.specs.Regs.{tries}
-use Rattle.sync.specs.Resource.{taken}
 use Rattle.transfer.specs.Attempt.{got}
 use borrow.Author.Needs.{needs}
 use borrow.Author.Tests.{le-leb, lt-ltb}

@@ -1,7 +1,5 @@
 -- `inside` meets its contract.
-use Rattle.bus.specs.Bus.{close}
 use Rattle.hardware.specs.Prog.{_>>=_, after, going-after}
-use Rattle.hardware.specs.Runs.{given}
 use Rattle.i2c.specs.Moves.{accessMoves, madeOf, movesNext, restMoves, validMoves, validMovesNext}
 use Rattle.i2c.specs.Tries.{triesNext, validTriesNext}
 use Rattle.sync.specs.Lock.{lock}

@@ -2,10 +2,8 @@
 use Rattle.bus.proofs.Laws.{picked}
 use Rattle.hardware.specs.Prog.{_>>=_, orErr, pick, tally}
 use Rattle.hardware.specs.Registers.{word}
-use Rattle.hardware.specs.Runs.{given}
 use Rattle.i2c.specs.I2c.{granting}
 use Rattle.i2c.specs.Moves.{accessMoves, awaitingGrant, entered, lookedAt, madeOf, movesNext, onGranted, restMoves, validMoves, validMovesNext}
-use Rattle.sync.specs.Resource.{taken}
 use Rattle.transfer.specs.Attempt.{got}
 use borrow.Author.Needs.{needs}
 use borrow.Author.Tests.{le-leb, lt-ltb}

@@ -1,10 +1,7 @@
 -- `open` meets its contract.
 use Rattle.hardware.specs.Prog.{tally}
 use Rattle.i2c.proofs.Laws.{no-shake, shake-open}
-use Rattle.i2c.specs.Moves.{shakes, validMoves, validMovesNext}
-use Rattle.sync.specs.Lock.{lock}
-use Rattle.sync.specs.Regs.{tries}
-use Rattle.sync.specs.Resource.{taken}
+use Rattle.i2c.specs.Moves.{validMoves, validMovesNext}
 use borrow.Author.Needs.{needs}
 use borrow.Author.Tests.{le-leb}
 use mathlib.Core.Path.{_∙_, ap, sym}

@@ -1,6 +1,4 @@
 -- `shakes` meets its contract.
-use Rattle.hardware.specs.Runs.{given}
-use Rattle.i2c.specs.I2c.{qsfp}
 use Rattle.i2c.specs.Moves.{shakes}
 use borrow.Author.Needs.{needs}
 use Rattle.i2c.proofs.moves.shakes.Statement.{statement}

@@ -1,12 +1,8 @@
 -- `step` meets its contract.
 use Rattle.bus.proofs.Laws.{picked-first, picked-second}
 use Rattle.hardware.specs.Prog.{over-after, over-tally}
-use Rattle.hardware.specs.Registers.{read}
-use Rattle.hardware.specs.Runs.{given}
-use Rattle.hostif.specs.Calls.{asked}
 use Rattle.i2c.proofs.Laws.{less, upto}
 use Rattle.i2c.specs.Moves.{madeOf, restMoves, validMoves}
-use Rattle.sync.specs.Lock.{lock}
 use borrow.Author.Needs.{needs}
 use borrow.Author.Tests.{leb-true, ltb-true}
 use Rattle.i2c.proofs.moves.step.Statement.{statement}

@@ -1,5 +1,4 @@
 -- `valid` meets its contract.
-use Rattle.hardware.specs.Runs.{given}
 use Rattle.i2c.specs.Moves.{validMoves}
 use borrow.Author.Needs.{needs}
 use Rattle.i2c.proofs.moves.valid.Statement.{statement}

@@ -1,6 +1,5 @@
 -- `valid_looks` meets its contract.
 use Rattle.hardware.specs.Prog.{pick}
-use Rattle.sync.specs.Resource.{taken}
 use borrow.Author.Needs.{needs}
 use Rattle.i2c.proofs.moves.valid_looks.Statement.{statement}
 use Rattle.i2c.proofs.moves.valid_looks.Tie as tie

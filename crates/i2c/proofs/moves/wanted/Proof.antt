@@ -1,7 +1,6 @@
 -- `wanted` meets its contract.
 use Rattle.hardware.specs.Prog.{pick}
 use Rattle.i2c.specs.Tries.{wanted}
-use Rattle.sync.specs.Resource.{taken}
 use borrow.Author.Needs.{needs}
 use Rattle.i2c.proofs.moves.wanted.Statement.{statement}
 use Rattle.i2c.proofs.moves.wanted.Tie as tie

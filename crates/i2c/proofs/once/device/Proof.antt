@@ -1,5 +1,4 @@
 -- `device` meets its contract.
-use Rattle.hardware.specs.Runs.{given}
 use Rattle.i2c.specs.I2c.{deviceOf}
 use borrow.Author.Needs.{needs}
 use Rattle.i2c.proofs.once.device.Statement.{statement}

@@ -1,5 +1,4 @@
 -- `failed` meets its contract.
-use Rattle.hardware.specs.Runs.{given}
 use Rattle.i2c.specs.I2c.{failedI2c}
 use Rattle.transfer.specs.Attempt.{got}
 use borrow.Author.Needs.{needs}

@@ -1,5 +1,4 @@
 -- `is_write` meets its contract.
-use Rattle.hardware.specs.Runs.{given}
 use Rattle.i2c.specs.I2c.{isWrite}
 use borrow.Author.Needs.{needs}
 use Rattle.i2c.proofs.once.is_write.Statement.{statement}

@@ -1,5 +1,4 @@
 -- `step` meets its contract.
-use Rattle.hardware.specs.Runs.{given}
 use Rattle.i2c.proofs.Laws.{on-start}
 use Rattle.i2c.specs.I2c.{deviceOf, scriptOf}
 use Rattle.transfer.specs.Transfer.{silent}

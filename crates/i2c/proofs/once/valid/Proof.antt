@@ -1,5 +1,4 @@
 -- `valid` meets its contract.
-use Rattle.hardware.specs.Runs.{given}
 use Rattle.i2c.specs.I2c.{scriptOf}
 use borrow.Author.Needs.{needs}
 use Rattle.i2c.proofs.once.valid.Statement.{statement}

@@ -1,6 +1,5 @@
 -- `value` meets its contract.
 use Rattle.hardware.specs.Registers.{word}
-use Rattle.hardware.specs.Runs.{given}
 use Rattle.i2c.specs.I2c.{read-off, valueOf}
 use Rattle.transfer.specs.Attempt.{got}
 use borrow.Author.Needs.{needs}

@@ -1,8 +1,6 @@
 -- `access` meets its contract.
 use Rattle.hardware.specs.Registers.{micros}
-use Rattle.hardware.specs.Runs.{given}
 use Rattle.hardware.specs.declared.Access.the-variants.{Wait}
-use Rattle.i2c.specs.I2c.{mask}
 use Rattle.i2c.specs.Tries.{accessStage, accessTries}
 use borrow.Author.Needs.{needs}
 use mathlib.Core.Path.{ap}

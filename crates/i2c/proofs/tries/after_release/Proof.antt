@@ -1,7 +1,6 @@
 -- `after_release` meets its contract.
 use Rattle.hardware.specs.Prog.{pick, tally}
 use Rattle.i2c.specs.Tries.{afterRelease, triesNext, validTriesNext}
-use Rattle.sync.specs.Resource.{taken}
 use borrow.Author.Needs.{needs}
 use borrow.Author.Tests.{le-leb}
 use mathlib.Core.Path.{_∙_, sym}

@@ -1,8 +1,6 @@
 -- `after_try` meets its contract.
 use Rattle.hardware.specs.Prog.{tally}
 use Rattle.i2c.proofs.Laws.{read-done}
-use Rattle.sync.specs.Lock.{lock}
-use Rattle.sync.specs.Resource.{taken}
 use Rattle.transfer.specs.Attempt.{got}
 use borrow.Author.Needs.{needs}
 use mathlib.Core.Path.{_∙_, ap, sym}

@@ -2,9 +2,6 @@
 use Rattle.hardware.specs.Prog.{tally}
 use Rattle.i2c.proofs.Laws.{again-more}
 use Rattle.i2c.specs.Tries.{triesLeft, triesNext, validTriesNext}
-use Rattle.script.specs.Script.{device}
-use Rattle.sync.specs.Lock.{lock}
-use Rattle.sync.specs.Resource.{taken}
 use Rattle.transfer.specs.Attempt.{got}
 use borrow.Author.Needs.{needs}
 use borrow.Author.Tests.{le-leb}

@@ -1,13 +1,11 @@
 -- `give_back` meets its contract.
 use Rattle.hostif.specs.Acquire.{release}
 use Rattle.hardware.specs.Prog.{over-tally, tally}
-use Rattle.hostif.specs.Hostif.{released}
 use Rattle.i2c.proofs.Laws.{when-no, when-yes}
 use Rattle.i2c.proofs.Masks.{given-first}
 use Rattle.i2c.specs.I2c.{mask}
 use Rattle.i2c.specs.Tries.{afterRelease, backThen}
-use Rattle.sync.specs.Lock.{lock}
-use Rattle.sync.specs.Resource.{releaseBits, taken}
+use Rattle.sync.specs.Resource.{releaseBits}
 use Rattle.transfer.specs.Attempt.{got}
 use borrow.Author.Needs.{needs}
 use mathlib.Core.Path.{_∙_, ap}

@@ -3,10 +3,8 @@ use Rattle.hardware.specs.Prog.{_>>=_, ask, orErr, pick, tally}
 use Rattle.hardware.specs.Registers.{micros}
 use Rattle.hardware.specs.declared.Access.the-variants.{Wait}
 use Rattle.i2c.proofs.Laws.{tries-reads}
-use Rattle.i2c.specs.I2c.{pauses, readJudged}
+use Rattle.i2c.specs.I2c.{readJudged}
 use Rattle.i2c.specs.Tries.{accessStage, accessTries, restStage, restTries, triesNext, validStage, validTries, validTriesNext}
-use Rattle.sync.specs.Lock.{lock}
-use Rattle.sync.specs.Resource.{taken}
 use borrow.Author.Needs.{needs}
 use borrow.Author.Tests.{le-leb}
 use mathlib.Core.Path.{_∙_, ap}

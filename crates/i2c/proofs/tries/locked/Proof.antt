@@ -1,14 +1,11 @@
 -- `locked` meets its contract.
 use Rattle.hostif.specs.Acquire.{acquire}
 use Rattle.hardware.specs.Prog.{over-tally, tally}
-use Rattle.hostif.specs.Hostif.{acquired}
 use Rattle.i2c.proofs.Laws.{when-no, when-yes}
 use Rattle.i2c.proofs.Masks.{taken-first}
 use Rattle.i2c.specs.I2c.{mask}
 use Rattle.i2c.specs.Tries.{lockedTry, tryNow}
-use Rattle.sync.specs.Lock.{lock}
-use Rattle.sync.specs.Regs.{tries}
-use Rattle.sync.specs.Resource.{acquireBits, taken}
+use Rattle.sync.specs.Resource.{acquireBits}
 use borrow.Author.Needs.{needs}
 use mathlib.Core.Path.{_∙_, ap}
 use native.Mathlib.Omega.{arith}

@@ -2,9 +2,6 @@
 use Rattle.hardware.specs.Prog.{pick, tally}
 use Rattle.i2c.proofs.Laws.{read-open, tries-reads, write-open}
 use Rattle.i2c.specs.Tries.{wanted}
-use Rattle.sync.specs.Lock.{lock}
-use Rattle.sync.specs.Regs.{tries}
-use Rattle.sync.specs.Resource.{taken}
 use borrow.Author.Needs.{needs}
 use mathlib.Core.Path.{_∙_, ap, sym}
 use native.Mathlib.Omega.{arith}

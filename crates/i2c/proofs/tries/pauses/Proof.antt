@@ -1,5 +1,4 @@
 -- `pauses` meets its contract.
-use Rattle.hardware.specs.Runs.{given}
 use Rattle.i2c.specs.I2c.{pauses}
 use borrow.Author.Needs.{needs}
 use Rattle.i2c.proofs.tries.pauses.Statement.{statement}

@@ -2,7 +2,6 @@
 use Rattle.bus.proofs.Laws.{picked}
 use Rattle.hardware.specs.Prog.{_>>=_, erase, followed, going-tally, orErr, tally, tally-erase}
 use Rattle.hardware.specs.Registers.{outcome}
-use Rattle.hardware.specs.Runs.{given}
 use Rattle.i2c.specs.Tries.{accessStage, accessTries, restStage, restTries, triesNext, validStage, validTries, validTriesNext}
 use Rattle.sync.specs.Resource.{releaseBitsNext, validReleaseBitsNext}
 use Rattle.transfer.specs.Attempt.{got}

@@ -2,13 +2,8 @@
 use Prim.Native.Nat.{_+_}
 use Rattle.bus.proofs.Laws.{picked-first, picked-second}
 use Rattle.hardware.specs.Prog.{over-tally}
-use Rattle.hardware.specs.Runs.{given}
-use Rattle.hostif.specs.Hostif.{acquired, released}
 use Rattle.i2c.proofs.Laws.{room, strict-room}
-use Rattle.i2c.specs.I2c.{mask}
 use Rattle.i2c.specs.Tries.{restStage, restTries, validStage, validTries}
-use Rattle.sync.specs.Lock.{lock}
-use Rattle.transfer.specs.Attempt.{tried}
 use borrow.Author.Needs.{needs}
 use borrow.Author.Tests.{leb-true, ltb-true}
 use native.Mathlib.Omega.{arith}

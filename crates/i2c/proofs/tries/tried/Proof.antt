@@ -1,7 +1,6 @@
 -- `tried` meets its contract.
 use Rattle.bus.proofs.Laws.{picked}
 use Rattle.hardware.specs.Prog.{_>>=_, followed, going-tally, tally-erase}
-use Rattle.hardware.specs.Runs.{given}
 use Rattle.i2c.specs.Tries.{accessStage, accessTries, restStage, restTries, triesNext, validStage, validTries, validTriesNext}
 use Rattle.transfer.specs.Attempt.{attemptNext, awaiting, validAttemptNext}
 use Rattle.transfer.specs.Transfer.{tells}

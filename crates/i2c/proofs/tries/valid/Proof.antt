@@ -1,9 +1,6 @@
 -- `valid` meets its contract.
-use Rattle.hardware.proofs.Laws.{below}
 use Rattle.hardware.specs.Prog.{pick}
-use Rattle.hardware.specs.Runs.{given}
 use Rattle.i2c.specs.Tries.{validStage, validTries}
-use Rattle.sync.specs.Resource.{taken}
 use borrow.Author.Needs.{needs}
 use Rattle.i2c.proofs.tries.valid.Statement.{statement}
 use Rattle.i2c.proofs.tries.valid.Tie as tie

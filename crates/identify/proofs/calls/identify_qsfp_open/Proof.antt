@@ -2,7 +2,6 @@
 use Rattle.hardware.proofs.Laws.{opened-valid}
 use Rattle.hardware.specs.Asked.{andThen, portOpened, yes}
 use Rattle.hardware.specs.Prog.{pick}
-use Rattle.hardware.specs.Runs.{given}
 use Rattle.identify.specs.Calls.{openQsfp, saidIdentify, standsIdentify}
 use Rattle.identify.specs.Place.{capAt, offsetAt, onAt, placed, probesAt, triesAt, validPlace}
 use Rattle.sfp.specs.Qsfp.{identifyQsfp}

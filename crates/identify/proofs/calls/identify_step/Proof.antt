@@ -1,8 +1,6 @@
 -- `identify_step` meets its contract.
 use Rattle.hardware.specs.Asked.{question, yes}
-use Rattle.hardware.specs.Runs.{given}
 use Rattle.identify.specs.Calls.{saidIdentify, standsIdentify, stepIdentify}
-use Rattle.sync.specs.Resource.{taken}
 use borrow.Author.Needs.{needs}
 use mathlib.Core.Path.{_∙_, ap, sym}
 use Rattle.identify.proofs.calls.identify_step.Statement.{statement}

@@ -1,5 +1,4 @@
 -- `told` meets its contract.
-use Rattle.hardware.specs.Runs.{given}
 use Rattle.identify.specs.Calls.{saidIdentify, standsIdentify}
 use Rattle.identify.specs.Walk.{identifyNext, validIdentifyNext}
 use borrow.Author.Needs.{needs}

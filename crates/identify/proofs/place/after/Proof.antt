@@ -1,5 +1,4 @@
 -- `after` meets its contract.
-use Rattle.hardware.specs.Runs.{given}
 use Rattle.i2c.specs.I2c.{read-off, valueOf}
 use Rattle.identify.specs.Place.{requestAt, toldAt}
 use Rattle.sfp.specs.Identify.{orAbsent}

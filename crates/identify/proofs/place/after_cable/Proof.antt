@@ -3,7 +3,6 @@ use Rattle.hardware.specs.Prog.{pick}
 use Rattle.identify.specs.Place.{Later, capAt, kinded, offsetAt, onAt, onward, placed, probesAt, triesAt, validPlace}
 use Rattle.sfp.specs.Bytes.{codesAskRate}
 use Rattle.sfp.specs.Identify.{bx10gOf, classify}
-use Rattle.sync.specs.Resource.{taken}
 use borrow.Author.Needs.{needs}
 use mathlib.Core.Path.{refl}
 use native.Mathlib.Omega.{arith}

@@ -2,7 +2,6 @@
 use Rattle.hardware.specs.Prog.{pick}
 use Rattle.identify.specs.Place.{Later, capAt, offsetAt, onAt, onward, placed, probesAt, triesAt, validPlace}
 use Rattle.sfp.specs.Qsfp.{qsfpConnector}
-use Rattle.sync.specs.Resource.{taken}
 use borrow.Author.Needs.{needs}
 use borrow.Author.Tests.{ne-eqb}
 use mathlib.Core.Path.{refl}

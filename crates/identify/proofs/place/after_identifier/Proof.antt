@@ -2,8 +2,7 @@
 use Rattle.hardware.specs.Prog.{pick}
 use Rattle.identify.proofs.Laws.{cap-again, cap-first, placed-again}
 use Rattle.identify.specs.Place.{Later, offsetAt, onAt, onward, placed, probesAt, triesAt, validPlace}
-use Rattle.sfp.specs.Identify.{identified, identifierOf, known, other}
-use Rattle.sync.specs.Resource.{taken}
+use Rattle.sfp.specs.Identify.{identified, identifierOf, known}
 use borrow.Author.Needs.{needs}
 use borrow.Author.Tests.{ne-eqb}
 use mathlib.Core.Path.{refl, sym}

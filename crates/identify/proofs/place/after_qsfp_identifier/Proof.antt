@@ -1,9 +1,7 @@
 -- `after_qsfp_identifier` meets its contract.
 use Rattle.hardware.specs.Prog.{pick}
 use Rattle.identify.specs.Place.{Later, capAt, offsetAt, onAt, onward, placed, probesAt, triesAt, validPlace}
-use Rattle.sfp.specs.Identify.{other}
 use Rattle.sfp.specs.Qsfp.{qsfpIdentified, qsfpKnown}
-use Rattle.sync.specs.Resource.{taken}
 use borrow.Author.Needs.{needs}
 use borrow.Author.Tests.{ne-eqb}
 use mathlib.Core.Path.{refl}

@@ -1,8 +1,7 @@
 -- `after_rate` meets its contract.
 use Rattle.hardware.specs.Prog.{pick}
-use Rattle.identify.specs.Place.{Later, capAt, kinded, offsetAt, onAt, onward, placed, probesAt, triesAt, validPlace}
+use Rattle.identify.specs.Place.{Later, capAt, offsetAt, onAt, onward, placed, probesAt, triesAt, validPlace}
 use Rattle.sfp.specs.Identify.{reachOf}
-use Rattle.sync.specs.Resource.{taken}
 use borrow.Author.Needs.{needs}
 use borrow.Author.Tests.{ne-eqb}
 use mathlib.Core.Path.{refl}

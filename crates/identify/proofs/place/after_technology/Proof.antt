@@ -2,7 +2,6 @@
 use Rattle.hardware.specs.Prog.{pick}
 use Rattle.identify.specs.Place.{onAt}
 use Rattle.sfp.specs.Qsfp.{qsfpTechnology}
-use Rattle.sync.specs.Resource.{taken}
 use borrow.Author.Needs.{needs}
 use borrow.Author.Tests.{ne-eqb}
 use Rattle.identify.proofs.place.after_technology.Statement.{statement}

@@ -1,8 +1,6 @@
 -- `cap` meets its contract.
 use Rattle.hardware.specs.Prog.{pick}
-use Rattle.hardware.specs.Runs.{given}
 use Rattle.identify.specs.Place.{capAt}
-use Rattle.sync.specs.Resource.{taken}
 use borrow.Author.Needs.{needs}
 use borrow.Author.Tests.{le-ltb, lt-ltb}
 use Rattle.identify.proofs.place.cap.Statement.{statement}

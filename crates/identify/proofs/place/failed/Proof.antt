@@ -1,8 +1,7 @@
 -- `failed` meets its contract.
 use Rattle.hardware.specs.Prog.{Ok, pick, ret}
 use Rattle.identify.specs.Place.{Later, onward}
-use Rattle.sfp.specs.Identify.{absent, orAbsent}
-use Rattle.sync.specs.Resource.{taken}
+use Rattle.sfp.specs.Identify.{orAbsent}
 use borrow.Author.Needs.{needs}
 use mathlib.Core.Path.{ap}
 use Rattle.identify.proofs.place.failed.Statement.{statement}

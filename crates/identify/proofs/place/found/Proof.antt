@@ -1,7 +1,6 @@
 -- `found` meets its contract.
 use Rattle.hardware.specs.Prog.{Ok, ret}
 use Rattle.identify.specs.Place.{Later, onward}
-use Rattle.sfp.specs.Identify.{recorded}
 use borrow.Author.Needs.{needs}
 use mathlib.Core.Path.{ap}
 use Rattle.identify.proofs.place.found.Statement.{statement}

@@ -1,9 +1,7 @@
 -- `kinded` meets its contract.
 use Rattle.hardware.specs.Prog.{pick}
 use Rattle.identify.specs.Place.{Later, capAt, kinded, offsetAt, onAt, onward, placed, probesAt, triesAt, validPlace}
-use Rattle.sfp.specs.Classes.{has}
 use Rattle.sfp.specs.Identify.{kindBy}
-use Rattle.sync.specs.Resource.{taken}
 use borrow.Author.Needs.{needs}
 use mathlib.Core.Path.{refl}
 use Rattle.identify.proofs.place.kinded.Statement.{statement}

@@ -1,5 +1,4 @@
 -- `offset` meets its contract.
-use Rattle.hardware.specs.Runs.{given}
 use Rattle.identify.specs.Place.{offsetAt}
 use borrow.Author.Needs.{needs}
 use Rattle.identify.proofs.place.offset.Statement.{statement}

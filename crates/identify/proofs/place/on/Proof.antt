@@ -1,7 +1,6 @@
 -- `on` meets its contract.
 use Rattle.hardware.specs.Prog.{pick}
-use Rattle.hardware.specs.Runs.{given}
-use Rattle.identify.specs.Place.{Later, capAt, kinded, offsetAt, onAt, onward, placed, probesAt, triesAt, validPlace}
+use Rattle.identify.specs.Place.{Later, capAt, offsetAt, onAt, onward, placed, probesAt, triesAt, validPlace}
 use borrow.Author.Needs.{needs}
 use mathlib.Core.Path.{refl}
 use native.Mathlib.Omega.{arith}

@@ -1,5 +1,4 @@
 -- `probes` meets its contract.
-use Rattle.hardware.specs.Runs.{given}
 use Rattle.identify.specs.Place.{probesAt}
 use borrow.Author.Needs.{needs}
 use Rattle.identify.proofs.place.probes.Statement.{statement}

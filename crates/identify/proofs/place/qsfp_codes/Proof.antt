@@ -1,9 +1,7 @@
 -- `qsfp_codes` meets its contract.
 use Rattle.hardware.specs.Prog.{pick}
 use Rattle.identify.specs.Place.{Later, capAt, offsetAt, onAt, onward, placed, probesAt, triesAt, validPlace}
-use Rattle.sfp.specs.Classes.{has}
 use Rattle.sfp.specs.Qsfp.{qsfpClassify}
-use Rattle.sync.specs.Resource.{taken}
 use borrow.Author.Needs.{needs}
 use mathlib.Core.Path.{refl}
 use native.Mathlib.Omega.{arith}

@@ -1,9 +1,7 @@
 -- `tries` meets its contract.
 use Rattle.hardware.specs.Prog.{pick}
-use Rattle.i2c.specs.I2c.{attempts}
 use Rattle.identify.specs.Place.{triesAt}
 use Rattle.sfp.proofs.Ends.{attempts-few}
-use Rattle.sync.specs.Resource.{taken}
 use borrow.Author.Needs.{fits-under, needs}
 use native.Mathlib.Omega.{arith}
 use Rattle.identify.proofs.place.tries.Statement.{statement}

@@ -1,5 +1,4 @@
 -- `valid` meets its contract.
-use Rattle.hardware.specs.Runs.{given}
 use Rattle.identify.specs.Place.{validPlace}
 use borrow.Author.Needs.{needs}
 use Rattle.identify.proofs.place.valid.Statement.{statement}

@@ -1,6 +1,5 @@
 -- `conclude` meets its contract.
 use Rattle.hardware.specs.Prog.{tally}
-use Rattle.hardware.specs.Runs.{given}
 use Rattle.identify.specs.Place.{Later, onward}
 use Rattle.identify.specs.Walk.{foundOf, identifyNext, validIdentifyNext}
 use borrow.Author.Needs.{needs}

@@ -1,6 +1,5 @@
 -- `moved` meets its contract.
 use Rattle.hardware.specs.Prog.{_>>=_, after, going-after, pick, tally}
-use Rattle.hardware.specs.Runs.{given}
 use Rattle.i2c.specs.Moves.{movesNext, validMovesNext}
 use Rattle.identify.proofs.Laws.{cap-room}
 use Rattle.identify.specs.Walk.{accessIdentify, identifyNext, restIdentify, validIdentify, validIdentifyNext}

@@ -1,7 +1,6 @@
 -- `step` meets its contract.
 use Rattle.hardware.proofs.Laws.{both-true}
 use Rattle.hardware.specs.Prog.{over-after}
-use Rattle.hostif.specs.Hostif.{request}
 use Rattle.identify.proofs.Laws.{cap-most}
 use Rattle.identify.specs.Place.{capAt, validPlace}
 use Rattle.identify.specs.Walk.{restIdentify, validIdentify}

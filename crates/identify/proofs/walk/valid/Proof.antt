@@ -1,8 +1,6 @@
 -- `valid` meets its contract.
 use Rattle.hardware.specs.Prog.{pick}
-use Rattle.hostif.specs.Hostif.{request}
 use Rattle.identify.specs.Walk.{validIdentify}
-use Rattle.sync.specs.Resource.{taken}
 use borrow.Author.Needs.{needs}
 use Rattle.identify.proofs.walk.valid.Statement.{statement}
 use Rattle.identify.proofs.walk.valid.Tie as tie

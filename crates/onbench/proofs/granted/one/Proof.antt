@@ -1,9 +1,5 @@
 -- `one` meets its contract.
-use Rattle.bench.specs.Receiver.{at}
 use Rattle.bus.specs.Layout.{layoutOf}
-use Rattle.demand.proofs.Benched.{told}
-use Rattle.demand.specs.Claim.{visit}
-use Rattle.hardware.specs.Runs.{given}
 use Rattle.onbench.proofs.Laws.{granted-end, granted-refused, one-ask}
 use Rattle.onbench.specs.Run.{grantedOf}
 use borrow.Author.Needs.{needs}

@@ -1,10 +1,8 @@
 -- `play` meets its contract.
 use Rattle.bus.specs.Layout.{layoutOf}
-use Rattle.demand.proofs.Benched.{told}
 use Rattle.identify.specs.Calls.{saidIdentify, standsIdentify}
 use Rattle.onbench.proofs.Laws.{Keeps, granted-ends, keeps-first, keeps-next, keeps-stops}
 use Rattle.onbench.specs.Run.{Bounded, grantedOf}
-use Rattle.sync.specs.Resource.{taken}
 use borrow.Author.Needs.{needs}
 use mathlib.Core.Path.{refl}
 use Rattle.onbench.proofs.granted.play.Statement.{statement}

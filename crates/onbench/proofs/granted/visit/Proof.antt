@@ -1,9 +1,7 @@
 -- `visit` meets its contract.
 use Rattle.bench.specs.Receiver.{at}
 use Rattle.bus.specs.Layout.{layoutOf}
-use Rattle.bench.specs.Luck.{lucky}
 use Rattle.onbench.proofs.Laws.{granted-visit-away, granted-visit-here}
-use Rattle.sync.specs.Resource.{taken}
 use borrow.Author.Needs.{needs}
 use Rattle.onbench.proofs.granted.visit.Statement.{statement}
 use Rattle.onbench.proofs.granted.visit.Tie as tie

@@ -1,5 +1,4 @@
 -- `closed` meets its contract.
-use Rattle.hardware.specs.Runs.{given}
 use Rattle.script.specs.Script.{atEnd}
 use borrow.Author.Needs.{needs}
 use Rattle.script.proofs.cursor.closed.Statement.{statement}

@@ -1,5 +1,4 @@
 -- `follows` meets its contract.
-use Rattle.hardware.specs.Runs.{given}
 use Rattle.script.proofs.Laws.{free-wrong}
 use borrow.Author.Needs.{needs}
 use mathlib.Core.Path.{sym}

@@ -1,7 +1,7 @@
 -- `is_script` meets its contract.
 use Prim.Native.Nat.{_-_, _≤_}
 use Rattle.script.proofs.Laws.{commands-at, commands-past, next-in, next-less}
-use Rattle.script.specs.Script.{atEnd, commands, follows, isScript, walked}
+use Rattle.script.specs.Script.{atEnd, commands, isScript, walked}
 use Rattle.script.specs.declared.cursor.Where.the-variants.{Begin}
 use borrow.Author.Needs.{needs}
 use lib.ListN.{drop, length}

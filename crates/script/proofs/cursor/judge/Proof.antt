@@ -1,6 +1,6 @@
 -- `judge` meets its contract.
 use Rattle.hardware.specs.Prog.{pick}
-use Rattle.script.specs.Script.{complete, judged, judgedAs}
+use Rattle.script.specs.Script.{judged, judgedAs}
 use borrow.Author.Needs.{needs}
 use mathlib.Core.Path.{refl}
 use Rattle.script.proofs.cursor.judge.Statement.{statement}

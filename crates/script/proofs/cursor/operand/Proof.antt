@@ -1,5 +1,4 @@
 -- `operand` meets its contract.
-use Rattle.hardware.specs.Runs.{given}
 use Rattle.script.specs.Script.{operand}
 use borrow.Author.Needs.{needs}
 use Rattle.script.proofs.cursor.operand.Statement.{statement}

@@ -1,6 +1,5 @@
 -- `started` meets its contract.
 use Rattle.hardware.specs.Prog.{pick}
-use Rattle.hardware.specs.Runs.{given}
 use Rattle.script.specs.Script.{follows, leads}
 use borrow.Author.Needs.{needs}
 use Rattle.script.proofs.cursor.started.Statement.{statement}

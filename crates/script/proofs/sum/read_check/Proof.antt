@@ -1,5 +1,5 @@
 -- `read_check` meets its contract.
-use Rattle.script.specs.Sum.{checkByte, low, onesSum, onesSumFrom, readCheck}
+use Rattle.script.specs.Sum.{checkByte, onesSum, onesSumFrom, readCheck}
 use borrow.Author.Needs.{needs}
 use Rattle.script.proofs.sum.read_check.Statement.{statement}
 use Rattle.script.proofs.sum.read_check.Tie as tie

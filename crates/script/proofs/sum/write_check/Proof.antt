@@ -1,5 +1,5 @@
 -- `write_check` meets its contract.
-use Rattle.script.specs.Sum.{checkByte, high, low, onesSum, onesSumFrom, writeCheck}
+use Rattle.script.specs.Sum.{checkByte, onesSum, onesSumFrom, writeCheck}
 use borrow.Author.Needs.{needs}
 use Rattle.script.proofs.sum.write_check.Statement.{statement}
 use Rattle.script.proofs.sum.write_check.Tie as tie

@@ -1,6 +1,5 @@
 -- `read_combined_script` meets its contract.
 use Rattle.script.specs.Scripts.{readCombinedScript}
-use Rattle.script.specs.Sum.{low}
 use borrow.Author.Needs.{needs}
 use Rattle.script.proofs.write.read_combined_script.Statement.{statement}
 use Rattle.script.proofs.write.read_combined_script.Tie as tie

@@ -1,6 +1,5 @@
 -- `write_combined_script` meets its contract.
 use Rattle.script.specs.Scripts.{writeCombinedScript}
-use Rattle.script.specs.Sum.{high, low}
 use borrow.Author.Needs.{needs}
 use Rattle.script.proofs.write.write_combined_script.Statement.{statement}
 use Rattle.script.proofs.write.write_combined_script.Tie as tie

@@ -1,5 +1,4 @@
 -- `write_read_byte` meets its contract.
-use Rattle.hardware.specs.Registers.{write}
 use borrow.Author.Needs.{needs}
 use Rattle.script.proofs.write.write_read_byte.Statement.{statement}
 use Rattle.script.proofs.write.write_read_byte.Tie as tie

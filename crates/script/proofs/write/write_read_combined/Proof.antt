@@ -1,5 +1,4 @@
 -- `write_read_combined` meets its contract.
-use Rattle.hardware.specs.Registers.{write}
 use borrow.Author.Needs.{needs}
 use Rattle.script.proofs.write.write_read_combined.Statement.{statement}
 use Rattle.script.proofs.write.write_read_combined.Tie as tie

@@ -2,7 +2,6 @@
 use Rattle.hardware.proofs.Laws.{opened-valid}
 use Rattle.hardware.specs.Asked.{andThen, portOpened, yes}
 use Rattle.hardware.specs.Prog.{pick, tally}
-use Rattle.hardware.specs.Runs.{given}
 use Rattle.softrate.proofs.Laws.{first-placed}
 use Rattle.softrate.specs.Calls.{openRate, saidRate, standsRate}
 use Rattle.softrate.specs.Spot.{capAt, isReading, needAt, validSpot}

@@ -1,8 +1,6 @@
 -- `soft_rate_select_step` meets its contract.
 use Rattle.hardware.specs.Asked.{question, yes}
-use Rattle.hardware.specs.Runs.{given}
 use Rattle.softrate.specs.Calls.{saidRate, standsRate, stepRate}
-use Rattle.sync.specs.Resource.{taken}
 use borrow.Author.Needs.{needs}
 use mathlib.Core.Path.{_∙_, ap, sym}
 use Rattle.softrate.proofs.calls.soft_rate_select_step.Statement.{statement}

@@ -1,5 +1,4 @@
 -- `told` meets its contract.
-use Rattle.hardware.specs.Runs.{given}
 use Rattle.softrate.specs.Calls.{saidRate, standsRate}
 use Rattle.softrate.specs.Walk.{rateNext, validRateNext}
 use borrow.Author.Needs.{needs}

@@ -1,7 +1,6 @@
 -- `cap` meets its contract.
 use Rattle.hardware.specs.Prog.{pick}
 use Rattle.softrate.specs.Spot.{capAt}
-use Rattle.sync.specs.Resource.{taken}
 use borrow.Author.Needs.{needs}
 use Rattle.softrate.proofs.spot.cap.Statement.{statement}
 use Rattle.softrate.proofs.spot.cap.Tie as tie

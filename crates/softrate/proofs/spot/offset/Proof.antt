@@ -1,6 +1,5 @@
 -- `offset` meets its contract.
 use Rattle.softrate.specs.Spot.{offsetOf}
-use Rattle.sync.specs.Resource.{taken}
 use Rattle.softrate.proofs.spot.offset.Statement.{statement}
 use Rattle.softrate.proofs.spot.offset.Tie as tie
 

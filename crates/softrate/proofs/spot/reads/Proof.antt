@@ -1,5 +1,4 @@
 -- `reads` meets its contract.
-use Rattle.hardware.specs.Runs.{given}
 use Rattle.softrate.specs.Spot.{isReading}
 use borrow.Author.Needs.{needs}
 use Rattle.softrate.proofs.spot.reads.Statement.{statement}

@@ -1,5 +1,4 @@
 -- `request` meets its contract.
-use Rattle.hostif.specs.Hostif.{requested}
 use Rattle.softrate.specs.Spot.{requestAt}
 use borrow.Author.Needs.{needs}
 use Rattle.softrate.proofs.spot.request.Statement.{statement}

@@ -1,7 +1,5 @@
 -- `requested` meets its contract.
-use Rattle.hardware.specs.Runs.{given}
 use Rattle.softrate.specs.Spot.{requestOf}
-use Rattle.sfp.specs.Rate.{selected}
 use borrow.Author.Needs.{needs}
 use Rattle.softrate.proofs.spot.requested.Statement.{statement}
 use Rattle.softrate.proofs.spot.requested.Tie as tie

@@ -1,6 +1,4 @@
 -- `tries` meets its contract.
-use Rattle.hardware.specs.Runs.{given}
-use Rattle.i2c.specs.I2c.{attempts}
 use Rattle.softrate.specs.Spot.{triesAt}
 use Rattle.sfp.proofs.Ends.{attempts-few}
 use borrow.Author.Needs.{fits-under, needs}

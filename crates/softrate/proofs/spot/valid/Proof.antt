@@ -1,7 +1,6 @@
 -- `valid` meets its contract.
 use Rattle.hardware.specs.Prog.{pick}
 use Rattle.softrate.specs.Spot.{validSpot}
-use Rattle.sync.specs.Resource.{taken}
 use Rattle.softrate.proofs.spot.valid.Statement.{statement}
 use Rattle.softrate.proofs.spot.valid.Tie as tie
 

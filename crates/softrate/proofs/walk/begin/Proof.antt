@@ -1,12 +1,9 @@
 -- `begin` meets its contract.
 use Rattle.hardware.specs.Prog.{pick}
-use Rattle.hardware.specs.Runs.{given}
-use Rattle.hostif.specs.Hostif.{request}
 use Rattle.i2c.specs.Moves.{validMovesNext}
 use Rattle.softrate.proofs.Laws.{cap-most, request-asks, request-begun, room}
 use Rattle.softrate.specs.Spot.{capAt}
 use Rattle.softrate.specs.Walk.{validRate, validRateNext}
-use Rattle.sync.specs.Regs.{tries}
 use borrow.Author.Needs.{needs}
 use mathlib.Core.Path.{refl}
 use native.Mathlib.Omega.{arith}

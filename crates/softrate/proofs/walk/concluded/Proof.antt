@@ -1,6 +1,5 @@
 -- `concluded` meets its contract.
 use Rattle.hardware.specs.Prog.{tally}
-use Rattle.hardware.specs.Runs.{given}
 use Rattle.softrate.proofs.Laws.{on-told}
 use Rattle.transfer.specs.Attempt.{got}
 use borrow.Author.Needs.{needs}

@@ -6,7 +6,6 @@ use Rattle.softrate.proofs.Laws.{cap-done}
 use Rattle.softrate.specs.Spot.{toldAt}
 use Rattle.softrate.specs.Walk.{rateNext, validRateNext}
 use Rattle.sfp.specs.Rate.{orNot}
-use Rattle.sync.specs.Resource.{taken}
 use borrow.Author.Needs.{needs}
 use mathlib.Core.Path.{refl}
 use native.Mathlib.Omega.{arith}

@@ -1,6 +1,5 @@
 -- `moved` meets its contract.
 use Rattle.hardware.specs.Prog.{_>>=_, after, going-after, pick}
-use Rattle.hardware.specs.Runs.{given}
 use Rattle.i2c.specs.Moves.{movesNext, validMovesNext}
 use Rattle.softrate.specs.Walk.{accessRate, rateNext, restRate, validRate, validRateNext}
 use borrow.Author.Needs.{needs}

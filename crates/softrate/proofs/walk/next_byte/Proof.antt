@@ -4,7 +4,6 @@ use Rattle.hardware.specs.Registers.{flag}
 use Rattle.softrate.proofs.Laws.{cap-next, next-placed}
 use Rattle.softrate.specs.Spot.{nextByte, validSpot}
 use Rattle.softrate.specs.Walk.{rateNext, validRateNext}
-use Rattle.sync.specs.Resource.{taken}
 use borrow.Author.Needs.{needs}
 use mathlib.Core.Path.{_∙_, ap, refl}
 use Rattle.softrate.proofs.walk.next_byte.Statement.{statement}

@@ -1,6 +1,5 @@
 -- `on` meets its contract.
 use Rattle.hardware.specs.Prog.{tally}
-use Rattle.hardware.specs.Runs.{given}
 use Rattle.softrate.proofs.Laws.{cap-done, read-room, write-placed}
 use Rattle.softrate.specs.Spot.{onPlace, validSpot}
 use borrow.Author.Needs.{needs}

@@ -1,7 +1,6 @@
 -- `step` meets its contract.
 use Rattle.hardware.proofs.Laws.{both-true}
 use Rattle.hardware.specs.Prog.{over-after}
-use Rattle.hostif.specs.Hostif.{request}
 use Rattle.softrate.proofs.Laws.{cap-most}
 use Rattle.softrate.specs.Spot.{capAt, validSpot}
 use Rattle.softrate.specs.Walk.{restRate, validRate}

@@ -1,8 +1,6 @@
 -- `valid` meets its contract.
 use Rattle.hardware.specs.Prog.{pick}
-use Rattle.hostif.specs.Hostif.{request}
 use Rattle.softrate.specs.Walk.{validRate}
-use Rattle.sync.specs.Resource.{taken}
 use borrow.Author.Needs.{needs}
 use Rattle.softrate.proofs.walk.valid.Statement.{statement}
 use Rattle.softrate.proofs.walk.valid.Tie as tie

@@ -1,6 +1,5 @@
 -- `all` meets its contract.
 use Rattle.hardware.specs.Change.{accessUpdate, restUpdate}
-use Rattle.sync.specs.Regs.{bits}
 use Rattle.sync.specs.Resource.{against, validAcquireBits, validAcquireStage}
 use borrow.Author.Needs.{needs}
 use Rattle.sync.proofs.acquire_bits.all.Statement.{statement}

@@ -2,8 +2,7 @@
 use Rattle.hardware.specs.Change.{accessUpdate, change, restUpdate}
 use Rattle.hardware.specs.Prog.{_>>=_, erase, pick}
 use Rattle.hardware.specs.Registers.{outcome}
-use Rattle.sync.specs.Regs.{mux}
-use Rattle.sync.specs.Resource.{accessAcquireBits, accessAcquireStage, acquireBitsNext, muxed, restAcquireBits, restAcquireStage, taken, validAcquireBits, validAcquireBitsNext, validAcquireStage}
+use Rattle.sync.specs.Resource.{accessAcquireBits, accessAcquireStage, acquireBitsNext, muxed, restAcquireBits, restAcquireStage, validAcquireBits, validAcquireBitsNext, validAcquireStage}
 use borrow.Author.Needs.{needs}
 use borrow.Author.Tests.{lt-ltb}
 use mathlib.Core.Path.{refl}

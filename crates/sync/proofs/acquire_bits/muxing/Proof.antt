@@ -1,7 +1,6 @@
 -- `muxing` meets its contract.
 use Rattle.hardware.specs.Change.{accessUpdate, restUpdate, updateNext}
 use Rattle.hardware.specs.Prog.{pick}
-use Rattle.hardware.specs.Runs.{given}
 use Rattle.sync.specs.Resource.{accessAcquireBits, accessAcquireStage, acquireBitsNext, restAcquireBits, restAcquireStage, validAcquireBits, validAcquireBitsNext, validAcquireStage}
 use borrow.Author.Needs.{needs}
 use borrow.Author.Tests.{lt-ltb}

@@ -3,7 +3,7 @@ use Rattle.hardware.proofs.Laws.{one-less}
 use Rattle.hardware.specs.Prog.{erase, over}
 use Rattle.hardware.specs.Registers.{outcome}
 use Rattle.sync.proofs.Laws.{acquire-more}
-use Rattle.sync.specs.Resource.{acquireBitsNext, acquireTries, taken, validAcquireBitsNext}
+use Rattle.sync.specs.Resource.{acquireBitsNext, acquireTries, validAcquireBitsNext}
 use borrow.Author.Needs.{needs}
 use mathlib.Core.Path.{_∙_, refl}
 use Rattle.sync.proofs.acquire_bits.open.Statement.{statement}

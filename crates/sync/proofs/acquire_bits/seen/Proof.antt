@@ -1,8 +1,6 @@
 -- `seen` meets its contract.
 use Rattle.hardware.specs.Prog.{_>>=_, erase, orErr, over, pick}
 use Rattle.hardware.specs.Registers.{outcome, word}
-use Rattle.hardware.specs.Runs.{given}
-use Rattle.sync.specs.Regs.{bits}
 use Rattle.sync.specs.Resource.{accessAcquireBits, accessAcquireStage, acquireBitsNext, free, restAcquireBits, restAcquireStage, syncSeen, taken, tryAgain, validAcquireBits, validAcquireBitsNext, validAcquireStage}
 use borrow.Author.Needs.{needs}
 use borrow.Author.Tests.{lt-ltb}

@@ -1,5 +1,4 @@
 -- `stage_access` meets its contract.
-use Rattle.hardware.specs.Runs.{given}
 use Rattle.sync.specs.Resource.{accessAcquireBits, accessAcquireStage}
 use borrow.Author.Needs.{needs}
 use Rattle.sync.proofs.acquire_bits.stage_access.Statement.{statement}

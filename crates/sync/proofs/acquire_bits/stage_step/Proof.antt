@@ -1,7 +1,5 @@
 -- `stage_step` meets its contract.
 use Rattle.hardware.specs.Prog.{over}
-use Rattle.hardware.specs.Registers.{read, write}
-use Rattle.hardware.specs.Runs.{given}
 use Rattle.sync.specs.Resource.{restAcquireBits, restAcquireStage, validAcquireStage}
 use borrow.Author.Needs.{needs}
 use mathlib.Core.Path.{_∙_}

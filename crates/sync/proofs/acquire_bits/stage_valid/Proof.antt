@@ -1,6 +1,5 @@
 -- `stage_valid` meets its contract.
 use Rattle.hardware.specs.Prog.{pick}
-use Rattle.hardware.specs.Runs.{given}
 use Rattle.sync.specs.Resource.{validAcquireBits, validAcquireStage}
 use borrow.Author.Needs.{needs}
 use Rattle.sync.proofs.acquire_bits.stage_valid.Statement.{statement}

@@ -2,7 +2,6 @@
 use Rattle.hardware.specs.Change.{accessUpdate, restUpdate}
 use Rattle.hardware.specs.Prog.{_>>=_, erase, followed, going, orErr, pick}
 use Rattle.hardware.specs.Registers.{outcome}
-use Rattle.hardware.specs.Runs.{given}
 use Rattle.sync.specs.Lock.{unlockNext}
 use Rattle.sync.specs.Resource.{accessAcquireBits, accessAcquireStage, acquireBitsNext, restAcquireBits, restAcquireStage, validAcquireBits, validAcquireBitsNext, validAcquireStage}
 use borrow.Author.Needs.{needs}

@@ -1,7 +1,6 @@
 -- `valid` meets its contract.
 use Rattle.hardware.specs.Prog.{pick}
-use Rattle.sync.specs.Regs.{tries}
-use Rattle.sync.specs.Resource.{taken, validAcquireBits}
+use Rattle.sync.specs.Resource.{validAcquireBits}
 use borrow.Author.Needs.{needs}
 use borrow.Author.Tests.{le-ltb, lt-ltb}
 use Rattle.sync.proofs.acquire_bits.valid.Statement.{statement}

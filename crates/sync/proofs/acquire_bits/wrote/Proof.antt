@@ -2,8 +2,6 @@
 use Rattle.hardware.specs.Change.{accessUpdate, restUpdate}
 use Rattle.hardware.specs.Prog.{erase, orErr}
 use Rattle.hardware.specs.Registers.{outcome}
-use Rattle.hardware.specs.Runs.{given}
-use Rattle.sync.specs.Regs.{mux}
 use Rattle.sync.specs.Resource.{acquireBitsNext, taken, validAcquireBits, validAcquireBitsNext, validAcquireStage}
 use borrow.Author.Needs.{needs}
 use mathlib.Core.Path.{refl}

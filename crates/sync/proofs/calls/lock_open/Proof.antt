@@ -1,6 +1,5 @@
 -- `lock_open` meets its contract.
 use Rattle.hardware.specs.Asked.{andThen, familyOpened, yes}
-use Rattle.hardware.specs.Runs.{given}
 use Rattle.sync.specs.Calls.{openLock, saidLock, standsLock}
 use borrow.Author.Needs.{needs}
 use mathlib.Core.Path.{_∙_, ap}

@@ -1,8 +1,6 @@
 -- `lock_step` meets its contract.
 use Rattle.hardware.specs.Asked.{question, yes}
-use Rattle.hardware.specs.Runs.{given}
 use Rattle.sync.specs.Calls.{saidLock, standsLock, stepLock}
-use Rattle.sync.specs.Resource.{taken}
 use borrow.Author.Needs.{needs}
 use mathlib.Core.Path.{_∙_, ap, sym}
 use Rattle.sync.proofs.calls.lock_step.Statement.{statement}

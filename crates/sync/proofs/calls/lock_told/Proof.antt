@@ -1,5 +1,4 @@
 -- `lock_told` meets its contract.
-use Rattle.hardware.specs.Runs.{given}
 use Rattle.sync.specs.Calls.{saidLock, standsLock}
 use Rattle.sync.specs.Lock.{lockNext, validLockNext}
 use borrow.Author.Needs.{needs}

@@ -1,8 +1,6 @@
 -- `unlock_step` meets its contract.
 use Rattle.hardware.specs.Asked.{question, yes}
-use Rattle.hardware.specs.Runs.{given}
 use Rattle.sync.specs.Calls.{saidUnlock, standsUnlock, stepUnlock}
-use Rattle.sync.specs.Resource.{taken}
 use borrow.Author.Needs.{needs}
 use mathlib.Core.Path.{_∙_, ap}
 use Rattle.sync.proofs.calls.unlock_step.Statement.{statement}

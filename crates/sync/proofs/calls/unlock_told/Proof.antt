@@ -1,5 +1,4 @@
 -- `unlock_told` meets its contract.
-use Rattle.hardware.specs.Runs.{given}
 use Rattle.sync.specs.Calls.{saidUnlock, standsUnlock}
 use Rattle.sync.specs.Lock.{unlockNext}
 use borrow.Author.Needs.{needs}

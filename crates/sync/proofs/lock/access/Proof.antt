@@ -1,5 +1,4 @@
 -- `access` meets its contract.
-use Rattle.hardware.specs.Runs.{given}
 use Rattle.sync.specs.Lock.{accessLock}
 use borrow.Author.Needs.{needs}
 use Rattle.sync.proofs.lock.access.Statement.{statement}

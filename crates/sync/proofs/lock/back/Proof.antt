@@ -2,7 +2,6 @@
 use Rattle.hardware.specs.Change.{updateNext}
 use Rattle.hardware.specs.Prog.{_>>=_, erase, followed, going, orErr}
 use Rattle.hardware.specs.Registers.{outcome}
-use Rattle.hardware.specs.Runs.{given}
 use Rattle.sync.specs.Lock.{accessLock, lockNext, restLock, validLock, validLockNext}
 use borrow.Author.Needs.{needs}
 use mathlib.Core.Path.{refl}

@@ -1,8 +1,7 @@
 -- `second` meets its contract.
 use Rattle.hardware.specs.Prog.{over, pick}
-use Rattle.sync.specs.Lock.{second, swesmbi}
+use Rattle.sync.specs.Lock.{second}
 use Rattle.sync.specs.Regs.{TRIES}
-use Rattle.sync.specs.Resource.{taken}
 use borrow.Author.Needs.{needs}
 use native.Mathlib.Omega.{arith}
 use Rattle.sync.proofs.lock.second.Statement.{statement}

@@ -1,9 +1,7 @@
 -- `smbi_done` meets its contract.
 use Rattle.hardware.specs.Prog.{erase, orErr, pick}
 use Rattle.hardware.specs.Registers.{outcome, word}
-use Rattle.hardware.specs.Runs.{given}
-use Rattle.sync.specs.Lock.{lockNext, second, smbiDone, validLockNext}
-use Rattle.sync.specs.Resource.{taken}
+use Rattle.sync.specs.Lock.{lockNext, smbiDone, validLockNext}
 use borrow.Author.Needs.{needs}
 use mathlib.Core.Path.{refl}
 use Rattle.sync.proofs.lock.smbi_done.Statement.{statement}

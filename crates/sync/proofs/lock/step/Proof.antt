@@ -1,7 +1,6 @@
 -- `step` meets its contract.
 use Rattle.hardware.specs.Prog.{over}
-use Rattle.hardware.specs.Runs.{given}
-use Rattle.sync.specs.Lock.{lock, restLock, second, swesmbi, validLock}
+use Rattle.sync.specs.Lock.{lock, restLock, second, validLock}
 use Rattle.sync.specs.Regs.{TRIES}
 use borrow.Author.Needs.{needs}
 use Rattle.sync.proofs.lock.step.Statement.{statement}

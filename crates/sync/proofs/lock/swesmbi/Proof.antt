@@ -1,6 +1,5 @@
 -- `swesmbi` meets its contract.
 use Rattle.hardware.specs.Prog.{_>>=_, followed, going}
-use Rattle.hardware.specs.Runs.{given}
 use Rattle.sync.specs.Lock.{accessLock, lockNext, restLock, swesmbiNext, validLock, validLockNext, validSwesmbiNext}
 use borrow.Author.Needs.{needs}
 use Rattle.sync.proofs.lock.swesmbi.Statement.{statement}

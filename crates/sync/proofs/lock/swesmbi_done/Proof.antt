@@ -1,9 +1,7 @@
 -- `swesmbi_done` meets its contract.
 use Rattle.hardware.specs.Prog.{erase, orErr, pick}
 use Rattle.hardware.specs.Registers.{flag, outcome}
-use Rattle.hardware.specs.Runs.{given}
 use Rattle.sync.specs.Lock.{lockNext, swesmbiDone, validLockNext}
-use Rattle.sync.specs.Resource.{taken}
 use borrow.Author.Needs.{needs}
 use mathlib.Core.Path.{refl}
 use Rattle.sync.proofs.lock.swesmbi_done.Statement.{statement}

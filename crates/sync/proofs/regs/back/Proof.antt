@@ -1,7 +1,6 @@
 -- `back` meets its contract.
 use Rattle.hardware.specs.Prog.{pick}
 use Rattle.sync.specs.Regs.{backSwsm}
-use Rattle.sync.specs.Resource.{taken}
 use borrow.Author.Needs.{needs}
 use Rattle.sync.proofs.regs.back.Statement.{statement}
 use Rattle.sync.proofs.regs.back.Tie as tie

@@ -1,7 +1,6 @@
 -- `bits` meets its contract.
 use Rattle.hardware.specs.Prog.{pick}
 use Rattle.sync.specs.Regs.{bits}
-use Rattle.sync.specs.Resource.{taken}
 use borrow.Author.Needs.{needs}
 use Rattle.sync.proofs.regs.bits.Statement.{statement}
 use Rattle.sync.proofs.regs.bits.Tie as tie

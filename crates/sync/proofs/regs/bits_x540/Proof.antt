@@ -1,7 +1,6 @@
 -- `bits_x540` meets its contract.
 use Rattle.hardware.specs.Prog.{pick}
 use Rattle.sync.specs.Regs.{bitsX540}
-use Rattle.sync.specs.Resource.{taken}
 use borrow.Author.Needs.{needs}
 use lib.Bits.{and-le-r}
 use native.Mathlib.Omega.{arith}

@@ -1,7 +1,6 @@
 -- `mux` meets its contract.
 use Rattle.hardware.specs.Prog.{pick}
 use Rattle.sync.specs.Regs.{mux}
-use Rattle.sync.specs.Resource.{taken}
 use borrow.Author.Needs.{needs}
 use borrow.Author.Tests.{eq-eqb, ne-eqb}
 use Rattle.sync.proofs.regs.mux.Statement.{statement}

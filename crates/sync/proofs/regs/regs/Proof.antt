@@ -1,7 +1,6 @@
 -- `regs` meets its contract.
 use Rattle.hardware.specs.Prog.{pick}
 use Rattle.sync.specs.Regs.{swFwSync, swsm}
-use Rattle.sync.specs.Resource.{taken}
 use borrow.Author.Needs.{needs}
 use Rattle.sync.proofs.regs.regs.Statement.{statement}
 use Rattle.sync.proofs.regs.regs.Tie as tie

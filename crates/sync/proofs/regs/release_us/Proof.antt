@@ -1,7 +1,6 @@
 -- `release_us` meets its contract.
 use Rattle.hardware.specs.Prog.{pick}
 use Rattle.sync.specs.Regs.{releaseUs}
-use Rattle.sync.specs.Resource.{taken}
 use borrow.Author.Needs.{needs}
 use Rattle.sync.proofs.regs.release_us.Statement.{statement}
 use Rattle.sync.proofs.regs.release_us.Tie as tie

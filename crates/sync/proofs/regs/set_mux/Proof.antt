@@ -1,7 +1,6 @@
 -- `set_mux` meets its contract.
 use Rattle.hardware.specs.Prog.{pick}
 use Rattle.sync.specs.Regs.{setMux}
-use Rattle.sync.specs.Resource.{taken}
 use Rattle.sync.proofs.regs.set_mux.Statement.{statement}
 use Rattle.sync.proofs.regs.set_mux.Tie as tie
 

@@ -1,6 +1,4 @@
 -- `access` meets its contract.
-use Rattle.hardware.specs.Change.{change}
-use Rattle.hardware.specs.Runs.{given}
 use Rattle.sync.specs.Resource.{accessReleaseBits}
 use borrow.Author.Needs.{needs}
 use Rattle.sync.proofs.release_bits.access.Statement.{statement}

@@ -1,5 +1,4 @@
 -- `change` meets its contract.
-use Rattle.sync.specs.Regs.{bits}
 use Rattle.sync.specs.Resource.{clearBits}
 use borrow.Author.Needs.{needs}
 use Rattle.sync.proofs.release_bits.change.Statement.{statement}

@@ -1,8 +1,7 @@
 -- `finish` meets its contract.
 use Rattle.hardware.specs.Prog.{erase, orErr, pick}
 use Rattle.hardware.specs.Registers.{outcome}
-use Rattle.hardware.specs.Runs.{given}
-use Rattle.sync.specs.Resource.{accessReleaseBits, releaseBitsNext, restReleaseBits, settle, taken, validReleaseBits, validReleaseBitsNext}
+use Rattle.sync.specs.Resource.{accessReleaseBits, releaseBitsNext, restReleaseBits, settle, validReleaseBits, validReleaseBitsNext}
 use borrow.Author.Needs.{needs}
 use mathlib.Core.Path.{refl}
 use Rattle.sync.proofs.release_bits.finish.Statement.{statement}

@@ -2,7 +2,6 @@
 use Rattle.hardware.specs.Change.{accessUpdate, change, restUpdate}
 use Rattle.hardware.specs.Prog.{_>>=_, erase, followed, going, orErr}
 use Rattle.hardware.specs.Registers.{outcome}
-use Rattle.hardware.specs.Runs.{given}
 use Rattle.sync.specs.Lock.{lockNext, validLockNext}
 use Rattle.sync.specs.Resource.{accessReleaseBits, clearing, releaseBitsNext, restReleaseBits, validReleaseBits, validReleaseBitsNext}
 use borrow.Author.Needs.{needs}

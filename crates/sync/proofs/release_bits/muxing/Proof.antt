@@ -2,8 +2,6 @@
 use Rattle.hardware.specs.Change.{updateNext}
 use Rattle.hardware.specs.Prog.{_>>=_, erase, followed, going, orErr}
 use Rattle.hardware.specs.Registers.{outcome}
-use Rattle.hardware.specs.Runs.{given}
-use Rattle.sync.specs.Lock.{lock}
 use Rattle.sync.specs.Resource.{accessReleaseBits, releaseBitsNext, restReleaseBits, validReleaseBits, validReleaseBitsNext}
 use borrow.Author.Needs.{needs}
 use mathlib.Core.Path.{refl}

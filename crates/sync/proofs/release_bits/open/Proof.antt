@@ -1,9 +1,7 @@
 -- `open` meets its contract.
 use Rattle.hardware.specs.Change.{accessUpdate, change, restUpdate}
 use Rattle.hardware.specs.Prog.{_>>=_, erase, orErr, pick}
-use Rattle.sync.specs.Lock.{lock}
-use Rattle.sync.specs.Regs.{mux}
-use Rattle.sync.specs.Resource.{accessReleaseBits, muxed, releaseBits, releaseBitsNext, restReleaseBits, taken, validReleaseBits, validReleaseBitsNext}
+use Rattle.sync.specs.Resource.{accessReleaseBits, muxed, releaseBits, releaseBitsNext, restReleaseBits, validReleaseBits, validReleaseBitsNext}
 use borrow.Author.Needs.{needs}
 use mathlib.Core.Path.{refl}
 use Rattle.sync.proofs.release_bits.open.Statement.{statement}

@@ -2,7 +2,6 @@
 use Rattle.hardware.specs.Change.{accessUpdate, change, restUpdate}
 use Rattle.hardware.specs.Prog.{erase, over}
 use Rattle.hardware.specs.Registers.{outcome}
-use Rattle.hardware.specs.Runs.{given}
 use Rattle.sync.specs.Resource.{against, clearBits, cleared, clearing, releaseBits, releaseBitsNext, restReleaseBits, settle, tryAgain, unmuxed, validAcquireBits, validAcquireStage, validReleaseBits, validReleaseBitsNext}
 use borrow.Author.Needs.{needs}
 use mathlib.Core.Path.{refl}

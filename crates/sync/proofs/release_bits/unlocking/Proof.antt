@@ -1,7 +1,6 @@
 -- `unlocking` meets its contract.
 use Rattle.hardware.specs.Prog.{_>>=_, erase, followed, going, orErr}
 use Rattle.hardware.specs.Registers.{outcome}
-use Rattle.hardware.specs.Runs.{given}
 use Rattle.sync.specs.Lock.{unlockNext}
 use Rattle.sync.specs.Resource.{accessReleaseBits, releaseBitsNext, restReleaseBits, validReleaseBits, validReleaseBitsNext}
 use borrow.Author.Needs.{needs}

@@ -1,6 +1,5 @@
 -- `valid` meets its contract.
 use Rattle.hardware.specs.Prog.{pick}
-use Rattle.hardware.specs.Runs.{given}
 use Rattle.sync.specs.Resource.{validReleaseBits}
 use borrow.Author.Needs.{needs}
 use Rattle.sync.proofs.release_bits.valid.Statement.{statement}

@@ -1,5 +1,4 @@
 -- `access` meets its contract.
-use Rattle.hardware.specs.Runs.{given}
 use Rattle.sync.specs.Lock.{accessSwesmbi}
 use borrow.Author.Needs.{needs}
 use Rattle.sync.proofs.swesmbi.access.Statement.{statement}

@@ -4,7 +4,6 @@ use Rattle.hardware.specs.Prog.{erase}
 use Rattle.hardware.specs.Registers.{flag}
 use Rattle.sync.proofs.Laws.{swesmbi-more}
 use Rattle.sync.specs.Lock.{swesmbi, swesmbiNext, validSwesmbi, validSwesmbiNext}
-use Rattle.sync.specs.Resource.{taken}
 use borrow.Author.Needs.{needs}
 use borrow.Author.Tests.{lt-ltb}
 use mathlib.Core.Path.{refl}

@@ -1,9 +1,7 @@
 -- `seen` meets its contract.
 use Rattle.hardware.specs.Prog.{erase, orErr, pick}
 use Rattle.hardware.specs.Registers.{flag, word}
-use Rattle.hardware.specs.Runs.{given}
 use Rattle.sync.specs.Lock.{accessSwesmbi, restSwesmbi, swesmbiNext, swesmbiSeen, validSwesmbi, validSwesmbiNext}
-use Rattle.sync.specs.Resource.{taken}
 use borrow.Author.Needs.{needs}
 use borrow.Author.Tests.{lt-ltb}
 use mathlib.Core.Path.{refl}

@@ -2,7 +2,6 @@
 use Rattle.hardware.specs.Change.{updateNext}
 use Rattle.hardware.specs.Prog.{_>>=_, erase, followed, going, orErr}
 use Rattle.hardware.specs.Registers.{flag, outcome}
-use Rattle.hardware.specs.Runs.{given}
 use Rattle.sync.specs.Lock.{accessSwesmbi, restSwesmbi, swesmbiCheck, swesmbiNext, validSwesmbi, validSwesmbiNext}
 use borrow.Author.Needs.{needs}
 use borrow.Author.Tests.{lt-ltb}

@@ -1,8 +1,6 @@
 -- `step` meets its contract.
 use Rattle.hardware.proofs.Laws.{below}
 use Rattle.hardware.specs.Prog.{fed, over}
-use Rattle.hardware.specs.Registers.{read}
-use Rattle.hardware.specs.Runs.{given}
 use Rattle.sync.specs.Lock.{restSwesmbi, swesmbiCheck, validSwesmbi}
 use borrow.Author.Needs.{needs}
 use borrow.Author.Tests.{ltb-true}

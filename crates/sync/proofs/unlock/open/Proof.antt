@@ -2,7 +2,6 @@
 use Rattle.hardware.specs.Change.{accessUpdate, change, restUpdate}
 use Rattle.hardware.specs.Prog.{_>>=_, erase, pick}
 use Rattle.sync.specs.Lock.{accessUnlock, restUnlock, unlock, unlockNext}
-use Rattle.sync.specs.Resource.{taken}
 use borrow.Author.Needs.{needs}
 use Rattle.sync.proofs.unlock.open.Statement.{statement}
 use Rattle.sync.proofs.unlock.open.Tie as tie

@@ -1,8 +1,6 @@
 -- `step` meets its contract.
 use Rattle.hardware.specs.Prog.{over}
-use Rattle.hardware.specs.Runs.{given}
 use Rattle.sync.specs.Lock.{restUnlock, unlock}
-use Rattle.sync.specs.Regs.{swsm}
 use borrow.Author.Needs.{needs}
 use mathlib.Core.Path.{_∙_}
 use Rattle.sync.proofs.unlock.step.Statement.{statement}

@@ -1,6 +1,5 @@
 -- `swsm` meets its contract.
 use Rattle.hardware.specs.Change.{updateNext}
-use Rattle.hardware.specs.Runs.{given}
 use Rattle.sync.specs.Lock.{accessUnlock, restUnlock, unlockNext}
 use borrow.Author.Needs.{needs}
 use Rattle.sync.proofs.unlock.swsm.Statement.{statement}

@@ -1,5 +1,4 @@
 -- `access` meets its contract.
-use Rattle.hardware.specs.Runs.{given}
 use Rattle.transfer.specs.Attempt.{accessAttempt}
 use borrow.Author.Needs.{needs}
 use Rattle.transfer.proofs.attempt.access.Statement.{statement}

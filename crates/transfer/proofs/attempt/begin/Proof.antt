@@ -1,8 +1,6 @@
 -- `begin` meets its contract.
 use Rattle.hardware.specs.Prog.{erase, orErr, over}
 use Rattle.hardware.specs.Registers.{word}
-use Rattle.hardware.specs.Runs.{given}
-use Rattle.script.specs.Script.{device}
 use Rattle.transfer.specs.Attempt.{attemptNext, begun, got, validAttemptNext}
 use borrow.Author.Needs.{needs}
 use mathlib.Core.Path.{refl}

@@ -1,7 +1,6 @@
 -- `cleared` meets its contract.
 use Rattle.bus.specs.Clear.{clearNext, validClearNext}
 use Rattle.hardware.specs.Prog.{_>>=_, erase, followed, going}
-use Rattle.hardware.specs.Runs.{given}
 use Rattle.transfer.specs.Attempt.{accessAttempt, attemptNext, awaiting, cleared, got, orCleared, restAttempt, validAttempt, validAttemptNext}
 use borrow.Author.Needs.{needs}
 use mathlib.Core.Path.{refl}

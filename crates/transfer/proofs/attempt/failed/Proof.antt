@@ -1,7 +1,6 @@
 -- `failed` meets its contract.
-use Rattle.bus.specs.Bus.{clear}
 use Rattle.hardware.specs.Prog.{erase, over, pick}
-use Rattle.transfer.specs.Attempt.{attemptNext, cleared, got, orTried, validAttemptNext}
+use Rattle.transfer.specs.Attempt.{attemptNext, got, orTried, validAttemptNext}
 use borrow.Author.Needs.{needs}
 use mathlib.Core.Path.{refl}
 use Rattle.transfer.proofs.attempt.failed.Statement.{statement}

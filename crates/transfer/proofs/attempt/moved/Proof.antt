@@ -1,6 +1,5 @@
 -- `moved` meets its contract.
 use Rattle.hardware.specs.Prog.{_>>=_, erase, followed, going}
-use Rattle.hardware.specs.Runs.{given}
 use Rattle.transfer.proofs.Laws.{told-on}
 use Rattle.transfer.specs.Attempt.{accessAttempt, attemptNext, awaiting, got, orTried, restAttempt, tried, validAttempt, validAttemptNext}
 use Rattle.transfer.specs.Transfer.{asking, transferNext, validTransferNext}

@@ -1,7 +1,6 @@
 -- `step` meets its contract.
 use Rattle.hardware.specs.Prog.{fed, over}
-use Rattle.hardware.specs.Runs.{given}
-use Rattle.transfer.specs.Attempt.{cleared, restAttempt, validAttempt}
+use Rattle.transfer.specs.Attempt.{restAttempt, validAttempt}
 use borrow.Author.Needs.{needs}
 use Rattle.transfer.proofs.attempt.step.Statement.{statement}
 use Rattle.transfer.proofs.attempt.step.Tie as tie

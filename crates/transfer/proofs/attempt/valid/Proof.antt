@@ -1,5 +1,4 @@
 -- `valid` meets its contract.
-use Rattle.hardware.specs.Runs.{given}
 use Rattle.transfer.specs.Attempt.{validAttempt}
 use borrow.Author.Needs.{needs}
 use Rattle.transfer.proofs.attempt.valid.Statement.{statement}

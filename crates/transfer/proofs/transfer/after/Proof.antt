@@ -1,5 +1,4 @@
 -- `after` meets its contract.
-use Rattle.bus.specs.Bus.{took}
 use Rattle.script.proofs.Laws.{on-next}
 use Rattle.script.specs.Script.{device}
 use Rattle.transfer.proofs.Laws.{after-other, after-read}

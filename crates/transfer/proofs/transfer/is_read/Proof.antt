@@ -1,5 +1,4 @@
 -- `is_read` meets its contract.
-use Rattle.hardware.specs.Runs.{given}
 use Rattle.transfer.specs.Transfer.{isRead}
 use borrow.Author.Needs.{needs}
 use Rattle.transfer.proofs.transfer.is_read.Statement.{statement}

@@ -4,8 +4,6 @@ use Rattle.bus.specs.Bus.{orHeld}
 use Rattle.bus.specs.Command.{jobNext, validJobNext}
 use Rattle.hardware.specs.Prog.{erase}
 use Rattle.hardware.specs.Registers.{byte}
-use Rattle.hardware.specs.Runs.{given}
-use Rattle.script.specs.Script.{device}
 use Rattle.transfer.specs.Transfer.{accessTransfer, asking, restTransfer, transferNext, validTransfer, validTransferNext}
 use borrow.Author.Needs.{needs}
 use mathlib.Core.Path.{refl}

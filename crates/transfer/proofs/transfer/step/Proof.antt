@@ -1,6 +1,5 @@
 -- `step` meets its contract.
 use Rattle.bus.proofs.Laws.{picked-first, picked-second}
-use Rattle.script.specs.Script.{device}
 use Rattle.transfer.specs.Transfer.{ranOn, restTransfer, validTransfer}
 use borrow.Author.Needs.{needs}
 use mathlib.Core.Path.{_∙_}

@@ -1,5 +1,4 @@
 -- `told` meets its contract.
-use Rattle.hardware.specs.Runs.{given}
 use Rattle.script.specs.Script.{device}
 use Rattle.transfer.proofs.Laws.{told-end, told-twice}
 use Rattle.transfer.specs.Transfer.{asking, transferNext, validTransferNext}

@@ -1,0 +1,14 @@
+-- `bytes` meets its contract.
+use borrow.Author.Needs.{needs}
+use native.Mathlib.Omega.{arith}
+use Rattle.onbench.proofs.bytes.Statement.{statement}
+use Rattle.onbench.proofs.bytes.Tie as tie
+
+length-requires : tie.Need-length-requires
+length-requires c κs = search needs
+
+returns : tie.Need-returns
+returns c = λ n. omega (arith, c .before .shared-slice-known .given n)
+
+pub bytes-spec : {M : Type 1} → statement M
+bytes-spec = tie.close (tie.spec length-requires returns)

@@ -2,20 +2,22 @@
 use Prim.Native.Nat.{ℕ, _+_, _-_, _<_, _≤_, suc, zero}
 use mathlib.Core.Path.{_≡_, refl, ap, fun-ext, _∙_, sym, subst}
 use mathlib.Core.Bool.{Bool, true, false}
-use lib.Dec.{T, ltb, leb, lit≤}
-use borrow.Author.Tests.{ltb-true, leb-true}
+use lib.Dec.{T}
+use borrow.Author.Tests.{leb-true, le-leb, lt-ltb}
 use native.Mathlib.Numerals.{sub-one}
 use native.Mathlib.Omega.{arith}
+use Rattle.hardware.specs.declared.Access.{Access}
 use Rattle.hardware.specs.declared.Access.the-variants.{Read}
+use Rattle.hardware.specs.declared.Answer.{Answer}
 use Rattle.hardware.specs.declared.Port.{Port}
-use Rattle.hardware.specs.Prog.{Prog, ret, ask, R, Err, orErr, tally, bind-assoc, bind-ret, pick, _>>=_, _>>?_}
+use Rattle.hardware.specs.Prog.{Prog, ret, ask, note, Attempt, R, Err, orErr, erase, followed, going, tally, tally-erase, bind-assoc, bind-ret, pick, _>>=_, _>>?_}
 use Rattle.hardware.specs.Registers.{raw}
 use Rattle.hostif.specs.Acquire.{acquire}
 use Rattle.bus.specs.declared.Layout.{Layout}
 use Rattle.bus.specs.declared.Taken.{Taken}
 use Rattle.bus.specs.Layout.{layoutOf}
-use Rattle.bus.proofs.Laws.{picked-first}
 use Rattle.bus.specs.Bus.{none}
+use Rattle.bus.proofs.Laws.{picked, picked-first, picked-second}
 use Rattle.script.specs.Script.{commands, starts, onCommand}
 use Rattle.script.specs.Scripts.{readByteScript, writeByteScript, readCombinedScript, writeCombinedScript}
 use Rattle.script.proofs.Scripts.{read-byte-commands, write-byte-commands, read-combined-commands, write-combined-commands}
@@ -31,11 +33,12 @@ use Rattle.i2c.specs.I2c.{mask, deviceOf, scriptOf, isWrite, body, faile
 use Rattle.hardware.specs.declared.Error.the-variants.{I2c}
 use Rattle.hardware.specs.declared.Update.the-variants.{Reading}
 use Rattle.hardware.specs.Change.{change, accessUpdate, restUpdate}
+use Rattle.i2c.specs.declared.moves.Moves.{Moves}
 use Rattle.i2c.specs.declared.moves.Moves.the-variants.{Asking, Granting}
 use Rattle.i2c.specs.declared.moves.MovesNext.the-variants.{Going as MovesGoing}
-use Rattle.i2c.specs.Moves.{shakes, closing, entered, onGranted, awaitingGrant, lookedAt, accessMoves, restMoves, madeOf, movesNext}
+use Rattle.i2c.specs.Moves.{shakes, closing, entered, onGranted, awaitingGrant, lookedAt, accessMoves, restMoves, movesNext, dueMoves, validMoves, validRequest, MOST, countOf}
 use Rattle.i2c.specs.Calls.{limitOf, triesOf}
-use Rattle.i2c.specs.Tries.{MOST, wanted, backThen, afterRelease, afterRead, afterWrite, afterTry, tryNow, lockedTry, triesLeft, accessTries, accessStage, restTries, restStage, triesNext}
+use Rattle.i2c.specs.Tries.{wanted, beginning, more, backThen, afterRelease, afterRead, afterWrite, afterTry, tryNow, lockedTry, triesLeft, accessTries, accessStage, restTries, restStage, triesNext}
 
 -- a call's script does what the Rust's closure does
 pub body-is : (l : Layout) (r : Request) → transfer silent l (deviceOf r) (commands (scriptOf r)) none ≡ body l r
@@ -53,13 +56,33 @@ on-start (WriteByte d o v) = refl
 on-start (ReadCombined d reg) = refl
 on-start (WriteCombined d reg v) = refl
 
--- an attempt begins, and is counted
-pub begins : (port : Port) (r : Request) (lock : Bool) (left made : ℕ)
-    → triesNext port r lock (Going (record { made = suc made; left = left; stage = Trying New })) ≡ tally made (tryNow port r lock left)
-unfolding triesNext accessTries accessStage accessAttempt restTries restStage restAttempt tryNow once attempt attempting tally _>>=_
-begins port r lock left made =
-    ap (λ f. ask (Read (layoutOf (port .family) .reg)) (λ a. tally (suc made) (orErr (begun Pulses (layoutOf (port .family)) (deviceOf r) f) (raw a) >>= afterTry port r lock left)))
+-- an attempt begins, and is noted
+pub begins : (port : Port) (r : Request) (lock : Bool) (left : ℕ)
+    → triesNext port r lock (Going true (record { left = left; stage = Trying New })) ≡ erase (tryNow port r lock left)
+unfolding triesNext beginning accessTries accessStage accessAttempt restTries restStage restAttempt tryNow once attempt attempting erase pick _>>=_
+begins port r lock left =
+    ap (λ f. note Attempt (ask (Read (layoutOf (port .family) .reg)) (λ a. erase (orErr (begun Pulses (layoutOf (port .family)) (deviceOf r) f) (raw a) >>= afterTry port r lock left))))
     (body-is (layoutOf (port .family)) r)
+
+-- a smaller machine's next access is the larger's, with the attempt that begins
+pub going-on : {A B : Type 0} (b : Bool) (x : Access) (p : Answer → Prog A) (k : A → Prog B)
+    → beginning b (ask x (λ a. erase (p a >>= k))) ≡ followed (beginning b (ask x (λ a. erase (p a)))) k
+unfolding beginning pick followed _>>=_
+going-on true x p k = ap (note Attempt) (going x p k)
+going-on false x p k = going x p k
+
+-- the count that goes on from it
+pub asked-on : {A : Type 0} (b : Bool) (made : ℕ) (x : Access) (p : Answer → Prog A) → made < MOST
+    → ask x (λ a. tally (countOf b made) (p a)) ≡ tally made (beginning b (ask x (λ a. erase (p a))))
+unfolding countOf beginning more pick tally
+asked-on true made x p h = rw (lt-ltb made MOST h) (ap (ask x) (fun-ext (λ a. sym (tally-erase (suc made) (p a)))))
+asked-on false made x p h = rw (lt-ltb made MOST h) (ap (ask x) (fun-ext (λ a. sym (tally-erase made (p a)))))
+
+-- the transfers made and those to come, with the one that begins now among the first or the second
+count-on : (b : Bool) (made due limit : ℕ) → made < MOST → made + more b due ≤ limit → countOf b made + due ≤ limit
+unfolding countOf more pick
+count-on true made due limit h g = rw (lt-ltb made MOST h) (omega (arith, g))
+count-on false made due limit h g = rw (lt-ltb made MOST h) (omega (arith, g))
 
 pub when-yes : (lock : Bool) (p : Prog (R (Unit {0}))) (k : Prog (R Taken)) → lock ≡ true → (p >>? λ _. k) ≡ whenLock lock p k
 unfolding whenLock pick
@@ -132,20 +155,13 @@ pub read-open : (port : Port) (r : Request) (lock : Bool) (tries : ℕ) → isWr
 unfolding moves pick
 read-open port r lock tries w = rw (w)
 
--- room for the attempts begun and those to come
-pub strict-room : (cap made left : ℕ) (v : Bool) → cap ≤ MOST → pick (ltb (made + left) cap) v false ≡ true → made < MOST
-strict-room cap made left v hc h = omega (arith, hc, ltb-true (made + left) cap (picked-first (ltb (made + left) cap) v h))
-
-pub room : (cap made left : ℕ) (v : Bool) → cap ≤ MOST → pick (leb (made + left) cap) v false ≡ true → made + left ≤ MOST
-room cap made left v hc h = omega (arith, hc, leb-true (made + left) cap (picked-first (leb (made + left) cap) v h))
-
 -- with a look left, ESDP is read
-pub granted-more : (port : Port) (r : Request) (lock : Bool) (made tries left : ℕ) → (left ≡ 0 → ⊥)
-    → movesNext port r lock (MovesGoing (Granting made tries (left - 1))) ≡ tally made (awaitingGrant port r lock tries left)
-unfolding movesNext accessMoves restMoves madeOf lookedAt awaitingGrant granted tally _>>=_
-granted-more port r lock made tries zero h = absurd (h refl)
-granted-more port r lock made tries (suc n) h =
-    ap (λ m. movesNext port r lock (MovesGoing (Granting made tries m))) (sub-one (suc n))
+pub granted-more : (port : Port) (r : Request) (lock : Bool) (tries left : ℕ) → (left ≡ 0 → ⊥)
+    → movesNext port r lock (MovesGoing false (Granting tries (left - 1))) ≡ erase (awaitingGrant port r lock tries left)
+unfolding movesNext beginning pick accessMoves restMoves lookedAt awaitingGrant granted erase _>>=_
+granted-more port r lock tries zero h = absurd (h refl)
+granted-more port r lock tries (suc n) h =
+    ap (λ m. movesNext port r lock (MovesGoing false (Granting tries m))) (sub-one (suc n))
 
 closing-gives : (port : Port) (r : Request) → shakes port r ≡ true → closing port r ≡ givenBus
 unfolding closing pick
@@ -155,10 +171,10 @@ closing-ends : (port : Port) (r : Request) → shakes port r ≡ false → closi
 unfolding closing pick
 closing-ends port r h = fun-ext (λ result. rw (h))
 
-asks : (port : Port) (r : Request) (lock : Bool) (made tries : ℕ)
-    → movesNext port r lock (MovesGoing (Asking made tries Reading)) ≡ tally made (change askBus >>? λ _. awaitingGrant port r lock tries 200)
-unfolding movesNext accessMoves restMoves madeOf accessUpdate restUpdate change tally _>>=_
-asks port r lock made tries = refl
+asks : (port : Port) (r : Request) (lock : Bool) (tries : ℕ)
+    → movesNext port r lock (MovesGoing false (Asking tries Reading)) ≡ erase (change askBus >>? λ _. awaitingGrant port r lock tries 200)
+unfolding movesNext beginning pick accessMoves restMoves accessUpdate restUpdate change erase _>>=_
+asks port r lock tries = refl
 
 with-bus : (port : Port) (device : ℕ) (f : Prog (R Taken)) → qsfp port ≡ true → (change askBus >>? λ _. granted 200 >>? onGrant device f) ≡ withBus port device f
 unfolding withBus pick
@@ -169,19 +185,19 @@ unfolding withBus pick
 no-bus port device f h = rw (h)
 
 -- the handshake begins
-pub shake-open : (port : Port) (r : Request) (lock : Bool) (made tries : ℕ) → shakes port r ≡ true
-    → movesNext port r lock (MovesGoing (Asking made tries Reading)) ≡ tally made (handshaken port r (moves port r lock tries))
+pub shake-open : (port : Port) (r : Request) (lock : Bool) (tries : ℕ) → shakes port r ≡ true
+    → movesNext port r lock (MovesGoing false (Asking tries Reading)) ≡ erase (handshaken port r (moves port r lock tries))
 unfolding handshaken shakes awaitingGrant onGranted onGrant deviceOf
-shake-open port (ReadByte d o) lock made tries h =
-    asks port (ReadByte d o) lock made tries
-    ∙ ap (λ k. tally made (change askBus >>? λ _. granted 200 >>? λ came. pick came (moves port (ReadByte d o) lock tries) (ret (Err (I2c d))) >>= k)) (closing-gives port (ReadByte d o) h)
-    ∙ ap (tally made) (with-bus port d (moves port (ReadByte d o) lock tries) h)
-shake-open port (WriteByte d o v) lock made tries h =
-    asks port (WriteByte d o v) lock made tries
-    ∙ ap (λ k. tally made (change askBus >>? λ _. granted 200 >>? λ came. pick came (moves port (WriteByte d o v) lock tries) (ret (Err (I2c d))) >>= k)) (closing-gives port (WriteByte d o v) h)
-    ∙ ap (tally made) (with-bus port d (moves port (WriteByte d o v) lock tries) h)
-shake-open port (ReadCombined d reg) lock made tries h = absurd (subst T (sym h) tt)
-shake-open port (WriteCombined d reg v) lock made tries h = absurd (subst T (sym h) tt)
+shake-open port (ReadByte d o) lock tries h =
+    asks port (ReadByte d o) lock tries
+    ∙ ap (λ k. erase (change askBus >>? λ _. granted 200 >>? λ came. pick came (moves port (ReadByte d o) lock tries) (ret (Err (I2c d))) >>= k)) (closing-gives port (ReadByte d o) h)
+    ∙ ap erase (with-bus port d (moves port (ReadByte d o) lock tries) h)
+shake-open port (WriteByte d o v) lock tries h =
+    asks port (WriteByte d o v) lock tries
+    ∙ ap (λ k. erase (change askBus >>? λ _. granted 200 >>? λ came. pick came (moves port (WriteByte d o v) lock tries) (ret (Err (I2c d))) >>= k)) (closing-gives port (WriteByte d o v) h)
+    ∙ ap erase (with-bus port d (moves port (WriteByte d o v) lock tries) h)
+shake-open port (ReadCombined d reg) lock tries h = absurd (subst T (sym h) tt)
+shake-open port (WriteCombined d reg v) lock tries h = absurd (subst T (sym h) tt)
 
 entered-by : (port : Port) (r : Request) (lock : Bool) (tries : ℕ) → closing port r ≡ ret → entered port r lock tries ≡ moves port r lock tries
 unfolding entered
@@ -213,12 +229,33 @@ limit-fits (WriteByte d o v) attempts h = omega arith
 limit-fits (ReadCombined d reg) attempts h = omega arith
 limit-fits (WriteCombined d reg v) attempts h = omega arith
 
-pub limit-most : (r : Request) → limitOf r ≤ MOST
+pub limit-most : (r : Request) → limitOf r < MOST
 unfolding limitOf
-limit-most (ReadByte d o) = lit≤ tt
-limit-most (WriteByte d o v) = lit≤ tt
-limit-most (ReadCombined d reg) = lit≤ tt
-limit-most (WriteCombined d reg v) = lit≤ tt
+limit-most (ReadByte d o) = omega arith
+limit-most (WriteByte d o v) = omega arith
+limit-most (ReadCombined d reg) = omega arith
+limit-most (WriteCombined d reg v) = omega arith
 
-pub limit-room : (r : Request) (tries attempts : ℕ) → tries ≡ triesOf r attempts → attempts ≤ 255 → 0 + wanted r tries ≤ limitOf r
-limit-room r tries attempts e h = rw (e) (omega (arith, limit-fits r attempts h))
+-- what an opening may begin fits its limit
+pub limit-room : (r : Request) (tries attempts due : ℕ) → tries ≡ triesOf r attempts → attempts ≤ 255 → due ≤ wanted r tries → 0 + due ≤ limitOf r
+limit-room r tries attempts due e h d = omega (arith, subst (λ n. due ≤ wanted r n) e d, limit-fits r attempts h)
+
+-- what a request within its limits says
+pub record Fits (port : Port) (r : Request) (tries cap made : ℕ) (s : Moves) : Type 0 where
+  pub counters : validMoves tries port r s ≡ true
+  pub all : made + dueMoves r s ≤ cap
+
+pub valid-fits : (port : Port) (r : Request) (tries cap made : ℕ) (s : Moves) → validRequest port r tries cap made s ≡ true → Fits port r tries cap made s
+unfolding validRequest
+valid-fits port r tries cap made s h =
+    record { counters = picked-first (validMoves tries port r s) _ h; all = leb-true _ _ (picked-second (validMoves tries port r s) _ h) }
+
+-- a count within its limit is below the top of its type
+pub fits-below : (port : Port) (r : Request) (tries cap made : ℕ) (s : Moves) → cap < MOST → validRequest port r tries cap made s ≡ true → made < MOST
+fits-below port r tries cap made s h v = omega (arith, h, valid-fits port r tries cap made s v .all)
+
+-- a state within its limits, with the attempt that begins
+pub fits-valid : (b : Bool) (port : Port) (r : Request) (tries cap made : ℕ) (s : Moves) → cap < MOST → validMoves tries port r s ≡ true
+    → made + more b (dueMoves r s) ≤ cap → validRequest port r tries cap (countOf b made) s ≡ true
+unfolding validRequest
+fits-valid b port r tries cap made s h v all = picked _ _ v (le-leb _ _ (count-on b made _ _ (omega (arith, h, all)) all))

@@ -5,7 +5,7 @@ use mathlib.Core.Path.{_≡_, refl, ap, fun-ext, _∙_, sym}
 use mathlib.Core.Bool.{Bool, true, false}
 use lib.Dec.{eqb}
 use Rattle.hardware.specs.declared.Port.{Port}
-use Rattle.hardware.specs.Prog.{Prog, ret, note, Note, Acquires, Released, begun, R, Ok, Err, orErr, erase, erase-bind, bind-assoc, tally, tally-erase, pick, _>>=_, _>>?_}
+use Rattle.hardware.specs.Prog.{Prog, ret, note, Note, Acquires, Released, stays, R, Ok, Err, orErr, erase, erase-bind, bind-assoc, pick, _>>=_, _>>?_}
 use Rattle.hardware.specs.Registers.{noneOf}
 use Rattle.sync.specs.Regs.{PHY0, PHY1, TOKEN, phy}
 use Rattle.sync.specs.Resource.{acquireBits, releaseBits}
@@ -40,10 +40,10 @@ acquire-plain : (port : Port) → acquire port (mask port) ≡ note Acquires (ac
 unfolding acquire pick
 acquire-plain port = rw (mask-plain port, mask-bits port)
 
--- a call that notes that it is called
-called : (c : Note) (n : ℕ) (p : Prog (R (Unit {0}))) (k : R (Unit {0}) → Prog (R Taken)) → begun c n ≡ n → tally n (p >>= k) ≡ tally n (note c p >>= k)
-unfolding tally _>>=_
-called c n p k e = ap (λ m. tally m (p >>= k)) (sym e)
+-- a call that notes that it is called, which the host does not see
+called : (c : Note) (p : Prog (R (Unit {0}))) (k : R (Unit {0}) → Prog (R Taken)) → ((q : Prog (R Taken)) → stays c q ≡ q) → erase (p >>= k) ≡ erase (note c p >>= k)
+unfolding erase _>>=_
+called c p k unseen = sym (unseen (erase (p >>= k)))
 
 noted : (k : Prog (R Taken)) (r : R (Unit {0})) → erase (orErr (λ _. k) r) ≡ erase (orErr (λ _. acquiredAll) r >>= orErr (λ _. k))
 unfolding orErr acquiredAll erase _>>=_
@@ -51,18 +51,15 @@ noted k (Ok u) = refl
 noted k (Err e) = refl
 
 -- the bits taken, and then k: what a call is that takes the lock first
-pub taken-first : (port : Port) (n : ℕ) (k : Prog (R Taken))
-    → tally n (acquireBits port (mask port) >>? λ _. k) ≡ tally n (acquire port (mask port) >>? λ _. k)
-taken-first port n k =
+pub taken-first : (port : Port) (k : Prog (R Taken))
+    → erase (acquireBits port (mask port) >>? λ _. k) ≡ erase (acquire port (mask port) >>? λ _. k)
+taken-first port k =
     rw (acquire-plain port)
-    (sym (tally-erase n _)
-    ∙ ap (tally n)
     (erase-bind (acquireBits port (mask port)) (orErr (λ _. k))
     ∙ ap (λ f. erase (acquireBits port (mask port)) >>= f) (fun-ext (noted k))
     ∙ sym (erase-bind (acquireBits port (mask port)) (λ r. orErr (λ _. acquiredAll) r >>= orErr (λ _. k)))
-    ∙ ap erase (sym (bind-assoc (acquireBits port (mask port)) (orErr (λ _. acquiredAll)) (orErr (λ _. k)))))
-    ∙ tally-erase n _
-    ∙ called Acquires n (acquireBits port (mask port) >>? λ _. acquiredAll) (orErr (λ _. k)) refl)
+    ∙ ap erase (sym (bind-assoc (acquireBits port (mask port)) (orErr (λ _. acquiredAll)) (orErr (λ _. k))))
+    ∙ called Acquires (acquireBits port (mask port) >>? λ _. acquiredAll) (orErr (λ _. k)) (λ q. refl))
 
 ended : (k : Prog (R Taken)) (r : R (Unit {0})) → orErr (λ _. k) r ≡ orErr (λ _. ret (Ok (tt {0}))) r >>= orErr (λ _. k)
 unfolding orErr _>>=_
@@ -74,11 +71,11 @@ unfolding release giveBits withBits pick
 release-plain port = rw (mask-plain port, mask-bits port, mask-some port)
 
 -- the bits given back, and then k: what a call is that gives the lock back first
-pub given-first : (port : Port) (n : ℕ) (k : Prog (R Taken))
-    → tally n (releaseBits port (mask port) >>? λ _. k) ≡ tally n (release port (mask port) >>? λ _. k)
-given-first port n k =
+pub given-first : (port : Port) (k : Prog (R Taken))
+    → erase (releaseBits port (mask port) >>? λ _. k) ≡ erase (release port (mask port) >>? λ _. k)
+given-first port k =
     rw (release-plain port)
-    (ap (tally n)
+    (ap erase
     (ap (λ f. releaseBits port (mask port) >>= f) (fun-ext (ended k))
     ∙ sym (bind-assoc (releaseBits port (mask port)) (orErr (λ _. ret (Ok tt))) (orErr (λ _. k))))
-    ∙ called Released n (releaseBits port (mask port) >>? λ _. ret (Ok tt)) (orErr (λ _. k)) refl)
+    ∙ called Released (releaseBits port (mask port) >>? λ _. ret (Ok tt)) (orErr (λ _. k)) (λ q. refl))

@@ -23,7 +23,6 @@ use Rattle.i2c.specs.declared.calls.TransferCall.the-variants.{Going}
 use Rattle.i2c.specs.declared.calls.TransferTold.{TransferTold}
 use Rattle.i2c.specs.declared.calls.TransferTold.the-variants.{Ask}
 use Rattle.i2c.specs.I2c.{transferred, setupBus}
-use Rattle.i2c.specs.Moves.{madeOf}
 use Rattle.i2c.specs.Calls.{triesOf, evenDevice, openTransfer, restCall, stepTransfer, saidTransfer, standsTransfer}
 use Rattle.i2c.proofs.Laws.{upto}
 use Rattle.i2c.proofs.Ends.{TRANSFER-STEPS, transferred-ends, MOST-STEPS, transfer-most, setup-ends}
@@ -74,7 +73,7 @@ pub setup-finishes : (l : List Answer) → 3 ≤ length l → Awaited (change se
 setup-finishes l h w = run-ends (change setupBus) 3 l setup-ends h w
 
 -- a state that was handed out, with any answer of the kind that its access awaits, is not refused
-pub transfer-accepts : (x : Access) (port : Port) (r : Request) (lock : Bool) (s : Moves) (a : Answer) → standsTransfer (Ask x (Going port r lock s))
-    → fits x a ≡ true → stepTransfer (Going port r lock s) a ≡ yes (tally (madeOf s) (restCall port r lock s a))
+pub transfer-accepts : (x : Access) (port : Port) (r : Request) (lock : Bool) (made : ℕ) (s : Moves) (a : Answer) → standsTransfer (Ask x (Going port r lock made s))
+    → fits x a ≡ true → stepTransfer (Going port r lock made s) a ≡ yes (tally made (restCall port r lock s a))
 unfolding standsTransfer stepTransfer question
-transfer-accepts x port r lock s a h e = rw (h .1, h .2, ← h .0, e)
+transfer-accepts x port r lock made s a h e = rw (h .1, h .2, ← h .0, e)

@@ -23,7 +23,7 @@ use Rattle.i2c.specs.declared.calls.SetupCall.the-variants.{Going as Set
 use Rattle.i2c.specs.declared.calls.SetupTold.{SetupTold}
 use Rattle.i2c.specs.declared.calls.SetupTold.the-variants.{Ask as SetupAsk, End as SetupEnd, Refused as SetupRefused}
 use Rattle.i2c.specs.I2c.{deviceOf, givesValue, transferred, setupBus}
-use Rattle.i2c.specs.Moves.{accessMoves, restMoves, madeOf, validMoves}
+use Rattle.i2c.specs.Moves.{accessMoves, restMoves, validRequest}
 
 -- the most attempts of a call
 unfoldable pub limitOf : Request → ℕ
@@ -54,21 +54,21 @@ restCall port r lock s a = restMoves port r lock s a >>= givesValue r
 
 -- a step: 10, 11, 12
 unfoldable pub stepTransfer : TransferCall → Answer → Asked (Prog (Counted (R ℕ)))
-stepTransfer (Going port r lock s) a =
+stepTransfer (Going port r lock made s) a =
     question (validPort port) 10
-    (question (validMoves (limitOf r) port r s) 10
-    (question (fits (accessMoves port s) a) 12 (yes (tally (madeOf s) (restCall port r lock s a)))))
+    (question (validRequest port r (limitOf r) (limitOf r) made s) 10
+    (question (fits (accessMoves port s) a) 12 (yes (tally made (restCall port r lock s a)))))
 stepTransfer Over a = no 11
 
 unfoldable pub saidTransfer : TransferTold → Asked (Prog (Counted (R ℕ)))
-saidTransfer (Ask x (Going port r lock s)) = yes (ask x (λ a. tally (madeOf s) (restCall port r lock s a)))
+saidTransfer (Ask x (Going port r lock made s)) = yes (ask x (λ a. tally made (restCall port r lock s a)))
 saidTransfer (Ask x Over) = no 0
 saidTransfer (End w made) = yes (ret (record { transfers = made; result = word w }))
 saidTransfer (Refused q) = no (refusalNumber q)
 
 -- a state to go on from comes with the access it awaits, and passes question 10
 unfoldable pub standsTransfer : TransferTold → Type 0
-standsTransfer (Ask x (Going port r lock s)) = (x ≡ accessMoves port s) × (validPort port ≡ true) × (validMoves (limitOf r) port r s ≡ true)
+standsTransfer (Ask x (Going port r lock made s)) = (x ≡ accessMoves port s) × (validPort port ≡ true) × (validRequest port r (limitOf r) (limitOf r) made s ≡ true)
 standsTransfer (Ask x Over) = ⊥
 standsTransfer (End w made) = Unit {0}
 standsTransfer (Refused q) = Unit {0}

@@ -1,14 +1,14 @@
 -- The attempts of a call under its lock, one access at a time. No mask of a transfer has TOKEN: what is left of `acquire`
 -- and `release` is what is left of their bits of SW_FW_SYNC.
-use Prim.Native.Nat.{ℕ, _+_, suc, zero}
-use mathlib.Core.Bool.{Bool, false}
-use lib.Dec.{ltb, leb}
+use Prim.Native.Nat.{ℕ, suc, zero}
+use mathlib.Core.Bool.{Bool, true, false}
+use lib.Dec.{ltb}
 use Rattle.hardware.specs.declared.Access.{Access}
 use Rattle.hardware.specs.declared.Access.the-variants.{Wait}
 use Rattle.hardware.specs.declared.Answer.{Answer}
 use Rattle.hardware.specs.declared.Error.the-variants.{I2c}
 use Rattle.hardware.specs.declared.Port.{Port}
-use Rattle.hardware.specs.Prog.{Prog, ret, ask, R, Err, Counted, tally, _>>=_, _>>?_, pick}
+use Rattle.hardware.specs.Prog.{Prog, ret, ask, note, Attempt, R, Err, erase, _>>=_, _>>?_, pick}
 use Rattle.hardware.specs.Registers.{micros}
 use Rattle.sync.specs.Resource.{accessAcquireBits, restAcquireBits, validAcquireBits, accessReleaseBits, restReleaseBits, validReleaseBits}
 use Rattle.hostif.specs.Acquire.{acquire, release}
@@ -24,10 +24,6 @@ use Rattle.i2c.specs.declared.tries.Tries.{Tries}
 use Rattle.i2c.specs.declared.tries.TriesNext.{TriesNext}
 use Rattle.i2c.specs.declared.tries.TriesNext.the-variants.{Going, End}
 use Rattle.i2c.specs.I2c.{mask, deviceOf, scriptOf, isWrite, failedI2c, once, whenLock, readJudged, readTries, writeTries, givenUp}
-
--- the greatest count of transfers that a state can hold
-abbrev pub MOST : ℕ
-MOST = 4294967295
 
 -- the attempts that a call may make
 unfoldable pub wanted : Request → ℕ → ℕ
@@ -83,20 +79,43 @@ restStage port r lock left Pausing a = triesLeft port r lock left
 unfoldable pub restTries : Port → Request → Bool → Tries → Answer → Prog (R Taken)
 restTries port r lock t a = restStage port r lock (t .left) (t .stage) a
 
-unfoldable pub triesNext : Port → Request → Bool → TriesNext → Prog (Counted (R Taken))
-triesNext port r lock (Going t) = ask (accessTries port t) (λ a. tally (t .made) (restTries port r lock t a))
-triesNext port r lock (End made g) = ret (record { transfers = made; result = got g })
+-- where an attempt begins, it is noted
+unfoldable pub beginning : {A : Type 0} → Bool → Prog A → Prog A
+beginning begins p = pick begins (note Attempt p) p
 
--- the attempts begun and those to come are at most cap
-unfoldable pub validStage : ℕ → Port → Request → ℕ → ℕ → Stage → Bool
-validStage cap port r made left (Acquiring s) = pick (ltb (made + left) cap) (validAcquireBits (port .family) s) false
-validStage cap port r made left (Trying s) = pick (leb (made + left) cap) (validAttempt (layoutOf (port .family)) (scriptOf r) s) false
-validStage cap port r made left (Releasing g s) = pick (leb (made + left) cap) (validReleaseBits s) false
-validStage cap port r made left Pausing = leb (made + left) cap
+unfoldable pub triesNext : Port → Request → Bool → TriesNext → Prog (R Taken)
+triesNext port r lock (Going begins t) = beginning begins (ask (accessTries port t) (λ a. erase (restTries port r lock t a)))
+triesNext port r lock (End g) = ret (got g)
 
+-- the most attempts that are to come
+unfoldable pub dueStage : ℕ → Stage → ℕ
+dueStage left (Acquiring s) = suc left
+dueStage left (Trying s) = left
+dueStage left (Releasing g s) = left
+dueStage left Pausing = left
+
+unfoldable pub dueTries : Tries → ℕ
+dueTries t = dueStage (t .left) (t .stage)
+
+-- one more where an attempt begins
+unfoldable pub more : Bool → ℕ → ℕ
+more begins n = pick begins (suc n) n
+
+-- with the one that begins
+unfoldable pub dueTriesNext : TriesNext → ℕ
+dueTriesNext (Going begins t) = more begins (dueTries t)
+dueTriesNext (End g) = 0
+
+unfoldable pub validStage : Port → Request → Stage → Bool
+validStage port r (Acquiring s) = validAcquireBits (port .family) s
+validStage port r (Trying s) = validAttempt (layoutOf (port .family)) (scriptOf r) s
+validStage port r (Releasing g s) = validReleaseBits s
+validStage port r Pausing = true
+
+-- of a request with so many attempts fewer are left
 unfoldable pub validTries : ℕ → Port → Request → Tries → Bool
-validTries cap port r t = validStage cap port r (t .made) (t .left) (t .stage)
+validTries tries port r t = pick (ltb (t .left) tries) (validStage port r (t .stage)) false
 
 unfoldable pub validTriesNext : ℕ → Port → Request → TriesNext → Bool
-validTriesNext cap port r (Going t) = validTries cap port r t
-validTriesNext cap port r (End made g) = leb made cap
+validTriesNext tries port r (Going begins t) = validTries tries port r t
+validTriesNext tries port r (End g) = true

@@ -14,18 +14,19 @@ use hardware::UpdateNext;
 use hardware::Word;
 use hardware::change::Bits;
 use hardware::change::Change;
+ghost use Prim.Native.Nat.{_+_, _<_, _≤_};
 ghost use mathlib.Core.Path.{_≡_};
 ghost use mathlib.Core.Bool.{true};
 ghost use Rattle.hardware.specs.Asked.{yes, validPort};
-ghost use Rattle.hardware.specs.Prog.{after, erase};
+ghost use Rattle.hardware.specs.Prog.{erase, followed, tally};
 ghost use Rattle.hardware.specs.Change.{updateNext, change};
 ghost use Rattle.i2c.specs.I2c.{givesValue, setupBus};
-ghost use Rattle.i2c.specs.Moves.{movesNext, validMovesNext};
+ghost use Rattle.i2c.specs.Moves.{MOST, movesNext, dueMovesNext, validMovesNext};
 ghost use Rattle.i2c.specs.Calls.{limitOf, triesOf, evenDevice, openTransfer, stepTransfer, saidTransfer, standsTransfer, stepSetup, saidSetup, standsSetup};
 
-// The request and whether the call locks stand beside the state.
+// The request, whether the call locks, and the transfers made stand beside the state.
 pub enum TransferCall {
-    Going(Port, Request, bool, Moves),
+    Going(Port, Request, bool, u32, Moves),
     Over,
 }
 
@@ -65,16 +66,16 @@ fn even(r: Request) -> bool
     crate::once::device(r) % 2 == 0
 }
 
-fn told(port: Port, r: Request, lock: bool, n: MovesNext) -> TransferTold
-    ensures { λ t. ⌜ saidTransfer t ≡ yes (after (movesNext port r lock n) (givesValue r)) ⌝ }
-    ensures { λ t. ⌜ (validPort port ≡ true → validMovesNext (limitOf r) port r n ≡ true → standsTransfer t) ⌝ }
+fn told(port: Port, r: Request, lock: bool, made: u32, n: MovesNext) -> TransferTold
+    ensures { λ t. ⌜ (made < MOST → saidTransfer t ≡ yes (tally made (followed (movesNext port r lock n) (givesValue r)))) ⌝ }
+    ensures { λ t. ⌜ (validPort port ≡ true → validMovesNext (limitOf r) port r n ≡ true → made + dueMovesNext r n ≤ limitOf r → standsTransfer t) ⌝ }
 {
     match n {
-        MovesNext::Going(s) => TransferTold::Ask(
+        MovesNext::Going(begins, s) => TransferTold::Ask(
             crate::moves::access(port, s),
-            TransferCall::Going(port, r, lock, s),
+            TransferCall::Going(port, r, lock, crate::moves::count(begins, made), s),
         ),
-        MovesNext::End(made, g) => TransferTold::End(crate::once::value(r, g), made),
+        MovesNext::End(g) => TransferTold::End(crate::once::value(r, g), made),
     }
 }
 
@@ -103,7 +104,8 @@ fn open(family: u32, device: u16, lan: u32, r: Request, attempts: u32, lock: boo
                         p,
                         r,
                         lock,
-                        crate::moves::open(p, r, lock, tries(r, attempts as u8), 0),
+                        0,
+                        crate::moves::open(p, r, lock, tries(r, attempts as u8)),
                     );
                 }
                 return TransferTold::Refused(Refusal::Attempts);
@@ -208,11 +210,12 @@ pub fn transfer_step(s: TransferCall, a: Answer) -> TransferTold
     ensures { λ t. ⌜ standsTransfer t ⌝ }
 {
     match s {
-        TransferCall::Going(port, r, lock, t) => {
+        TransferCall::Going(port, r, lock, made, t) => {
             if hardware::valid_port(port) {
-                if crate::moves::valid(limit(r), port, r, t) {
+                let most = limit(r);
+                if crate::moves::valid_request(port, r, most, most, made, t) {
                     if hardware::awaited(crate::moves::access(port, t), a) {
-                        return told(port, r, lock, crate::moves::step(port, r, lock, t, a));
+                        return told(port, r, lock, made, crate::moves::step(port, r, lock, t, a));
                     }
                     return TransferTold::Refused(Refusal::Kind);
                 }

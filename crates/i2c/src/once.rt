@@ -1,11 +1,13 @@
 // One of the four calls, and its one transfer: the script that its attempts run.
 use bus::Layout;
+use bus::Taken;
 use hardware::Answer;
 use hardware::Word;
 use transfer::attempt::Attempt;
 use transfer::attempt::AttemptNext;
 use transfer::attempt::Got;
 use transfer::attempt::Sequence;
+ghost use Prim.Native.Nat.{_+_, _*_};
 ghost use mathlib.Core.Path.{_≡_};
 ghost use mathlib.Core.Bool.{true};
 ghost use Rattle.hardware.specs.Prog.{erase};
@@ -55,6 +57,13 @@ pub fn failed(g: Got) -> bool
     }
 }
 
+// The two bytes of a register. The check byte, the last one read, is not compared.
+fn combined(t: Taken) -> Word
+    ensures { λ w. ⌜ w ≡ Word.Ok (t .high * 256 + t .low) ⌝ }
+{
+    Word::Ok(t.high as u32 * 256 + t.low as u32)
+}
+
 // What the Rust gives for the bytes read; 0 stands for its `()`.
 pub fn value(r: Request, g: Got) -> Word
     ensures { λ w. ⌜ word w ≡ valueOf r (got g) ⌝ }
@@ -63,7 +72,7 @@ pub fn value(r: Request, g: Got) -> Word
         Got::Ok(t) => match r {
             Request::ReadByte(_, _) => Word::Ok(t.last as u32),
             Request::WriteByte(_, _, _) => Word::Ok(0),
-            Request::ReadCombined(_, _) => Word::Ok(t.high as u32 * 256 + t.low as u32),
+            Request::ReadCombined(_, _) => combined(t),
             Request::WriteCombined(_, _, _) => Word::Ok(0),
         },
         Got::Err(e) => Word::Err(e),

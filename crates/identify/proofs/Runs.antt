@@ -15,7 +15,6 @@ use Rattle.hardware.specs.Runs.{run, ran, Awaited, AwaitedIn, driven, ended, tr
 use Rattle.hardware.proofs.Laws.{asked-runs, Onward, driven-runs}
 use Rattle.hardware.proofs.Ends.{run-ends}
 use Rattle.i2c.specs.declared.once.Request.the-variants.{ReadByte}
-use Rattle.i2c.specs.Moves.{madeOf}
 use Rattle.i2c.specs.Paired.{Paired}
 use Rattle.i2c.proofs.Pairs.{Pairs, pairs-then, pairs-pick, pairs-ret, pairs-paired}
 use Rattle.i2c.proofs.Paired.{transferred-pairs}
@@ -53,10 +52,10 @@ pub qsfp-finishes : (port : Port) (l : List Answer) → QSFP-STEPS (port .family
 qsfp-finishes port l h w = run-ends (identifyQsfp port) (QSFP-STEPS (port .family)) l (qsfp-ends port) h w
 
 -- a state that was handed out, with any answer of the kind that its access awaits, is not refused
-pub identify-accepts : (x : Access) (port : Port) (s : Identify) (a : Answer) → standsIdentify (Ask x (Going port s)) → fits x a ≡ true
-    → stepIdentify (Going port s) a ≡ yes (tally (madeOf (s .moves)) (restIdentify port s a))
+pub identify-accepts : (x : Access) (port : Port) (made : ℕ) (s : Identify) (a : Answer) → standsIdentify (Ask x (Going port made s)) → fits x a ≡ true
+    → stepIdentify (Going port made s) a ≡ yes (tally made (restIdentify port s a))
 unfolding standsIdentify stepIdentify question
-identify-accepts x port s a h e = rw (h .1, h .2, ← h .0, e)
+identify-accepts x port made s a h e = rw (h .1, h .2, ← h .0, e)
 
 -- the step after a telling, if it asks for an access
 abbrev pub goes : (IdentifyCall → Answer → IdentifyTold) → IdentifyTold → Answer → IdentifyTold
@@ -67,10 +66,10 @@ goes step (Refused q) a = Refused q
 onward : (step : IdentifyCall → Answer → IdentifyTold) → ((s : IdentifyCall) (a : Answer) → saidIdentify (step s a) ≡ stepIdentify s a)
     → ((s : IdentifyCall) (a : Answer) → standsIdentify (step s a)) → Onward saidIdentify (goes step) standsIdentify
 unfolding saidIdentify standsIdentify
-onward step says stands (Ask y (Going port s)) x f a h e k =
+onward step says stands (Ask y (Going port made s)) x f a h e k =
     let same : y ≡ x = cc in
-    let rest : (λ b. tally (madeOf (s .moves)) (restIdentify port s b)) ≡ f = cc in
-    (says (Going port s) a ∙ identify-accepts y port s a h (ap (λ z. fits z a) same ∙ k) ∙ ap (λ g. yes (g a)) rest, stands (Going port s) a)
+    let rest : (λ b. tally made (restIdentify port s b)) ≡ f = cc in
+    (says (Going port made s) a ∙ identify-accepts y port made s a h (ap (λ z. fits z a) same ∙ k) ∙ ap (λ g. yes (g a)) rest, stands (Going port made s) a)
 onward step says stands (Ask y Over) x f a h e k = absurd h
 onward step says stands (End g made) x f a h e k = (cc, tt)
 onward step says stands (Refused q) x f a h e k = (cc, tt)

@@ -7,7 +7,6 @@ use Rattle.hardware.specs.declared.Answer.{Answer}
 use Rattle.hardware.specs.Asked.{Asked, yes, no, question, andThen, openPort, validPort, fits}
 use Rattle.hardware.specs.Numbers.{refusalNumber}
 use Rattle.hardware.specs.Prog.{Prog, ret, ask, R, Counted, tally}
-use Rattle.i2c.specs.Moves.{madeOf}
 use Rattle.sfp.specs.declared.Module.{Module}
 use Rattle.sfp.specs.Identify.{identify}
 use Rattle.sfp.specs.Qsfp.{identifyQsfp}
@@ -26,22 +25,22 @@ openQsfp family device lan = andThen (openPort family device lan) (λ port. yes 
 
 -- a step: 10, 11, 12
 unfoldable pub stepIdentify : IdentifyCall → Answer → Asked (Prog (Counted (R Module)))
-stepIdentify (Going port s) a =
+stepIdentify (Going port made s) a =
     question (validPort port) 10
-    (question (validIdentify port s) 10
-    (question (fits (accessIdentify port s) a) 12 (yes (tally (madeOf (s .moves)) (restIdentify port s a)))))
+    (question (validIdentify port made s) 10
+    (question (fits (accessIdentify port s) a) 12 (yes (tally made (restIdentify port s a)))))
 stepIdentify Over a = no 11
 
 -- what was told; 0 is none of the papers' numbers: nothing asks with a finished state (`standsIdentify`)
 unfoldable pub saidIdentify : IdentifyTold → Asked (Prog (Counted (R Module)))
-saidIdentify (Ask x (Going port s)) = yes (ask x (λ a. tally (madeOf (s .moves)) (restIdentify port s a)))
+saidIdentify (Ask x (Going port made s)) = yes (ask x (λ a. tally made (restIdentify port s a)))
 saidIdentify (Ask x Over) = no 0
 saidIdentify (End f made) = yes (ret (record { transfers = made; result = foundOf f }))
 saidIdentify (Refused q) = no (refusalNumber q)
 
 -- a state to go on from comes with the access it awaits, and passes question 10
 unfoldable pub standsIdentify : IdentifyTold → Type 0
-standsIdentify (Ask x (Going port s)) = (x ≡ accessIdentify port s) × (validPort port ≡ true) × (validIdentify port s ≡ true)
+standsIdentify (Ask x (Going port made s)) = (x ≡ accessIdentify port s) × (validPort port ≡ true) × (validIdentify port made s ≡ true)
 standsIdentify (Ask x Over) = ⊥
 standsIdentify (End f made) = Unit {0}
 standsIdentify (Refused q) = Unit {0}

@@ -39,43 +39,51 @@ offsetAt (QsfpTechnology g10 g1) = 0x93
 unfoldable pub requestAt : Place → Request
 requestAt p = ReadByte EEPROM (offsetAt p)
 
--- byte 0, which is probed
-unfoldable pub probesAt : Place → Bool
-probesAt (Identifier left) = true
-probesAt Comp1g = false
-probesAt (Comp10g g1) = false
-probesAt (Cable g1 g10) = false
-probesAt (Rate c) = false
-probesAt (Km c) = false
-probesAt (Hm c km) = false
-probesAt (Active c) = false
-probesAt QsfpIdentifier = true
-probesAt Qsfp10g = false
-probesAt (Qsfp1g g10) = false
-probesAt (QsfpConnector g10 g1) = false
-probesAt (QsfpLength g10 g1) = false
-probesAt (QsfpTechnology g10 g1) = false
+-- the requests after byte 0, this one among them
+unfoldable pub requestsAt : Place → ℕ
+requestsAt (Identifier left) = 0
+requestsAt Comp1g = 1
+requestsAt (Comp10g g1) = 2
+requestsAt (Cable g1 g10) = 3
+requestsAt (Rate c) = 4
+requestsAt (Km c) = 5
+requestsAt (Hm c km) = 6
+requestsAt (Active c) = 7
+requestsAt QsfpIdentifier = 0
+requestsAt Qsfp10g = 1
+requestsAt (Qsfp1g g10) = 2
+requestsAt (QsfpConnector g10 g1) = 3
+requestsAt (QsfpLength g10 g1) = 4
+requestsAt (QsfpTechnology g10 g1) = 5
 
--- with the long probe's attempts
+-- the most readings of byte 0, this one among them
+unfoldable pub readingsAt : Place → ℕ
+readingsAt (Identifier left) = 5 - left
+readingsAt Comp1g = 5
+readingsAt (Comp10g g1) = 5
+readingsAt (Cable g1 g10) = 5
+readingsAt (Rate c) = 5
+readingsAt (Km c) = 5
+readingsAt (Hm c km) = 5
+readingsAt (Active c) = 5
+readingsAt QsfpIdentifier = 1
+readingsAt Qsfp10g = 1
+readingsAt (Qsfp1g g10) = 1
+readingsAt (QsfpConnector g10 g1) = 1
+readingsAt (QsfpLength g10 g1) = 1
+readingsAt (QsfpTechnology g10 g1) = 1
+
+-- byte 0 gets the long probe's attempts
 unfoldable pub triesAt : Port → Place → ℕ
-triesAt port p = pick (probesAt p) 11 (attempts port)
+triesAt port p = pick (eqb (requestsAt p) 0) 11 (attempts port)
 
--- the most transfers up to this place's end: eleven for each request
-unfoldable pub capAt : Place → ℕ
-capAt (Identifier left) = pick (ltb left 5) ((5 - left) * 11) 11
-capAt Comp1g = 66
-capAt (Comp10g g1) = 77
-capAt (Cable g1 g10) = 88
-capAt (Rate c) = 99
-capAt (Km c) = 110
-capAt (Hm c km) = 121
-capAt (Active c) = 132
-capAt QsfpIdentifier = 11
-capAt Qsfp10g = 22
-capAt (Qsfp1g g10) = 33
-capAt (QsfpConnector g10 g1) = 44
-capAt (QsfpLength g10 g1) = 55
-capAt (QsfpTechnology g10 g1) = 66
+-- the most transfers of so many readings of byte 0 and so many requests after it
+unfoldable pub most : Port → ℕ → ℕ → ℕ
+most port readings requests = readings * 11 + requests * attempts port
+
+-- ... up to this place's end
+unfoldable pub capAt : Port → Place → ℕ
+capAt port p = most port (readingsAt p) (requestsAt p)
 
 -- byte 0 is requested at most five times
 unfoldable pub validPlace : Place → Bool
@@ -130,7 +138,7 @@ onward port (Found m) = ret (Ok m)
 onward port (Failed e) = ret (Err e)
 
 -- the next request has room for its attempts after n transfers
-unfoldable pub Later : ℕ → Then → Type 0
-Later n (Requests p) = (validPlace p ≡ true) × (n + 11 ≤ capAt p)
-Later n (Found m) = Unit {0}
-Later n (Failed e) = Unit {0}
+unfoldable pub Later : Port → ℕ → Then → Type 0
+Later port n (Requests p) = (validPlace p ≡ true) × (n + triesAt port p ≤ capAt port p)
+Later port n (Found m) = Unit {0}
+Later port n (Failed e) = Unit {0}

@@ -8,14 +8,18 @@ use hardware::Answer;
 use hardware::Opening;
 use hardware::Port;
 use hardware::Refusal;
+ghost use Prim.Native.Nat.{_<_};
 ghost use mathlib.Core.Path.{_≡_};
 ghost use mathlib.Core.Bool.{true};
 ghost use Rattle.hardware.specs.Asked.{yes, validPort};
+ghost use Rattle.hardware.specs.Prog.{tally};
+ghost use Rattle.i2c.specs.Moves.{MOST};
 ghost use Rattle.identify.specs.Walk.{identifyNext, validIdentifyNext};
 ghost use Rattle.identify.specs.Calls.{openIdentify, openQsfp, stepIdentify, saidIdentify, standsIdentify};
 
+// Going: with the transfers made.
 pub enum IdentifyCall {
-    Going(Port, Identify),
+    Going(Port, u32, Identify),
     Over,
 }
 
@@ -26,15 +30,16 @@ pub enum IdentifyTold {
     Refused(Refusal),
 }
 
-fn told(port: Port, n: IdentifyNext) -> IdentifyTold
-    ensures { λ t. ⌜ saidIdentify t ≡ yes (identifyNext port n) ⌝ }
-    ensures { λ t. ⌜ (validPort port ≡ true → validIdentifyNext port n ≡ true → standsIdentify t) ⌝ }
+fn told(port: Port, made: u32, n: IdentifyNext) -> IdentifyTold
+    ensures { λ t. ⌜ (made < MOST → saidIdentify t ≡ yes (tally made (identifyNext port n))) ⌝ }
+    ensures { λ t. ⌜ (validPort port ≡ true → validIdentifyNext port made n ≡ true → standsIdentify t) ⌝ }
 {
     match n {
-        IdentifyNext::Going(s) => {
-            IdentifyTold::Ask(crate::walk::access(port, s), IdentifyCall::Going(port, s))
-        }
-        IdentifyNext::End(made, f) => IdentifyTold::End(f, made),
+        IdentifyNext::Going(begins, s) => IdentifyTold::Ask(
+            crate::walk::access(port, s),
+            IdentifyCall::Going(port, i2c::moves::count(begins, made), s),
+        ),
+        IdentifyNext::End(f) => IdentifyTold::End(f, made),
     }
 }
 
@@ -44,7 +49,7 @@ pub fn identify_open(family: u32, device: u16, lan: u32) -> IdentifyTold
     ensures { λ t. ⌜ standsIdentify t ⌝ }
 {
     match hardware::open_port(family, device, lan) {
-        Opening::Port(p) => told(p, crate::walk::begin(p, Place::Identifier(4), 0)),
+        Opening::Port(p) => told(p, 0, crate::walk::begin(p, Place::Identifier(4))),
         Opening::Refused(q) => IdentifyTold::Refused(q),
     }
 }
@@ -54,7 +59,7 @@ pub fn identify_qsfp_open(family: u32, device: u16, lan: u32) -> IdentifyTold
     ensures { λ t. ⌜ standsIdentify t ⌝ }
 {
     match hardware::open_port(family, device, lan) {
-        Opening::Port(p) => told(p, crate::walk::begin(p, Place::QsfpIdentifier, 0)),
+        Opening::Port(p) => told(p, 0, crate::walk::begin(p, Place::QsfpIdentifier)),
         Opening::Refused(q) => IdentifyTold::Refused(q),
     }
 }
@@ -65,11 +70,11 @@ pub fn identify_step(s: IdentifyCall, a: Answer) -> IdentifyTold
     ensures { λ t. ⌜ standsIdentify t ⌝ }
 {
     match s {
-        IdentifyCall::Going(port, t) => {
+        IdentifyCall::Going(port, made, t) => {
             if hardware::valid_port(port) {
-                if crate::walk::valid(port, t) {
+                if crate::walk::valid(port, made, t) {
                     if hardware::awaited(crate::walk::access(port, t), a) {
-                        return told(port, crate::walk::step(port, t, a));
+                        return told(port, made, crate::walk::step(port, t, a));
                     }
                     return IdentifyTold::Refused(Refusal::Kind);
                 }

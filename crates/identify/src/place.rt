@@ -14,7 +14,8 @@ ghost use Rattle.transfer.specs.Attempt.{got};
 ghost use Rattle.sfp.specs.Identify.{orAbsent, recorded, classify};
 ghost use Rattle.hardware.specs.Prog.{ret, Ok, Err};
 ghost use Rattle.sfp.specs.Qsfp.{qsfpClassify, qsfpIdentified, qsfpFound};
-ghost use Rattle.identify.specs.Place.{offsetAt, requestAt, probesAt, triesAt, capAt, validPlace, onAt, kinded, toldAt, onward, Later};
+ghost use Rattle.identify.specs.Place.{offsetAt, requestAt, requestsAt, readingsAt, triesAt, most, capAt, validPlace, onAt, kinded, toldAt, onward, Later};
+ghost use Rattle.i2c.specs.I2c.{attempts};
 
 // The byte that is requested, with those read before it. Identifier: with the readings left after this one. The codes of
 // an SFP are bytes 6, 3 and 8; those of a QSFP, in this order, 83 and 86 (hexadecimal).
@@ -71,24 +72,52 @@ pub fn request(p: Place) -> Request
     Request::ReadByte(EEPROM, offset(p))
 }
 
-fn probes(p: Place) -> bool
-    ensures { λ b. ⌜ b ≡ probesAt p ⌝ }
+// The requests after byte 0, this one among them.
+fn requests(p: Place) -> u32
+    ensures { λ n. ⌜ n ≡ requestsAt p ⌝ }
 {
     match p {
-        Place::Identifier(_) => true,
-        Place::Comp1g => false,
-        Place::Comp10g(_) => false,
-        Place::Cable(_, _) => false,
-        Place::Rate(_) => false,
-        Place::Km(_) => false,
-        Place::Hm(_, _) => false,
-        Place::Active(_) => false,
-        Place::QsfpIdentifier => true,
-        Place::Qsfp10g => false,
-        Place::Qsfp1g(_) => false,
-        Place::QsfpConnector(_, _) => false,
-        Place::QsfpLength(_, _) => false,
-        Place::QsfpTechnology(_, _) => false,
+        Place::Identifier(_) => 0,
+        Place::Comp1g => 1,
+        Place::Comp10g(_) => 2,
+        Place::Cable(_, _) => 3,
+        Place::Rate(_) => 4,
+        Place::Km(_) => 5,
+        Place::Hm(_, _) => 6,
+        Place::Active(_) => 7,
+        Place::QsfpIdentifier => 0,
+        Place::Qsfp10g => 1,
+        Place::Qsfp1g(_) => 2,
+        Place::QsfpConnector(_, _) => 3,
+        Place::QsfpLength(_, _) => 4,
+        Place::QsfpTechnology(_, _) => 5,
+    }
+}
+
+// The most readings of byte 0, this one among them.
+fn readings(p: Place) -> u32
+    ensures { λ n. ⌜ n ≡ readingsAt p ⌝ }
+{
+    match p {
+        Place::Identifier(left) => {
+            if left < 5 {
+                return 5 - left as u32;
+            }
+            0
+        }
+        Place::Comp1g => 5,
+        Place::Comp10g(_) => 5,
+        Place::Cable(_, _) => 5,
+        Place::Rate(_) => 5,
+        Place::Km(_) => 5,
+        Place::Hm(_, _) => 5,
+        Place::Active(_) => 5,
+        Place::QsfpIdentifier => 1,
+        Place::Qsfp10g => 1,
+        Place::Qsfp1g(_) => 1,
+        Place::QsfpConnector(_, _) => 1,
+        Place::QsfpLength(_, _) => 1,
+        Place::QsfpTechnology(_, _) => 1,
     }
 }
 
@@ -96,37 +125,17 @@ fn probes(p: Place) -> bool
 pub fn tries(port: Port, p: Place) -> u8
     ensures { λ n. ⌜ n ≡ triesAt port p ⌝ }
 {
-    if probes(p) {
+    if requests(p) == 0 {
         return 11;
     }
     i2c::attempts(port) as u8
 }
 
-// The most transfers up to this place's end: eleven for each request.
-pub fn cap(p: Place) -> u32
-    ensures { λ n. ⌜ n ≡ capAt p ⌝ }
+// The most transfers up to this place's end.
+pub fn cap(port: Port, p: Place) -> u32
+    ensures { λ n. ⌜ n ≡ capAt port p ⌝ }
 {
-    match p {
-        Place::Identifier(left) => {
-            if left < 5 {
-                return (5 - left as u32) * 11;
-            }
-            11
-        }
-        Place::Comp1g => 66,
-        Place::Comp10g(_) => 77,
-        Place::Cable(_, _) => 88,
-        Place::Rate(_) => 99,
-        Place::Km(_) => 110,
-        Place::Hm(_, _) => 121,
-        Place::Active(_) => 132,
-        Place::QsfpIdentifier => 11,
-        Place::Qsfp10g => 22,
-        Place::Qsfp1g(_) => 33,
-        Place::QsfpConnector(_, _) => 44,
-        Place::QsfpLength(_, _) => 55,
-        Place::QsfpTechnology(_, _) => 66,
-    }
+    readings(p) * 11 + requests(p) * i2c::attempts(port)
 }
 
 // Byte 0 is requested at most five times.
@@ -153,14 +162,14 @@ pub fn valid(p: Place) -> bool
 
 fn found(c: Codes, kind: Kind) -> Then
     ensures { λ t. ⌜ ((port : Port) → onward port t ≡ ret (Ok (recorded 3 c kind))) ⌝ }
-    ensures { λ t. ⌜ ((n : ℕ) → Later n t) ⌝ }
+    ensures { λ t. ⌜ ((port : Port) (n : ℕ) → Later port n t) ⌝ }
 {
     Then::Found(class::recorded(class::SFP, c, kind))
 }
 
 fn after_identifier(left: u8, v: u8) -> Then
     ensures { λ t. ⌜ ((port : Port) → onward port t ≡ onAt port (Place.Identifier left) v) ⌝ }
-    ensures { λ t. ⌜ (validPlace (Place.Identifier left) ≡ true → Later (capAt (Place.Identifier left)) t) ⌝ }
+    ensures { λ t. ⌜ ((port : Port) → validPlace (Place.Identifier left) ≡ true → Later port (capAt port (Place.Identifier left)) t) ⌝ }
 {
     if v == class::SFP {
         return Then::Request(Place::Comp1g);
@@ -174,7 +183,7 @@ fn after_identifier(left: u8, v: u8) -> Then
 // The kind, where byte 60 is not needed for it.
 fn kinded(c: Codes, bx: bool) -> Then
     ensures { λ t. ⌜ ((port : Port) → onward port t ≡ kinded port c bx) ⌝ }
-    ensures { λ t. ⌜ ((n : ℕ) → n + 11 ≤ 132 → Later n t) ⌝ }
+    ensures { λ t. ⌜ ((port : Port) (n : ℕ) → n + attempts port ≤ most port 5 7 → Later port n t) ⌝ }
 {
     if class::has(c.cable, class::PASSIVE_DA) {
         return found(c, Kind::DaCu);
@@ -187,7 +196,7 @@ fn kinded(c: Codes, bx: bool) -> Then
 
 fn after_cable(c: Codes) -> Then
     ensures { λ t. ⌜ ((port : Port) → onward port t ≡ classify port 3 c) ⌝ }
-    ensures { λ t. ⌜ Later 88 t ⌝ }
+    ensures { λ t. ⌜ ((port : Port) → Later port (most port 5 3) t) ⌝ }
 {
     if class::asks_rate(c) {
         return Then::Request(Place::Rate(c));
@@ -197,7 +206,7 @@ fn after_cable(c: Codes) -> Then
 
 fn after_rate(c: Codes, v: u8) -> Then
     ensures { λ t. ⌜ ((port : Port) → onward port t ≡ onAt port (Place.Rate c) v) ⌝ }
-    ensures { λ t. ⌜ Later 99 t ⌝ }
+    ensures { λ t. ⌜ ((port : Port) → Later port (most port 5 4) t) ⌝ }
 {
     if v == class::RATE {
         return Then::Request(Place::Km(c));
@@ -207,14 +216,14 @@ fn after_rate(c: Codes, v: u8) -> Then
 
 fn qsfp_found(g10: u8, g1: u8, kind: Kind) -> Then
     ensures { λ t. ⌜ ((port : Port) → onward port t ≡ qsfpFound g10 g1 kind) ⌝ }
-    ensures { λ t. ⌜ ((n : ℕ) → Later n t) ⌝ }
+    ensures { λ t. ⌜ ((port : Port) (n : ℕ) → Later port n t) ⌝ }
 {
     Then::Found(sfp::qsfp::qsfp_recorded(g10, g1, kind))
 }
 
 fn after_qsfp_identifier(v: u8) -> Then
     ensures { λ t. ⌜ ((port : Port) → onward port t ≡ qsfpIdentified port v) ⌝ }
-    ensures { λ t. ⌜ Later 11 t ⌝ }
+    ensures { λ t. ⌜ ((port : Port) → Later port (most port 1 0) t) ⌝ }
 {
     if v == sfp::qsfp::QSFP {
         return Then::Request(Place::Qsfp10g);
@@ -224,7 +233,7 @@ fn after_qsfp_identifier(v: u8) -> Then
 
 fn qsfp_codes(g10: u8, g1: u8) -> Then
     ensures { λ t. ⌜ ((port : Port) → onward port t ≡ qsfpClassify port g10 g1) ⌝ }
-    ensures { λ t. ⌜ Later 33 t ⌝ }
+    ensures { λ t. ⌜ ((port : Port) → Later port (most port 1 2) t) ⌝ }
 {
     if class::has(g10, 0x08) {
         return qsfp_found(g10, g1, Kind::DaCu);
@@ -240,7 +249,7 @@ fn qsfp_codes(g10: u8, g1: u8) -> Then
 
 fn after_connector(g10: u8, g1: u8, v: u8) -> Then
     ensures { λ t. ⌜ ((port : Port) → onward port t ≡ onAt port (Place.QsfpConnector g10 g1) v) ⌝ }
-    ensures { λ t. ⌜ Later 44 t ⌝ }
+    ensures { λ t. ⌜ ((port : Port) → Later port (most port 1 3) t) ⌝ }
 {
     if v == 0x23 {
         return Then::Request(Place::QsfpLength(g10, g1));
@@ -250,7 +259,7 @@ fn after_connector(g10: u8, g1: u8, v: u8) -> Then
 
 fn after_length(g10: u8, g1: u8, v: u8) -> Then
     ensures { λ t. ⌜ ((port : Port) → onward port t ≡ onAt port (Place.QsfpLength g10 g1) v) ⌝ }
-    ensures { λ t. ⌜ Later 55 t ⌝ }
+    ensures { λ t. ⌜ ((port : Port) → Later port (most port 1 4) t) ⌝ }
 {
     if v > 0 {
         return Then::Request(Place::QsfpTechnology(g10, g1));
@@ -260,7 +269,7 @@ fn after_length(g10: u8, g1: u8, v: u8) -> Then
 
 fn after_technology(g10: u8, g1: u8, v: u8) -> Then
     ensures { λ t. ⌜ ((port : Port) → onward port t ≡ onAt port (Place.QsfpTechnology g10 g1) v) ⌝ }
-    ensures { λ t. ⌜ ((n : ℕ) → Later n t) ⌝ }
+    ensures { λ t. ⌜ ((port : Port) (n : ℕ) → Later port n t) ⌝ }
 {
     if v / 16 == 0 {
         return qsfp_found(g10, g1, Kind::DaActiveLimiting);
@@ -271,7 +280,7 @@ fn after_technology(g10: u8, g1: u8, v: u8) -> Then
 // A byte was read.
 fn on(p: Place, v: u8) -> Then
     ensures { λ t. ⌜ ((port : Port) → onward port t ≡ onAt port p v) ⌝ }
-    ensures { λ t. ⌜ (validPlace p ≡ true → Later (capAt p) t) ⌝ }
+    ensures { λ t. ⌜ ((port : Port) → validPlace p ≡ true → Later port (capAt port p) t) ⌝ }
 {
     match p {
         Place::Identifier(left) => after_identifier(left, v),
@@ -294,7 +303,7 @@ fn on(p: Place, v: u8) -> Then
 // Nothing answered; any other failure ends the call.
 fn failed(e: Error) -> Then
     ensures { λ t. ⌜ ((port : Port) (p : Place) → onward port t ≡ orAbsent (onAt port p) (Err e)) ⌝ }
-    ensures { λ t. ⌜ ((n : ℕ) → Later n t) ⌝ }
+    ensures { λ t. ⌜ ((port : Port) (n : ℕ) → Later port n t) ⌝ }
 {
     if bus::is_i2c(e) {
         return Then::Found(sfp::methods::absent());
@@ -305,7 +314,7 @@ fn failed(e: Error) -> Then
 // A request has ended.
 pub fn after(p: Place, g: Got) -> Then
     ensures { λ t. ⌜ ((port : Port) → onward port t ≡ toldAt port p (got g)) ⌝ }
-    ensures { λ t. ⌜ (validPlace p ≡ true → Later (capAt p) t) ⌝ }
+    ensures { λ t. ⌜ ((port : Port) → validPlace p ≡ true → Later port (capAt port p) t) ⌝ }
 {
     match g {
         Got::Ok(t) => on(p, t.last),

@@ -11,10 +11,9 @@ use sfp::Module;
 ghost use Prim.Native.Nat.{ℕ, _+_, _≤_};
 ghost use mathlib.Core.Path.{_≡_};
 ghost use mathlib.Core.Bool.{true};
-ghost use Rattle.hardware.specs.Prog.{tally, after};
-ghost use Rattle.i2c.specs.Tries.{MOST};
-ghost use Rattle.i2c.specs.Moves.{madeOf, movesNext, validMovesNext};
-ghost use Rattle.identify.specs.Place.{requestAt, capAt, validPlace, placed, toldAt, onward, Later};
+ghost use Rattle.hardware.specs.Prog.{erase, followed};
+ghost use Rattle.i2c.specs.Moves.{movesNext, dueMovesNext, validMovesNext};
+ghost use Rattle.identify.specs.Place.{requestAt, triesAt, capAt, validPlace, placed, toldAt, onward, Later};
 ghost use Rattle.identify.specs.Walk.{accessIdentify, restIdentify, identifyNext, validIdentify, validIdentifyNext};
 
 pub struct Identify {
@@ -27,46 +26,50 @@ pub enum Identified {
     Err(Error),
 }
 
+// Going: with whether an attempt begins with the access that is awaited.
 pub enum IdentifyNext {
-    Going(Identify),
-    End(u32, Identified),
+    Going(bool, Identify),
+    End(Identified),
 }
 
-// made: the transfers before this request. A locked request has an access at once, so that the second arm is never met.
-pub(crate) fn begin(port: Port, p: Place, made: u32) -> IdentifyNext
-    ensures { λ t. ⌜ (made + 11 ≤ MOST → identifyNext port t ≡ tally made (placed port p)) ⌝ }
-    ensures { λ t. ⌜ (validPlace p ≡ true → made + 11 ≤ capAt p → validIdentifyNext port t ≡ true) ⌝ }
+// A locked request has an access at once, so that the second arm is never met.
+pub fn begin(port: Port, p: Place) -> IdentifyNext
+    ensures { λ t. ⌜ identifyNext port t ≡ erase (placed port p) ⌝ }
+    ensures { λ t. ⌜ ((made : ℕ) → validPlace p ≡ true → made + triesAt port p ≤ capAt port p → validIdentifyNext port made t ≡ true) ⌝ }
 {
     match i2c::moves::open(
         port,
         crate::place::request(p),
         true,
         crate::place::tries(port, p),
-        made,
     ) {
-        MovesNext::Going(s) => IdentifyNext::Going(Identify { place: p, moves: s }),
-        MovesNext::End(n, _) => IdentifyNext::End(n, Identified::Err(Error::Io)),
+        MovesNext::Going(begins, s) => {
+            IdentifyNext::Going(begins, Identify { place: p, moves: s })
+        }
+        MovesNext::End(_) => IdentifyNext::End(Identified::Err(Error::Io)),
     }
 }
 
-fn conclude(port: Port, made: u32, t: Then) -> IdentifyNext
-    ensures { λ n. ⌜ (made + 11 ≤ MOST → identifyNext port n ≡ tally made (onward port t)) ⌝ }
-    ensures { λ n. ⌜ ((most : ℕ) → made ≤ most → Later most t → validIdentifyNext port n ≡ true) ⌝ }
+fn conclude(port: Port, t: Then) -> IdentifyNext
+    ensures { λ r. ⌜ identifyNext port r ≡ erase (onward port t) ⌝ }
+    ensures { λ r. ⌜ ((made n : ℕ) → made ≤ n → Later port n t → validIdentifyNext port made r ≡ true) ⌝ }
 {
     match t {
-        Then::Request(p) => begin(port, p, made),
-        Then::Found(m) => IdentifyNext::End(made, Identified::Ok(m)),
-        Then::Failed(e) => IdentifyNext::End(made, Identified::Err(e)),
+        Then::Request(p) => begin(port, p),
+        Then::Found(m) => IdentifyNext::End(Identified::Ok(m)),
+        Then::Failed(e) => IdentifyNext::End(Identified::Err(e)),
     }
 }
 
 fn moved(port: Port, p: Place, n: MovesNext) -> IdentifyNext
-    ensures { λ t. ⌜ (validMovesNext (capAt p) port (requestAt p) n ≡ true → identifyNext port t ≡ after (movesNext port (requestAt p) true n) (toldAt port p)) ⌝ }
-    ensures { λ t. ⌜ (validPlace p ≡ true → validMovesNext (capAt p) port (requestAt p) n ≡ true → validIdentifyNext port t ≡ true) ⌝ }
+    ensures { λ t. ⌜ identifyNext port t ≡ followed (movesNext port (requestAt p) true n) (toldAt port p) ⌝ }
+    ensures { λ t. ⌜ ((made : ℕ) → validPlace p ≡ true → validMovesNext (triesAt port p) port (requestAt p) n ≡ true → made + dueMovesNext (requestAt p) n ≤ capAt port p → validIdentifyNext port made t ≡ true) ⌝ }
 {
     match n {
-        MovesNext::Going(s) => IdentifyNext::Going(Identify { place: p, moves: s }),
-        MovesNext::End(made, g) => conclude(port, made, crate::place::after(p, g)),
+        MovesNext::Going(begins, s) => {
+            IdentifyNext::Going(begins, Identify { place: p, moves: s })
+        }
+        MovesNext::End(g) => conclude(port, crate::place::after(p, g)),
     }
 }
 
@@ -77,20 +80,28 @@ pub fn access(port: Port, s: Identify) -> Access
     i2c::moves::access(port, m)
 }
 
-pub fn valid(port: Port, s: Identify) -> bool
-    ensures { λ b. ⌜ b ≡ validIdentify port s ⌝ }
+// made: the transfers so far.
+pub fn valid(port: Port, made: u32, s: Identify) -> bool
+    ensures { λ b. ⌜ b ≡ validIdentify port made s ⌝ }
 {
     let p = s.place;
     let m = s.moves;
     if crate::place::valid(p) {
-        return i2c::moves::valid(crate::place::cap(p), port, crate::place::request(p), m);
+        return i2c::moves::valid_request(
+            port,
+            crate::place::request(p),
+            crate::place::tries(port, p) as u32,
+            crate::place::cap(port, p),
+            made,
+            m,
+        );
     }
     false
 }
 
-pub(crate) fn step(port: Port, s: Identify, a: Answer) -> IdentifyNext
-    ensures { λ t. ⌜ (validIdentify port s ≡ true → identifyNext port t ≡ tally (madeOf (s .moves)) (restIdentify port s a)) ⌝ }
-    ensures { λ t. ⌜ (validIdentify port s ≡ true → validIdentifyNext port t ≡ true) ⌝ }
+pub fn step(port: Port, s: Identify, a: Answer) -> IdentifyNext
+    ensures { λ t. ⌜ identifyNext port t ≡ erase (restIdentify port s a) ⌝ }
+    ensures { λ t. ⌜ ((made : ℕ) → validIdentify port made s ≡ true → validIdentifyNext port made t ≡ true) ⌝ }
 {
     let p = s.place;
     let m = s.moves;

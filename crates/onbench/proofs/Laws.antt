@@ -32,7 +32,6 @@ use Rattle.wire.specs.Lines.{ready}
 use Rattle.wire.specs.Always.{World}
 use Rattle.bench.specs.declared.register.Desk.{Desk}
 use Rattle.bench.specs.Register.{side, world, accessed}
-use Rattle.i2c.specs.Moves.{madeOf}
 use Rattle.sfp.specs.declared.Module.{Module}
 use Rattle.sfp.specs.Identify.{identify}
 use Rattle.sfp.proofs.Ends.{IDENTIFY-STEPS, identify-ends}
@@ -54,18 +53,18 @@ use Rattle.onbench.specs.Run.{decoded, decodedAll, howOf, ranOf, toldRan
 
 -- what is left of a call once its access was answered
 restOf : IdentifyCall → Answer → Prog (Counted (R Module))
-restOf (Going port s) a = tally (madeOf (s .moves)) (restIdentify port s a)
+restOf (Going port made s) a = tally made (restIdentify port s a)
 restOf Over a = ret (record { transfers = 0; result = Err Io })
 
 -- a stand that awaits an answer
 said-ask : (x : Access) (c : IdentifyCall) → standsIdentify (Ask x c) → saidIdentify (Ask x c) ≡ yes (ask x (restOf c))
 unfolding saidIdentify standsIdentify restOf
-said-ask x (Going port s) h = refl
+said-ask x (Going port made s) h = refl
 said-ask x Over h = absurd h
 
 step-is : (x : Access) (c : IdentifyCall) (a : Answer) → standsIdentify (Ask x c) → stepIdentify c a ≡ question (fits x a) 12 (yes (restOf c a))
 unfolding stepIdentify standsIdentify restOf question
-step-is x (Going port s) a h = rw (h .1, h .2, ← h .0)
+step-is x (Going port made s) a h = rw (h .1, h .2, ← h .0)
 step-is x Over a h = absurd h
 
 -- I2CCTL's accesses are answered by the module, with the awaited kind
@@ -333,7 +332,7 @@ pub record Keeps (left : Stand → Ran (Counted (R Module))) (first : Stand) (n 
 -- with no access left there is nothing more to do
 none-left : (t : IdentifyTold) → standsIdentify t → Bounded (saidIdentify t) 0 → Settled t
 unfolding Bounded Ends saidIdentify standsIdentify
-none-left (Ask x (Going port g)) st b = absurd b
+none-left (Ask x (Going port made g)) st b = absurd b
 none-left (Ask x Over) st b = absurd st
 none-left (End f made) st b = tt
 none-left (Refused q) st b = tt

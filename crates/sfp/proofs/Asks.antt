@@ -6,7 +6,7 @@ use Rattle.hardware.specs.declared.Family.{Family}
 use Rattle.hardware.specs.declared.Family.the-variants.{F82599, X540, X550, X552, X553}
 use Rattle.hardware.specs.declared.Port.{Port}
 use Rattle.hardware.specs.Asked.{is}
-use Rattle.hardware.specs.Prog.{Prog, ret, ask, note, give, R, _>>=_, pick, Counted, begun, tally}
+use Rattle.hardware.specs.Prog.{Prog, ret, ask, note, give, Note, Attempt, Acquires, Acquired, Released, Lapsed, stays, erase, R, _>>=_, pick}
 use Rattle.hardware.specs.Change.{change}
 use Rattle.hardware.specs.Poll.{poll}
 use Rattle.sync.specs.Regs.{tries}
@@ -37,12 +37,23 @@ unfolding pick
 asks-pick true p q h k = h
 asks-pick false p q h k = k
 
-pub asks-tally : {A : Type 0} (n : ℕ) (p : Prog A) (c : Counted A) → Asks p → ret c ≡ tally n p → ⊥
-unfolding tally
-asks-tally n (ret v) c h e = absurd h
-asks-tally n (ask x f) c h e = subst⁻¹ Asks e tt
-asks-tally n (note k p) c h e = asks-tally (begun k n) p c h e
-asks-tally n (give b p) c h e = absurd h
+stays-asks : {A : Type 0} (n : Note) (p : Prog A) → Asks p → Asks (stays n p)
+stays-asks Attempt p h = h
+stays-asks Acquires p h = h
+stays-asks Acquired p h = h
+stays-asks Released p h = h
+stays-asks Lapsed p h = h
+
+erase-asks : {A : Type 0} (p : Prog A) → Asks p → Asks (erase p)
+unfolding erase
+erase-asks (ret v) h = absurd h
+erase-asks (ask x f) h = tt
+erase-asks (note n p) h = stays-asks n (erase p) (erase-asks p h)
+erase-asks (give b p) h = absurd h
+
+-- so it does not end at once
+pub asks-erase : {A : Type 0} (p : Prog A) (v : A) → Asks p → ret v ≡ erase p → ⊥
+asks-erase p v h e = subst⁻¹ Asks e (erase-asks p h)
 
 acquire-bits-asks : (port : Port) (hw : ℕ) (f : Family) → port .family ≡ f → Asks (acquireBits port hw)
 unfolding acquireBits acquireTries lock poll is pick _>>=_

@@ -16,7 +16,6 @@ use Rattle.hardware.proofs.Laws.{asked-runs, Onward, driven-runs}
 use Rattle.hardware.proofs.Ends.{run-ends}
 use Rattle.i2c.specs.declared.once.Request.the-variants.{ReadByte, WriteByte}
 use Rattle.i2c.specs.I2c.{attempts}
-use Rattle.i2c.specs.Moves.{madeOf}
 use Rattle.i2c.specs.Paired.{Paired}
 use Rattle.i2c.proofs.Pairs.{Pairs, pairs-then, pairs-pick, pairs-ret, pairs-paired}
 use Rattle.i2c.proofs.Paired.{transferred-pairs}
@@ -41,10 +40,10 @@ pub rate-finishes : (port : Port) (ten : Bool) (l : List Answer) → RATE-STEPS 
 rate-finishes port ten l h w = run-ends (softRateSelect port ten) (RATE-STEPS (port .family)) l (rate-ends port ten) h w
 
 -- a state that was handed out, with any answer of the kind that its access awaits, is not refused
-pub rate-accepts : (x : Access) (port : Port) (ten : Bool) (s : Rate) (a : Answer) → standsRate (Ask x (Going port ten s)) → fits x a ≡ true
-    → stepRate (Going port ten s) a ≡ yes (tally (madeOf (s .moves)) (restRate port ten s a))
+pub rate-accepts : (x : Access) (port : Port) (ten : Bool) (made : ℕ) (s : Rate) (a : Answer) → standsRate (Ask x (Going port ten made s)) → fits x a ≡ true
+    → stepRate (Going port ten made s) a ≡ yes (tally made (restRate port ten s a))
 unfolding standsRate stepRate question
-rate-accepts x port ten s a h e = rw (h .1, h .2, ← h .0, e)
+rate-accepts x port ten made s a h e = rw (h .1, h .2, ← h .0, e)
 
 -- the step after a telling, if it asks for an access
 abbrev pub goes : (RateCall → Answer → RateTold) → RateTold → Answer → RateTold
@@ -55,10 +54,10 @@ goes step (Refused q) a = Refused q
 onward : (step : RateCall → Answer → RateTold) → ((s : RateCall) (a : Answer) → saidRate (step s a) ≡ stepRate s a)
     → ((s : RateCall) (a : Answer) → standsRate (step s a)) → Onward saidRate (goes step) standsRate
 unfolding saidRate standsRate
-onward step says stands (Ask y (Going port ten s)) x f a h e k =
+onward step says stands (Ask y (Going port ten made s)) x f a h e k =
     let same : y ≡ x = cc in
-    let rest : (λ b. tally (madeOf (s .moves)) (restRate port ten s b)) ≡ f = cc in
-    (says (Going port ten s) a ∙ rate-accepts y port ten s a h (ap (λ z. fits z a) same ∙ k) ∙ ap (λ g. yes (g a)) rest, stands (Going port ten s) a)
+    let rest : (λ b. tally made (restRate port ten s b)) ≡ f = cc in
+    (says (Going port ten made s) a ∙ rate-accepts y port ten made s a h (ap (λ z. fits z a) same ∙ k) ∙ ap (λ g. yes (g a)) rest, stands (Going port ten made s) a)
 onward step says stands (Ask y Over) x f a h e k = absurd h
 onward step says stands (End g made) x f a h e k = (cc, tt)
 onward step says stands (Refused q) x f a h e k = (cc, tt)

@@ -1,5 +1,5 @@
 -- Where `soft_rate_select` stands: which of the two bytes, whether it is read or written back, and what is left then.
-use Prim.Native.Nat.{ℕ}
+use Prim.Native.Nat.{ℕ, _+_}
 use mathlib.Core.Bool.{Bool, true, false}
 use Rattle.hardware.specs.declared.Port.{Port}
 use Rattle.hardware.specs.Prog.{Prog, ret, R, Ok, _>>=_, pick}
@@ -27,22 +27,18 @@ unfoldable pub triesAt : Port → Place → ℕ
 triesAt port Reading = attempts port
 triesAt port (Writing v) = 2
 
-unfoldable pub isReading : Place → Bool
-isReading Reading = true
-isReading (Writing v) = false
+-- the most transfers of a byte up to a request's end
+unfoldable pub upTo : Port → Place → ℕ
+upTo port Reading = attempts port
+upTo port (Writing v) = attempts port + 2
 
--- the most transfers of a request
-unfoldable pub needAt : Place → ℕ
-needAt Reading = 11
-needAt (Writing v) = 2
+-- the most transfers before a byte
+unfoldable pub before : Port → Bool → ℕ
+before port second = pick second (attempts port + 2) 0
 
 -- the most transfers up to a request's end
-unfoldable pub capAt : Spot → ℕ
-capAt s = pick (s .second) (pick (isReading (s .place)) 24 26) (pick (isReading (s .place)) 11 13)
-
--- and up to a byte's
-unfoldable pub doneAt : Bool → ℕ
-doneAt second = pick second 26 13
+unfoldable pub capAt : Port → Spot → ℕ
+capAt port s = before port (s .second) + upTo port (s .place)
 
 -- before the first byte nothing has failed
 unfoldable pub validSpot : Spot → Bool

@@ -9,15 +9,18 @@ use hardware::Flag;
 use hardware::Opening;
 use hardware::Port;
 use hardware::Refusal;
+ghost use Prim.Native.Nat.{_<_};
 ghost use mathlib.Core.Path.{_≡_};
 ghost use mathlib.Core.Bool.{true};
 ghost use Rattle.hardware.specs.Asked.{yes, validPort};
+ghost use Rattle.hardware.specs.Prog.{tally};
+ghost use Rattle.i2c.specs.Moves.{MOST};
 ghost use Rattle.softrate.specs.Walk.{rateNext, validRateNext};
 ghost use Rattle.softrate.specs.Calls.{openRate, stepRate, saidRate, standsRate};
 
-// Going: with whether 10G is selected.
+// Going: with whether 10G is selected, and the transfers made.
 pub enum RateCall {
-    Going(Port, bool, Rate),
+    Going(Port, bool, u32, Rate),
     Over,
 }
 
@@ -28,15 +31,16 @@ pub enum RateTold {
     Refused(Refusal),
 }
 
-fn told(port: Port, ten: bool, n: RateNext) -> RateTold
-    ensures { λ t. ⌜ saidRate t ≡ yes (rateNext port ten n) ⌝ }
-    ensures { λ t. ⌜ (validPort port ≡ true → validRateNext port ten n ≡ true → standsRate t) ⌝ }
+fn told(port: Port, ten: bool, made: u32, n: RateNext) -> RateTold
+    ensures { λ t. ⌜ (made < MOST → saidRate t ≡ yes (tally made (rateNext port ten n))) ⌝ }
+    ensures { λ t. ⌜ (validPort port ≡ true → validRateNext port ten made n ≡ true → standsRate t) ⌝ }
 {
     match n {
-        RateNext::Going(s) => {
-            RateTold::Ask(crate::walk::access(port, s), RateCall::Going(port, ten, s))
-        }
-        RateNext::End(made, f) => RateTold::End(f, made),
+        RateNext::Going(begins, s) => RateTold::Ask(
+            crate::walk::access(port, s),
+            RateCall::Going(port, ten, i2c::moves::count(begins, made), s),
+        ),
+        RateNext::End(f) => RateTold::End(f, made),
     }
 }
 
@@ -49,6 +53,7 @@ pub fn soft_rate_select_open(family: u32, device: u16, lan: u32, ten: bool) -> R
         Opening::Port(p) => told(
             p,
             ten,
+            0,
             crate::walk::begin(
                 p,
                 ten,
@@ -57,7 +62,6 @@ pub fn soft_rate_select_open(family: u32, device: u16, lan: u32, ten: bool) -> R
                     ok: true,
                     place: Place::Reading,
                 },
-                0,
             ),
         ),
         Opening::Refused(q) => RateTold::Refused(q),
@@ -70,11 +74,11 @@ pub fn soft_rate_select_step(s: RateCall, a: Answer) -> RateTold
     ensures { λ t. ⌜ standsRate t ⌝ }
 {
     match s {
-        RateCall::Going(port, ten, t) => {
+        RateCall::Going(port, ten, made, t) => {
             if hardware::valid_port(port) {
-                if crate::walk::valid(port, ten, t) {
+                if crate::walk::valid(port, ten, made, t) {
                     if hardware::awaited(crate::walk::access(port, t), a) {
-                        return told(port, ten, crate::walk::step(port, ten, t, a));
+                        return told(port, ten, made, crate::walk::step(port, ten, t, a));
                     }
                     return RateTold::Refused(Refusal::Kind);
                 }

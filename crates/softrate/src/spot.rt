@@ -2,7 +2,7 @@
 use hardware::Port;
 use i2c::once::Request;
 ghost use mathlib.Core.Path.{_≡_};
-ghost use Rattle.softrate.specs.Spot.{offsetOf, requestOf, requestAt, triesAt, isReading, capAt, validSpot};
+ghost use Rattle.softrate.specs.Spot.{offsetOf, requestOf, requestAt, triesAt, upTo, before, capAt, validSpot};
 
 // Writing: with the byte that was read.
 pub enum Place {
@@ -56,30 +56,32 @@ pub fn tries(port: Port, p: Place) -> u8
     }
 }
 
-fn reads(p: Place) -> bool
-    ensures { λ b. ⌜ b ≡ isReading p ⌝ }
+// The most transfers of a byte up to a request's end.
+fn up_to(port: Port, p: Place) -> u32
+    ensures { λ n. ⌜ n ≡ upTo port p ⌝ }
 {
     match p {
-        Place::Reading => true,
-        Place::Writing(_) => false,
+        Place::Reading => i2c::attempts(port),
+        Place::Writing(_) => i2c::attempts(port) + 2,
     }
 }
 
-// The most transfers up to this spot's end: eleven for a read, two for a write.
-pub fn cap(s: Spot) -> u32
-    ensures { λ n. ⌜ n ≡ capAt s ⌝ }
+// The most transfers before a byte.
+fn before(port: Port, second: bool) -> u32
+    ensures { λ n. ⌜ n ≡ before port second ⌝ }
+{
+    if second {
+        return i2c::attempts(port) + 2;
+    }
+    0
+}
+
+// The most transfers up to this spot's end.
+pub fn cap(port: Port, s: Spot) -> u32
+    ensures { λ n. ⌜ n ≡ capAt port s ⌝ }
 {
     let p = s.place;
-    if s.second {
-        if reads(p) {
-            return 24;
-        }
-        return 26;
-    }
-    if reads(p) {
-        return 11;
-    }
-    13
+    before(port, s.second) + up_to(port, p)
 }
 
 // Before the first byte nothing has failed.

@@ -9,13 +9,14 @@ use hardware::Port;
 use i2c::moves::Moves;
 use i2c::moves::MovesNext;
 use transfer::attempt::Got;
-ghost use Prim.Native.Nat.{_+_, _≤_};
+ghost use Prim.Native.Nat.{ℕ, _+_, _≤_};
 ghost use mathlib.Core.Path.{_≡_};
 ghost use mathlib.Core.Bool.{true, false};
-ghost use Rattle.hardware.specs.Prog.{tally, after, Err};
+ghost use Rattle.hardware.specs.Prog.{erase, followed, Err};
 ghost use Rattle.transfer.specs.Attempt.{got};
-ghost use Rattle.i2c.specs.Moves.{madeOf, movesNext, validMovesNext};
-ghost use Rattle.softrate.specs.Spot.{requestAt, needAt, capAt, doneAt, validSpot, nextByte, onPlace, toldAt, placed};
+ghost use Rattle.i2c.specs.I2c.{attempts};
+ghost use Rattle.i2c.specs.Moves.{movesNext, dueMovesNext, validMovesNext};
+ghost use Rattle.softrate.specs.Spot.{requestAt, triesAt, before, capAt, validSpot, nextByte, onPlace, toldAt, placed};
 ghost use Rattle.softrate.specs.Walk.{accessRate, restRate, rateNext, validRate, validRateNext};
 
 pub struct Rate {
@@ -23,15 +24,16 @@ pub struct Rate {
     pub moves: Moves,
 }
 
+// Going: with whether an attempt begins with the access that is awaited.
 pub enum RateNext {
-    Going(Rate),
-    End(u32, Flag),
+    Going(bool, Rate),
+    End(Flag),
 }
 
-// made: the transfers before this request. A locked request has an access at once, so that the second arm is never met.
-pub(crate) fn begin(port: Port, ten: bool, s: Spot, made: u32) -> RateNext
-    ensures { λ t. ⌜ (made + needAt (s .place) ≤ capAt s → rateNext port ten t ≡ tally made (placed port ten s)) ⌝ }
-    ensures { λ t. ⌜ (validSpot s ≡ true → made + needAt (s .place) ≤ capAt s → validRateNext port ten t ≡ true) ⌝ }
+// A locked request has an access at once, so that the second arm is never met.
+pub fn begin(port: Port, ten: bool, s: Spot) -> RateNext
+    ensures { λ t. ⌜ rateNext port ten t ≡ erase (placed port ten s) ⌝ }
+    ensures { λ t. ⌜ ((made : ℕ) → validSpot s ≡ true → made + triesAt port (s .place) ≤ capAt port s → validRateNext port ten made t ≡ true) ⌝ }
 {
     let p = s.place;
     match i2c::moves::open(
@@ -39,20 +41,19 @@ pub(crate) fn begin(port: Port, ten: bool, s: Spot, made: u32) -> RateNext
         crate::spot::request(ten, s),
         true,
         crate::spot::tries(port, p),
-        made,
     ) {
-        MovesNext::Going(m) => RateNext::Going(Rate { spot: s, moves: m }),
-        MovesNext::End(n, _) => RateNext::End(n, Flag::Err(Error::Io)),
+        MovesNext::Going(begins, m) => RateNext::Going(begins, Rate { spot: s, moves: m }),
+        MovesNext::End(_) => RateNext::End(Flag::Err(Error::Io)),
     }
 }
 
 // A byte is done, well or not: the second follows, or the end.
-fn next_byte(port: Port, ten: bool, second: bool, ok: bool, made: u32) -> RateNext
-    ensures { λ t. ⌜ (made ≤ doneAt second → rateNext port ten t ≡ tally made (nextByte port ten second ok)) ⌝ }
-    ensures { λ t. ⌜ (made ≤ doneAt second → validRateNext port ten t ≡ true) ⌝ }
+fn next_byte(port: Port, ten: bool, second: bool, ok: bool) -> RateNext
+    ensures { λ t. ⌜ rateNext port ten t ≡ erase (nextByte port ten second ok) ⌝ }
+    ensures { λ t. ⌜ ((made : ℕ) → made ≤ before port second + (attempts port + 2) → validRateNext port ten made t ≡ true) ⌝ }
 {
     if second {
-        return RateNext::End(made, Flag::Ok(ok));
+        return RateNext::End(Flag::Ok(ok));
     }
     begin(
         port,
@@ -62,25 +63,24 @@ fn next_byte(port: Port, ten: bool, second: bool, ok: bool, made: u32) -> RateNe
             ok,
             place: Place::Reading,
         },
-        made,
     )
 }
 
 // Nothing answered, and the next byte has its turn; any other failure ends the call.
-fn failed(port: Port, ten: bool, s: Spot, made: u32, e: Error) -> RateNext
-    ensures { λ t. ⌜ (made ≤ capAt s → rateNext port ten t ≡ tally made (toldAt port ten s (Err e))) ⌝ }
-    ensures { λ t. ⌜ (made ≤ capAt s → validRateNext port ten t ≡ true) ⌝ }
+fn failed(port: Port, ten: bool, s: Spot, e: Error) -> RateNext
+    ensures { λ t. ⌜ rateNext port ten t ≡ erase (toldAt port ten s (Err e)) ⌝ }
+    ensures { λ t. ⌜ ((made : ℕ) → made ≤ capAt port s → validRateNext port ten made t ≡ true) ⌝ }
 {
     if bus::is_i2c(e) {
-        return next_byte(port, ten, s.second, false, made);
+        return next_byte(port, ten, s.second, false);
     }
-    RateNext::End(made, Flag::Err(e))
+    RateNext::End(Flag::Err(e))
 }
 
 // A byte was read, or written.
-fn on(port: Port, ten: bool, s: Spot, made: u32, v: u8) -> RateNext
-    ensures { λ t. ⌜ (made ≤ capAt s → rateNext port ten t ≡ tally made (onPlace port ten (s .second) (s .ok) (s .place) v)) ⌝ }
-    ensures { λ t. ⌜ (validSpot s ≡ true → made ≤ capAt s → validRateNext port ten t ≡ true) ⌝ }
+fn on(port: Port, ten: bool, s: Spot, v: u8) -> RateNext
+    ensures { λ t. ⌜ rateNext port ten t ≡ erase (onPlace port ten (s .second) (s .ok) (s .place) v) ⌝ }
+    ensures { λ t. ⌜ ((made : ℕ) → validSpot s ≡ true → made ≤ capAt port s → validRateNext port ten made t ≡ true) ⌝ }
 {
     let p = s.place;
     match p {
@@ -92,30 +92,29 @@ fn on(port: Port, ten: bool, s: Spot, made: u32, v: u8) -> RateNext
                 ok: s.ok,
                 place: Place::Writing(v),
             },
-            made,
         ),
-        Place::Writing(_) => next_byte(port, ten, s.second, s.ok, made),
+        Place::Writing(_) => next_byte(port, ten, s.second, s.ok),
     }
 }
 
 // A request has ended.
-fn concluded(port: Port, ten: bool, s: Spot, made: u32, g: Got) -> RateNext
-    ensures { λ t. ⌜ (made ≤ capAt s → rateNext port ten t ≡ tally made (toldAt port ten s (got g))) ⌝ }
-    ensures { λ t. ⌜ (validSpot s ≡ true → made ≤ capAt s → validRateNext port ten t ≡ true) ⌝ }
+fn concluded(port: Port, ten: bool, s: Spot, g: Got) -> RateNext
+    ensures { λ t. ⌜ rateNext port ten t ≡ erase (toldAt port ten s (got g)) ⌝ }
+    ensures { λ t. ⌜ ((made : ℕ) → validSpot s ≡ true → made ≤ capAt port s → validRateNext port ten made t ≡ true) ⌝ }
 {
     match g {
-        Got::Ok(t) => on(port, ten, s, made, t.last),
-        Got::Err(e) => failed(port, ten, s, made, e),
+        Got::Ok(t) => on(port, ten, s, t.last),
+        Got::Err(e) => failed(port, ten, s, e),
     }
 }
 
 fn moved(port: Port, ten: bool, s: Spot, n: MovesNext) -> RateNext
-    ensures { λ t. ⌜ (validMovesNext (capAt s) port (requestAt ten s) n ≡ true → rateNext port ten t ≡ after (movesNext port (requestAt ten s) true n) (toldAt port ten s)) ⌝ }
-    ensures { λ t. ⌜ (validSpot s ≡ true → validMovesNext (capAt s) port (requestAt ten s) n ≡ true → validRateNext port ten t ≡ true) ⌝ }
+    ensures { λ t. ⌜ rateNext port ten t ≡ followed (movesNext port (requestAt ten s) true n) (toldAt port ten s) ⌝ }
+    ensures { λ t. ⌜ ((made : ℕ) → validSpot s ≡ true → validMovesNext (triesAt port (s .place)) port (requestAt ten s) n ≡ true → made + dueMovesNext (requestAt ten s) n ≤ capAt port s → validRateNext port ten made t ≡ true) ⌝ }
 {
     match n {
-        MovesNext::Going(m) => RateNext::Going(Rate { spot: s, moves: m }),
-        MovesNext::End(made, g) => concluded(port, ten, s, made, g),
+        MovesNext::Going(begins, m) => RateNext::Going(begins, Rate { spot: s, moves: m }),
+        MovesNext::End(g) => concluded(port, ten, s, g),
     }
 }
 
@@ -126,20 +125,29 @@ pub fn access(port: Port, s: Rate) -> Access
     i2c::moves::access(port, m)
 }
 
-pub fn valid(port: Port, ten: bool, s: Rate) -> bool
-    ensures { λ b. ⌜ b ≡ validRate port ten s ⌝ }
+// made: the transfers so far.
+pub fn valid(port: Port, ten: bool, made: u32, s: Rate) -> bool
+    ensures { λ b. ⌜ b ≡ validRate port ten made s ⌝ }
 {
     let p = s.spot;
     let m = s.moves;
+    let place = p.place;
     if crate::spot::valid(p) {
-        return i2c::moves::valid(crate::spot::cap(p), port, crate::spot::request(ten, p), m);
+        return i2c::moves::valid_request(
+            port,
+            crate::spot::request(ten, p),
+            crate::spot::tries(port, place) as u32,
+            crate::spot::cap(port, p),
+            made,
+            m,
+        );
     }
     false
 }
 
-pub(crate) fn step(port: Port, ten: bool, s: Rate, a: Answer) -> RateNext
-    ensures { λ t. ⌜ (validRate port ten s ≡ true → rateNext port ten t ≡ tally (madeOf (s .moves)) (restRate port ten s a)) ⌝ }
-    ensures { λ t. ⌜ (validRate port ten s ≡ true → validRateNext port ten t ≡ true) ⌝ }
+pub fn step(port: Port, ten: bool, s: Rate, a: Answer) -> RateNext
+    ensures { λ t. ⌜ rateNext port ten t ≡ erase (restRate port ten s a) ⌝ }
+    ensures { λ t. ⌜ ((made : ℕ) → validRate port ten made s ≡ true → validRateNext port ten made t ≡ true) ⌝ }
 {
     let p = s.spot;
     let m = s.moves;

@@ -1,11 +1,12 @@
 -- `told` meets its contract.
 use Rattle.hardware.specs.Asked.{yes}
-use Rattle.hardware.specs.Prog.{_>>=_, after, going-after, tally}
+use Rattle.hardware.specs.Prog.{_>>=_, erase, followed, tally}
+use Rattle.i2c.proofs.Laws.{asked-on, fits-valid, going-on, limit-most}
 use Rattle.i2c.specs.Calls.{restCall, saidTransfer, standsTransfer}
 use Rattle.i2c.specs.I2c.{givesValue}
-use Rattle.i2c.specs.Moves.{movesNext, validMovesNext}
+use Rattle.i2c.specs.Moves.{dueMovesNext, movesNext, validMovesNext}
 use borrow.Author.Needs.{needs}
-use mathlib.Core.Path.{ap}
+use mathlib.Core.Path.{_∙_, ap, refl}
 use Rattle.i2c.proofs.calls.told.Statement.{statement}
 use Rattle.i2c.proofs.calls.told.Tie as tie
 
@@ -15,6 +16,9 @@ enum-known-n c = search needs
 access-requires : tie.Need-access-requires
 access-requires c κs = search needs
 
+count-requires : tie.Need-count-requires
+count-requires c κs = search needs
+
 enum-known-n-2 : tie.Need-enum-known-n-2
 enum-known-n-2 c = search needs
 
@@ -22,14 +26,21 @@ value-requires : tie.Need-value-requires
 value-requires c κs = search needs
 
 returns : tie.Need-returns
-unfolding saidTransfer restCall movesNext standsTransfer validMovesNext
-returns c = (rw (c .before .before .n .given .1, ← c .access .ensures) (ap yes (going-after _ _ _ _)), λ p h. (c .access .ensures, p, rw (c .before .before .n .given .1) at h))
+unfolding saidTransfer restCall movesNext standsTransfer validMovesNext dueMovesNext
+returns c = rw (c .before .before .before .n .given .1, ← c .before .access .ensures, c .count .ensures) (λ h. ap yes (asked-on _ _ _ _ h ∙ ap (tally _) (going-on _ _ _ _)), λ p v h. (refl, p, fits-valid _ _ _ _ _ _ _ (limit-most _) v h))
 
 returns-2 : tie.Need-returns-2
-unfolding saidTransfer movesNext after _>>=_ givesValue tally standsTransfer
-returns-2 c = (rw (c .before .before .n2 .given .1, c .value .ensures), λ p h. tt)
+unfolding saidTransfer movesNext followed _>>=_ givesValue erase tally standsTransfer
+returns-2 c = rw (c .before .before .n2 .given .1, c .value .ensures) (λ h. refl, λ p v h. tt)
 
 pub told-spec : {M : Type 1} → statement M
 told-spec =
     tie.close
-    (tie.spec enum-known-n access-requires enum-known-n-2 value-requires returns returns-2)
+    (tie.spec
+    enum-known-n
+    access-requires
+    count-requires
+    enum-known-n-2
+    value-requires
+    returns
+    returns-2)

@@ -1,13 +1,13 @@
 -- `asked` meets its contract.
 use Rattle.hardware.specs.Change.{updateNext}
-use Rattle.hardware.specs.Prog.{_>>=_, erase, followed, going-tally, orErr, tally, tally-erase}
+use Rattle.hardware.specs.Prog.{_>>=_, erase, followed, going, orErr, pick}
 use Rattle.hardware.specs.Registers.{outcome}
-use Rattle.i2c.specs.Moves.{accessMoves, madeOf, movesNext, restMoves, validMoves, validMovesNext}
-use Rattle.sync.specs.Lock.{lock}
+use Rattle.i2c.specs.Moves.{accessMoves, dueMoves, dueMovesNext, movesNext, restMoves, validMoves, validMovesNext}
+use Rattle.i2c.specs.Tries.{beginning, more}
 use Rattle.transfer.specs.Attempt.{got}
 use borrow.Author.Needs.{needs}
 use borrow.Author.Tests.{le-leb}
-use mathlib.Core.Path.{_∙_, sym}
+use mathlib.Core.Path.{refl}
 use native.Mathlib.Omega.{arith}
 use Rattle.i2c.proofs.moves.asked.Statement.{statement}
 use Rattle.i2c.proofs.moves.asked.Tie as tie
@@ -28,16 +28,16 @@ enum-known-o : tie.Need-enum-known-o
 enum-known-o c = search needs
 
 returns : tie.Need-returns
-unfolding movesNext accessMoves restMoves madeOf validMovesNext validMoves updateNext
-returns c = (λ lock. rw (c .before .n .given .1) (going-tally _ _ _ _), λ cap h. le-leb _ _ h)
+unfolding beginning movesNext accessMoves restMoves validMovesNext validMoves dueMovesNext dueMoves more pick updateNext
+returns c = (λ lock. rw (c .before .n .given .1) (going _ _ _), (λ most h. le-leb _ _ h, omega arith))
 
 returns-2 : tie.Need-returns-2
 unfolding updateNext followed _>>=_ orErr outcome
-returns-2 c = (λ lock. rw (c .before .before .before .before .n2 .given .1, c .before .enum-told .given .1) (c .grant .ensures .0 lock ∙ sym (tally-erase _ _)), λ cap h. c .grant .ensures .1 cap (omega arith) h)
+returns-2 c = (λ lock. rw (c .before .before .before .before .n2 .given .1, c .before .enum-told .given .1) (c .grant .ensures .0 lock), (λ most h. c .grant .ensures .1 .0 most (omega arith) h, c .grant .ensures .1 .1))
 
 returns-3 : tie.Need-returns-3
-unfolding movesNext followed _>>=_ orErr outcome erase tally got validMovesNext updateNext
-returns-3 c = (λ lock. rw (c .before .before .before .before .n2 .given .1, c .before .o .given .1), λ cap h. le-leb (c .before .before .before .before .before .before .args .made) cap (omega (arith, h)))
+unfolding movesNext followed _>>=_ orErr outcome erase got validMovesNext dueMovesNext updateNext
+returns-3 c = (λ lock. rw (c .before .before .before .before .n2 .given .1, c .before .o .given .1), (λ most h. refl, omega arith))
 
 pub asked-spec : {M : Type 1} → statement M
 asked-spec =

@@ -1,12 +1,12 @@
 -- `given` meets its contract.
 use Rattle.hardware.specs.Change.{updateNext}
-use Rattle.hardware.specs.Prog.{_>>=_, erase, followed, going-tally, orErr, tally}
+use Rattle.hardware.specs.Prog.{_>>=_, erase, followed, going, orErr, pick}
 use Rattle.hardware.specs.Registers.{outcome}
-use Rattle.i2c.specs.Moves.{accessMoves, madeOf, movesNext, restMoves, validMoves, validMovesNext}
-use Rattle.sync.specs.Lock.{lock}
+use Rattle.i2c.specs.Moves.{accessMoves, dueMoves, dueMovesNext, movesNext, restMoves, validMoves, validMovesNext}
+use Rattle.i2c.specs.Tries.{beginning, more}
 use Rattle.transfer.specs.Attempt.{got}
 use borrow.Author.Needs.{needs}
-use borrow.Author.Tests.{le-leb}
+use mathlib.Core.Path.{refl}
 use Rattle.i2c.proofs.moves.given.Statement.{statement}
 use Rattle.i2c.proofs.moves.given.Tie as tie
 
@@ -23,16 +23,16 @@ enum-known-o : tie.Need-enum-known-o
 enum-known-o c = search needs
 
 returns : tie.Need-returns
-unfolding movesNext accessMoves restMoves madeOf validMovesNext validMoves updateNext
-returns c = (λ port r lock. rw (c .before .n .given .1) (going-tally _ _ _ _), λ cap port r h. le-leb (c .before .before .before .args .made) cap h)
+unfolding beginning movesNext accessMoves restMoves validMovesNext validMoves dueMovesNext dueMoves more pick updateNext
+returns c = (λ port r lock. rw (c .before .n .given .1) (going _ _ _), (λ most port r. refl, λ r. refl))
 
 returns-2 : tie.Need-returns-2
-unfolding movesNext followed _>>=_ orErr outcome erase tally got validMovesNext updateNext
-returns-2 c = (λ port r lock. rw (c .before .before .before .n2 .given .1, c .enum-told .given .1), λ cap port r h. le-leb (c .before .before .before .before .before .args .made) cap h)
+unfolding movesNext followed _>>=_ orErr outcome erase got validMovesNext dueMovesNext updateNext
+returns-2 c = (λ port r lock. rw (c .before .before .before .n2 .given .1, c .enum-told .given .1), (λ most port r. refl, λ r. refl))
 
 returns-3 : tie.Need-returns-3
-unfolding movesNext followed _>>=_ orErr outcome erase tally got validMovesNext updateNext
-returns-3 c = (λ port r lock. rw (c .before .before .before .before .n2 .given .1, c .before .o .given .1), λ cap port r h. le-leb (c .before .before .before .before .before .before .args .made) cap h)
+unfolding movesNext followed _>>=_ orErr outcome erase got validMovesNext dueMovesNext updateNext
+returns-3 c = (λ port r lock. rw (c .before .before .before .before .n2 .given .1, c .before .o .given .1), (λ most port r. refl, λ r. refl))
 
 pub given-spec : {M : Type 1} → statement M
 given-spec =

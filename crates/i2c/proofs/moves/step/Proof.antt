@@ -1,10 +1,11 @@
 -- `step` meets its contract.
 use Rattle.bus.proofs.Laws.{picked-first, picked-second}
-use Rattle.hardware.specs.Prog.{over-after, over-tally}
+use Rattle.hardware.specs.Prog.{over}
 use Rattle.i2c.proofs.Laws.{less, upto}
-use Rattle.i2c.specs.Moves.{madeOf, restMoves, validMoves}
+use Rattle.i2c.specs.Moves.{dueMoves, restMoves, validMoves}
 use borrow.Author.Needs.{needs}
 use borrow.Author.Tests.{leb-true, ltb-true}
+use native.Mathlib.Omega.{arith}
 use Rattle.i2c.proofs.moves.step.Statement.{statement}
 use Rattle.i2c.proofs.moves.step.Tie as tie
 
@@ -57,24 +58,24 @@ given-requires : tie.Need-given-requires
 given-requires c κs = search needs
 
 returns : tie.Need-returns
-unfolding restMoves madeOf validMoves
-returns c = (λ cap hc v. rw (c .before .before .before .before .s .given .1) (over-tally _ _ _ (c .asked .ensures .0 (c .before .before .before .before .before .before .args .lock)) (rw (c .before .before .ask-bus .ensures) at (c .before .step .ensures))), λ cap hc v. c .asked .ensures .1 cap (leb-true _ _ (rw (c .before .before .before .before .s .given .1) at v)))
+unfolding restMoves validMoves dueMoves
+returns c = rw (c .before .before .before .before .s .given .1) (over _ _ (c .asked .ensures .0 (c .before .before .before .before .before .before .args .lock)) (rw (c .before .before .ask-bus .ensures) at (c .before .step .ensures)), (λ most v. c .asked .ensures .1 .0 most (leb-true _ _ v), c .asked .ensures .1 .1))
 
 returns-2 : tie.Need-returns-2
-unfolding restMoves madeOf validMoves
-returns-2 c = (λ cap hc v. rw (c .before .before .before .s2 .given .1) (rw (c .before .read .ensures) at (c .looked .ensures .0 (upto (leb-true _ _ (picked-first _ _ (rw (c .before .before .before .s2 .given .1) at v))) hc))), λ cap hc v. c .looked .ensures .1 cap hc (ltb-true _ _ (picked-second _ _ (rw (c .before .before .before .s2 .given .1) at v))) (leb-true _ _ (picked-first _ _ (rw (c .before .before .before .s2 .given .1) at v))))
+unfolding restMoves validMoves dueMoves
+returns-2 c = rw (c .before .before .before .s2 .given .1) (rw (c .before .read .ensures) at (c .looked .ensures .0), (λ most v. c .looked .ensures .1 .0 most (ltb-true _ _ (picked-second _ _ v)) (leb-true _ _ (picked-first _ _ v)), c .looked .ensures .1 .1))
 
 returns-3 : tie.Need-returns-3
-unfolding restMoves madeOf validMoves
-returns-3 c = (λ cap hc v. rw (c .before .before .s3 .given .1) (c .grant .ensures .0 (c .before .before .before .before .args .lock)), λ cap hc v. c .grant .ensures .1 cap (less (ltb-true _ _ (picked-second _ _ (rw (c .before .before .s3 .given .1) at v)))) (leb-true _ _ (picked-first _ _ (rw (c .before .before .s3 .given .1) at v))))
+unfolding restMoves validMoves dueMoves
+returns-3 c = rw (c .before .before .s3 .given .1) (c .grant .ensures .0 (c .before .before .before .before .args .lock), (λ most v. c .grant .ensures .1 .0 most (less (ltb-true _ _ (picked-second _ _ v))) (leb-true _ _ (picked-first _ _ v)), c .grant .ensures .1 .1))
 
 returns-4 : tie.Need-returns-4
-unfolding restMoves madeOf validMoves
-returns-4 c = (λ cap hc v. rw (c .before .before .before .s4 .given .1) (over-after _ _ _ (c .inside .ensures .0 (c .before .before .before .before .before .args .lock)) (c .before .step2 .ensures .0 cap hc (rw (c .before .before .before .s4 .given .1) at v))), λ cap hc v. c .inside .ensures .1 cap (c .before .step2 .ensures .1 cap hc (rw (c .before .before .before .s4 .given .1) at v)))
+unfolding restMoves validMoves dueMoves
+returns-4 c = rw (c .before .before .before .s4 .given .1) (over _ _ (c .inside .ensures .0 (c .before .before .before .before .before .args .lock)) (c .before .step2 .ensures .0), (λ most v. c .inside .ensures .1 .0 most (c .before .step2 .ensures .1 .0 most v), upto (c .inside .ensures .1 .1) (c .before .step2 .ensures .1 .1)))
 
 returns-5 : tie.Need-returns-5
-unfolding restMoves madeOf validMoves
-returns-5 c = (λ cap hc v. rw (c .before .before .before .before .s5 .given .1) (over-tally _ _ _ (c .given .ensures .0 (c .before .before .before .before .before .before .args .port) (c .before .before .before .before .before .before .args .r) (c .before .before .before .before .before .before .args .lock)) (rw (c .before .before .give-bus .ensures) at (c .before .step3 .ensures))), λ cap hc v. c .given .ensures .1 cap (c .before .before .before .before .before .before .args .port) (c .before .before .before .before .before .before .args .r) (leb-true _ _ (rw (c .before .before .before .before .s5 .given .1) at v)))
+unfolding restMoves validMoves dueMoves
+returns-5 c = rw (c .before .before .before .before .s5 .given .1) (over _ _ (c .given .ensures .0 (c .before .before .before .before .before .before .args .port) (c .before .before .before .before .before .before .args .r) (c .before .before .before .before .before .before .args .lock)) (rw (c .before .before .give-bus .ensures) at (c .before .step3 .ensures)), (λ most v. c .given .ensures .1 .0 most (c .before .before .before .before .before .before .args .port) (c .before .before .before .before .before .before .args .r), omega (arith, c .given .ensures .1 .1 (c .before .before .before .before .before .before .args .r))))
 
 pub step-spec : {M : Type 1} → statement M
 step-spec =

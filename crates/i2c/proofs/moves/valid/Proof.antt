@@ -7,8 +7,8 @@ use Rattle.i2c.proofs.moves.valid.Tie as tie
 enum-known-s : tie.Need-enum-known-s
 enum-known-s c = search needs
 
-fits-requires : tie.Need-fits-requires
-fits-requires c κs = search needs
+wanted-requires : tie.Need-wanted-requires
+wanted-requires c κs = search needs
 
 enum-known-s-2 : tie.Need-enum-known-s-2
 enum-known-s-2 c = search needs
@@ -28,12 +28,12 @@ enum-known-s-4 c = search needs
 valid-requires : tie.Need-valid-requires
 valid-requires c κs = search needs
 
-enum-known-s-5 : tie.Need-enum-known-s-5
-enum-known-s-5 c = search needs
+enum-told : tie.Need-enum-told
+enum-told c = search needs
 
 returns : tie.Need-returns
 unfolding validMoves
-returns c = rw (c .before .before .s .given .1) (c .fits2 .ensures)
+returns c = rw (c .before .before .s .given .1, c .wanted .ensures)
 
 returns-2 : tie.Need-returns-2
 unfolding validMoves
@@ -49,21 +49,21 @@ returns-4 c = rw (c .before .before .s4 .given .1) (c .valid .ensures)
 
 returns-5 : tie.Need-returns-5
 unfolding validMoves
-returns-5 c = rw (c .before .s5 .given .1)
+returns-5 c = rw (c .enum-told .given .1)
 
 pub valid-spec : {M : Type 1} → statement M
 valid-spec =
     tie.close
     (tie.spec
     enum-known-s
-    fits-requires
+    wanted-requires
     enum-known-s-2
     valid-looks-requires
     enum-known-s-3
     valid-looks-requires-2
     enum-known-s-4
     valid-requires
-    enum-known-s-5
+    enum-told
     returns
     returns-2
     returns-3

@@ -21,17 +21,8 @@ enum-told-2 c = search needs
 enum-told-3 : tie.Need-enum-told-3
 enum-told-3 c = search needs
 
-cast-t8 : tie.Need-cast-t8
-cast-t8 c = search needs
-
-mul-t9 : tie.Need-mul-t9
-mul-t9 c = search needs
-
-cast-t10 : tie.Need-cast-t10
-cast-t10 c = search needs
-
-add-t11 : tie.Need-add-t11
-add-t11 c = search needs
+combined-requires : tie.Need-combined-requires
+combined-requires c κs = search needs
 
 enum-told-4 : tie.Need-enum-told-4
 enum-told-4 c = search needs
@@ -49,7 +40,7 @@ returns-2 c = rw (c .before .before .before .g .given .1, c .enum-told2 .given .
 
 returns-3 : tie.Need-returns-3
 unfolding valueOf got read-off word
-returns-3 c = rw (c .before .before .before .before .before .g .given .1, c .before .before .enum-told3 .given .1)
+returns-3 c = rw (c .before .before .before .before .g .given .1, c .before .enum-told3 .given .1, c .combined .ensures)
 
 returns-4 : tie.Need-returns-4
 unfolding valueOf got read-off word
@@ -68,10 +59,7 @@ value-spec =
     cast-t7
     enum-told-2
     enum-told-3
-    cast-t8
-    mul-t9
-    cast-t10
-    add-t11
+    combined-requires
     enum-told-4
     enum-known-g-2
     returns

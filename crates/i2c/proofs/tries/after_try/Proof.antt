@@ -1,5 +1,5 @@
 -- `after_try` meets its contract.
-use Rattle.hardware.specs.Prog.{tally}
+use Rattle.hardware.specs.Prog.{erase}
 use Rattle.i2c.proofs.Laws.{read-done}
 use Rattle.transfer.specs.Attempt.{got}
 use borrow.Author.Needs.{needs}
@@ -14,13 +14,13 @@ after-write-requires : tie.Need-after-write-requires
 after-write-requires c κs = search needs
 
 returns : tie.Need-returns
-returns c = (λ h. c .after-write .ensures .0 h (sym (c .before .before .is-write .ensures) ∙ c .before .if1 .taken), c .after-write .ensures .1)
+returns c = (c .after-write .ensures .0 (sym (c .before .before .is-write .ensures) ∙ c .before .if1 .taken), (c .after-write .ensures .1 .0, c .after-write .ensures .1 .1))
 
 give-back-requires : tie.Need-give-back-requires
 give-back-requires c κs = search needs
 
 returns-2 : tie.Need-returns-2
-returns-2 c = (λ h. c .give-back .ensures .0 h ∙ ap (tally (c .before .before .before .args .made)) (read-done (c .before .before .before .args .port) (c .before .before .before .args .r) (c .before .before .before .args .lock) (c .before .before .before .args .left) (got (c .before .before .before .args .g)) (sym (c .before .before .is-write .ensures) ∙ c .before .if1 .left)), c .give-back .ensures .1)
+returns-2 c = (c .give-back .ensures .0 ∙ ap erase (read-done (c .before .before .before .args .port) (c .before .before .before .args .r) (c .before .before .before .args .lock) (c .before .before .before .args .left) (got (c .before .before .before .args .g)) (sym (c .before .before .is-write .ensures) ∙ c .before .if1 .left)), (c .give-back .ensures .1 .0, c .give-back .ensures .1 .1))
 
 pub after-try-spec : {M : Type 1} → statement M
 after-try-spec =

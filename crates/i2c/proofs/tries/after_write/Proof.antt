@@ -1,5 +1,5 @@
 -- `after_write` meets its contract.
-use Rattle.hardware.specs.Prog.{tally}
+use Rattle.hardware.specs.Prog.{erase}
 use Rattle.i2c.proofs.Laws.{write-again, write-done, write-last}
 use Rattle.transfer.specs.Attempt.{got}
 use borrow.Author.Needs.{needs}
@@ -15,7 +15,7 @@ give-back-requires : tie.Need-give-back-requires
 give-back-requires c κs = search needs
 
 returns : tie.Need-returns
-returns c = (λ h w. c .give-back .ensures .0 h ∙ ap (tally (c .before .before .before .before .args .made)) (write-last (c .before .before .before .before .args .port) (c .before .before .before .before .args .r) (c .before .before .before .before .args .lock) (c .before .before .before .before .args .left) (got (c .before .before .before .before .args .g)) w (sym (c .before .before .before .failed .ensures) ∙ c .before .before .if1 .taken) (c .before .if2 .taken)), c .give-back .ensures .1)
+returns c = (λ w. c .give-back .ensures .0 ∙ ap erase (write-last (c .before .before .before .before .args .port) (c .before .before .before .before .args .r) (c .before .before .before .before .args .lock) (c .before .before .before .before .args .left) (got (c .before .before .before .before .args .g)) w (sym (c .before .before .before .failed .ensures) ∙ c .before .before .if1 .taken) (c .before .if2 .taken)), (c .give-back .ensures .1 .0, c .give-back .ensures .1 .1))
 
 sub-begin : tie.Need-sub-begin
 sub-begin c = search needs
@@ -24,13 +24,13 @@ begin-requires : tie.Need-begin-requires
 begin-requires c κs = search needs
 
 returns-2 : tie.Need-returns-2
-returns-2 c = (λ h w. c .begin .ensures .0 (c .before .before .before .before .args .port) (c .before .before .before .before .args .r) (c .before .before .before .before .args .lock) (omega (arith, h, c .before .if2 .left)) ∙ ap (tally (c .before .before .before .before .args .made)) (write-again (c .before .before .before .before .args .port) (c .before .before .before .before .args .r) (c .before .before .before .before .args .lock) (c .before .before .before .before .args .left) (got (c .before .before .before .before .args .g)) w (sym (c .before .before .before .failed .ensures) ∙ c .before .before .if1 .taken) (c .before .if2 .left)), λ cap hc h. c .begin .ensures .1 cap (c .before .before .before .before .args .port) (c .before .before .before .before .args .r) hc (omega (arith, h, c .before .if2 .left)))
+returns-2 c = (λ w. c .begin .ensures .0 (c .before .before .before .before .args .port) (c .before .before .before .before .args .r) (c .before .before .before .before .args .lock) ∙ ap erase (write-again (c .before .before .before .before .args .port) (c .before .before .before .before .args .r) (c .before .before .before .before .args .lock) (c .before .before .before .before .args .left) (got (c .before .before .before .before .args .g)) w (sym (c .before .before .before .failed .ensures) ∙ c .before .before .if1 .taken) (c .before .if2 .left)), (λ tries h. c .begin .ensures .1 .0 tries (c .before .before .before .before .args .port) (c .before .before .before .before .args .r) (omega (arith, h)), omega (arith, c .begin .ensures .1 .1, c .before .if2 .left)))
 
 give-back-requires-2 : tie.Need-give-back-requires-2
 give-back-requires-2 c κs = search needs
 
 returns-3 : tie.Need-returns-3
-returns-3 c = (λ h w. c .give-back2 .ensures .0 h ∙ ap (tally (c .before .before .before .args .made)) (write-done (c .before .before .before .args .port) (c .before .before .before .args .r) (c .before .before .before .args .lock) (c .before .before .before .args .left) (got (c .before .before .before .args .g)) w (sym (c .before .before .failed .ensures) ∙ c .before .if1 .left)), c .give-back2 .ensures .1)
+returns-3 c = (λ w. c .give-back2 .ensures .0 ∙ ap erase (write-done (c .before .before .before .args .port) (c .before .before .before .args .r) (c .before .before .before .args .lock) (c .before .before .before .args .left) (got (c .before .before .before .args .g)) w (sym (c .before .before .failed .ensures) ∙ c .before .if1 .left)), (c .give-back2 .ensures .1 .0, c .give-back2 .ensures .1 .1))
 
 pub after-write-spec : {M : Type 1} → statement M
 after-write-spec =

@@ -1,6 +1,6 @@
 -- `give_back` meets its contract.
+use Rattle.hardware.specs.Prog.{erase, over}
 use Rattle.hostif.specs.Acquire.{release}
-use Rattle.hardware.specs.Prog.{over-tally, tally}
 use Rattle.i2c.proofs.Laws.{when-no, when-yes}
 use Rattle.i2c.proofs.Masks.{given-first}
 use Rattle.i2c.specs.I2c.{mask}
@@ -23,14 +23,14 @@ released-requires c κs = search needs
 
 returns : tie.Need-returns
 unfolding backThen
-returns c = (λ h. over-tally _ (releaseBits (c .before .before .before .before .args .port) (mask (c .before .before .before .before .args .port))) _ (c .released .ensures .0 h) (rw (c .before .before .mask .ensures) at (c .before .«open» .ensures .0)) ∙ given-first (c .before .before .before .before .args .port) (c .before .before .before .before .args .made) (afterRelease (c .before .before .before .before .args .port) (c .before .before .before .before .args .r) (c .before .before .before .before .args .lock) (c .before .before .before .before .args .left) (got (c .before .before .before .before .args .g))) ∙ ap (tally (c .before .before .before .before .args .made)) (when-yes (c .before .before .before .before .args .lock) (release (c .before .before .before .before .args .port) (mask (c .before .before .before .before .args .port))) (afterRelease (c .before .before .before .before .args .port) (c .before .before .before .before .args .r) (c .before .before .before .before .args .lock) (c .before .before .before .before .args .left) (got (c .before .before .before .before .args .g))) (c .before .before .before .if1 .taken)), λ cap hc h. c .released .ensures .1 cap hc h (c .before .«open» .ensures .1))
+returns c = (over (releaseBits (c .before .before .before .before .args .port) (mask (c .before .before .before .before .args .port))) _ (c .released .ensures .0) (rw (c .before .before .mask .ensures) at (c .before .«open» .ensures .0)) ∙ given-first (c .before .before .before .before .args .port) (afterRelease (c .before .before .before .before .args .port) (c .before .before .before .before .args .r) (c .before .before .before .before .args .lock) (c .before .before .before .before .args .left) (got (c .before .before .before .before .args .g))) ∙ ap erase (when-yes (c .before .before .before .before .args .lock) (release (c .before .before .before .before .args .port) (mask (c .before .before .before .before .args .port))) (afterRelease (c .before .before .before .before .args .port) (c .before .before .before .before .args .r) (c .before .before .before .before .args .lock) (c .before .before .before .before .args .left) (got (c .before .before .before .before .args .g))) (c .before .before .before .if1 .taken)), (λ tries h. c .released .ensures .1 .0 tries h (c .before .«open» .ensures .1), c .released .ensures .1 .1))
 
 after-release-requires : tie.Need-after-release-requires
 after-release-requires c κs = search needs
 
 returns-2 : tie.Need-returns-2
 unfolding backThen
-returns-2 c = (λ h. c .after-release .ensures .0 h ∙ ap (tally (c .before .before .args .made)) (when-no (c .before .before .args .lock) (release (c .before .before .args .port) (mask (c .before .before .args .port))) (afterRelease (c .before .before .args .port) (c .before .before .args .r) (c .before .before .args .lock) (c .before .before .args .left) (got (c .before .before .args .g))) (c .before .if1 .left)), c .after-release .ensures .1)
+returns-2 c = (c .after-release .ensures .0 ∙ ap erase (when-no (c .before .before .args .lock) (release (c .before .before .args .port) (mask (c .before .before .args .port))) (afterRelease (c .before .before .args .port) (c .before .before .args .r) (c .before .before .args .lock) (c .before .before .args .left) (got (c .before .before .args .g))) (c .before .if1 .left)), (c .after-release .ensures .1 .0, c .after-release .ensures .1 .1))
 
 pub give-back-spec : {M : Type 1} → statement M
 give-back-spec =

@@ -1,6 +1,6 @@
 -- `locked` meets its contract.
+use Rattle.hardware.specs.Prog.{erase, over}
 use Rattle.hostif.specs.Acquire.{acquire}
-use Rattle.hardware.specs.Prog.{over-tally, tally}
 use Rattle.i2c.proofs.Laws.{when-no, when-yes}
 use Rattle.i2c.proofs.Masks.{taken-first}
 use Rattle.i2c.specs.I2c.{mask}
@@ -26,14 +26,14 @@ acquired-requires c κs = search needs
 
 returns : tie.Need-returns
 unfolding lockedTry acquireBits
-returns c = (λ r h. over-tally _ (acquireBits (c .before .before .before .before .before .args .port) (mask (c .before .before .before .before .before .args .port))) _ (c .acquired .ensures .0 (c .before .before .before .before .before .args .port) r (c .before .before .before .before .before .args .lock) h) (rw (c .before .before .before .mask .ensures, c .before .before .tries .ensures) at (c .before .«open» .ensures .0)) ∙ taken-first (c .before .before .before .before .before .args .port) (c .before .before .before .before .before .args .made) (tryNow (c .before .before .before .before .before .args .port) r (c .before .before .before .before .before .args .lock) (c .before .before .before .before .before .args .left)) ∙ ap (tally (c .before .before .before .before .before .args .made)) (when-yes (c .before .before .before .before .before .args .lock) (acquire (c .before .before .before .before .before .args .port) (mask (c .before .before .before .before .before .args .port))) (tryNow (c .before .before .before .before .before .args .port) r (c .before .before .before .before .before .args .lock) (c .before .before .before .before .before .args .left)) (c .before .before .before .before .if1 .taken)), λ cap r hc h. c .acquired .ensures .1 cap (c .before .before .before .before .before .args .port) r hc h (c .before .«open» .ensures .1 (omega (arith, c .before .before .tries .ensures))))
+returns c = (λ r. over (acquireBits (c .before .before .before .before .before .args .port) (mask (c .before .before .before .before .before .args .port))) _ (c .acquired .ensures .0 (c .before .before .before .before .before .args .port) r (c .before .before .before .before .before .args .lock)) (rw (c .before .before .before .mask .ensures, c .before .before .tries .ensures) at (c .before .«open» .ensures .0)) ∙ taken-first (c .before .before .before .before .before .args .port) (tryNow (c .before .before .before .before .before .args .port) r (c .before .before .before .before .before .args .lock) (c .before .before .before .before .before .args .left)) ∙ ap erase (when-yes (c .before .before .before .before .before .args .lock) (acquire (c .before .before .before .before .before .args .port) (mask (c .before .before .before .before .before .args .port))) (tryNow (c .before .before .before .before .before .args .port) r (c .before .before .before .before .before .args .lock) (c .before .before .before .before .before .args .left)) (c .before .before .before .before .if1 .taken)), (λ tries r h. c .acquired .ensures .1 .0 tries (c .before .before .before .before .before .args .port) r h (c .before .«open» .ensures .1 (omega (arith, c .before .before .tries .ensures))), c .acquired .ensures .1 .1))
 
 begin-requires : tie.Need-begin-requires
 begin-requires c κs = search needs
 
 returns-2 : tie.Need-returns-2
 unfolding lockedTry
-returns-2 c = (λ r h. c .begin .ensures .0 (c .before .before .args .port) r (c .before .before .args .lock) h ∙ ap (tally (c .before .before .args .made)) (when-no (c .before .before .args .lock) (acquire (c .before .before .args .port) (mask (c .before .before .args .port))) (tryNow (c .before .before .args .port) r (c .before .before .args .lock) (c .before .before .args .left)) (c .before .if1 .left)), λ cap r hc h. c .begin .ensures .1 cap (c .before .before .args .port) r hc h)
+returns-2 c = (λ r. c .begin .ensures .0 (c .before .before .args .port) r (c .before .before .args .lock) ∙ ap erase (when-no (c .before .before .args .lock) (acquire (c .before .before .args .port) (mask (c .before .before .args .port))) (tryNow (c .before .before .args .port) r (c .before .before .args .lock) (c .before .before .args .left)) (c .before .if1 .left)), (λ tries r h. c .begin .ensures .1 .0 tries (c .before .before .args .port) r h, c .begin .ensures .1 .1))
 
 pub locked-spec : {M : Type 1} → statement M
 locked-spec =

@@ -1,12 +1,10 @@
 -- `step` meets its contract.
-use Prim.Native.Nat.{_+_}
 use Rattle.bus.proofs.Laws.{picked-first, picked-second}
-use Rattle.hardware.specs.Prog.{over-tally}
-use Rattle.i2c.proofs.Laws.{room, strict-room}
-use Rattle.i2c.specs.Tries.{restStage, restTries, validStage, validTries}
+use Rattle.hardware.specs.Prog.{over}
+use Rattle.i2c.proofs.Laws.{less}
+use Rattle.i2c.specs.Tries.{dueStage, dueTries, restStage, restTries, validStage, validTries}
 use borrow.Author.Needs.{needs}
-use borrow.Author.Tests.{leb-true, ltb-true}
-use native.Mathlib.Omega.{arith}
+use borrow.Author.Tests.{ltb-true}
 use Rattle.i2c.proofs.tries.step.Statement.{statement}
 use Rattle.i2c.proofs.tries.step.Tie as tie
 
@@ -53,20 +51,20 @@ again-requires : tie.Need-again-requires
 again-requires c κs = search needs
 
 returns : tie.Need-returns
-unfolding restTries restStage validTries validStage
-returns c = (λ cap hc v. rw (c .before .before .before .before .stage .given .1) (over-tally _ _ _ (c .acquired .ensures .0 (c .before .before .before .before .before .before .args .port) (c .before .before .before .before .before .before .args .r) (c .before .before .before .before .before .before .args .lock) (strict-room cap (c .before .before .before .before .before .before .args .s .made) (c .before .before .before .before .before .before .args .s .left) _ hc (rw (c .before .before .before .before .stage .given .1) at v))) (rw (c .before .before .mask .ensures) at (c .before .step .ensures .0))), λ cap hc v. c .acquired .ensures .1 cap (c .before .before .before .before .before .before .args .port) (c .before .before .before .before .before .before .args .r) hc (ltb-true _ _ (picked-first _ _ (rw (c .before .before .before .before .stage .given .1) at v))) (c .before .step .ensures .1 (picked-second _ _ (rw (c .before .before .before .before .stage .given .1) at v))))
+unfolding restTries restStage validTries validStage dueTries dueStage
+returns c = rw (c .before .before .before .before .stage .given .1) (over _ _ (c .acquired .ensures .0 (c .before .before .before .before .before .before .args .port) (c .before .before .before .before .before .before .args .r) (c .before .before .before .before .before .before .args .lock)) (rw (c .before .before .mask .ensures) at (c .before .step .ensures .0)), (λ tries v. c .acquired .ensures .1 .0 tries (c .before .before .before .before .before .before .args .port) (c .before .before .before .before .before .before .args .r) (ltb-true _ _ (picked-first _ _ v)) (c .before .step .ensures .1 (picked-second _ _ v)), c .acquired .ensures .1 .1))
 
 returns-2 : tie.Need-returns-2
-unfolding restTries restStage validTries validStage
-returns-2 c = (λ cap hc v. rw (c .before .before .before .before .stage2 .given .1) (over-tally _ _ _ (c .tried .ensures .0 (room cap (c .before .before .before .before .before .before .args .s .made) (c .before .before .before .before .before .before .args .s .left) _ hc (rw (c .before .before .before .before .stage2 .given .1) at v))) (rw (c .before .before .layout-of .ensures) at (c .before .step2 .ensures .0))), λ cap hc v. c .tried .ensures .1 cap hc (leb-true _ _ (picked-first _ _ (rw (c .before .before .before .before .stage2 .given .1) at v))) ((rw (c .before .before .layout-of .ensures) at (c .before .step2 .ensures .1)) (picked-second _ _ (rw (c .before .before .before .before .stage2 .given .1) at v))))
+unfolding restTries restStage validTries validStage dueTries dueStage
+returns-2 c = rw (c .before .before .before .before .stage2 .given .1) (over _ _ (c .tried .ensures .0) (rw (c .before .before .layout-of .ensures) at (c .before .step2 .ensures .0)), (λ tries v. c .tried .ensures .1 .0 tries (ltb-true _ _ (picked-first _ _ v)) ((rw (c .before .before .layout-of .ensures) at (c .before .step2 .ensures .1)) (picked-second _ _ v)), c .tried .ensures .1 .1))
 
 returns-3 : tie.Need-returns-3
-unfolding restTries restStage validTries validStage
-returns-3 c = (λ cap hc v. rw (c .before .before .before .before .stage3 .given .1) (over-tally _ _ _ (c .released .ensures .0 (room cap (c .before .before .before .before .before .before .args .s .made) (c .before .before .before .before .before .before .args .s .left) _ hc (rw (c .before .before .before .before .stage3 .given .1) at v))) (rw (c .before .before .mask2 .ensures) at (c .before .step3 .ensures .0))), λ cap hc v. c .released .ensures .1 cap hc (leb-true _ _ (picked-first _ _ (rw (c .before .before .before .before .stage3 .given .1) at v))) (c .before .step3 .ensures .1 (picked-second _ _ (rw (c .before .before .before .before .stage3 .given .1) at v))))
+unfolding restTries restStage validTries validStage dueTries dueStage
+returns-3 c = rw (c .before .before .before .before .stage3 .given .1) (over _ _ (c .released .ensures .0) (rw (c .before .before .mask2 .ensures) at (c .before .step3 .ensures .0)), (λ tries v. c .released .ensures .1 .0 tries (ltb-true _ _ (picked-first _ _ v)) (c .before .step3 .ensures .1 (picked-second _ _ v)), c .released .ensures .1 .1))
 
 returns-4 : tie.Need-returns-4
-unfolding restTries restStage validTries validStage
-returns-4 c = (λ cap hc v. rw (c .before .enum-told .given .1) (c .again .ensures .0 (omega (arith, hc, leb-true ((c .before .before .before .args .s .made) + (c .before .before .before .args .s .left)) cap (rw (c .before .enum-told .given .1) at v)))), λ cap hc v. c .again .ensures .1 cap hc (leb-true ((c .before .before .before .args .s .made) + (c .before .before .before .args .s .left)) cap (rw (c .before .enum-told .given .1) at v)))
+unfolding restTries restStage validTries validStage dueTries dueStage
+returns-4 c = rw (c .before .enum-told .given .1) (c .again .ensures .0, (λ tries v. c .again .ensures .1 .0 tries (less (ltb-true _ _ (picked-first _ _ v))), c .again .ensures .1 .1))
 
 pub step-spec : {M : Type 1} → statement M
 step-spec =

@@ -1,12 +1,12 @@
 -- `tried` meets its contract.
 use Rattle.bus.proofs.Laws.{picked}
-use Rattle.hardware.specs.Prog.{_>>=_, followed, going-tally, tally-erase}
-use Rattle.i2c.specs.Tries.{accessStage, accessTries, restStage, restTries, triesNext, validStage, validTries, validTriesNext}
+use Rattle.hardware.specs.Prog.{_>>=_, followed, going, pick}
+use Rattle.i2c.specs.Tries.{accessStage, accessTries, beginning, dueStage, dueTries, dueTriesNext, more, restStage, restTries, triesNext, validStage, validTries, validTriesNext}
 use Rattle.transfer.specs.Attempt.{attemptNext, awaiting, validAttemptNext}
 use Rattle.transfer.specs.Transfer.{tells}
 use borrow.Author.Needs.{needs}
-use borrow.Author.Tests.{le-leb}
-use mathlib.Core.Path.{_∙_, sym}
+use borrow.Author.Tests.{lt-ltb}
+use native.Mathlib.Omega.{arith}
 use Rattle.i2c.proofs.tries.tried.Statement.{statement}
 use Rattle.i2c.proofs.tries.tried.Tie as tie
 
@@ -23,16 +23,16 @@ after-try-requires : tie.Need-after-try-requires
 after-try-requires c κs = search needs
 
 returns : tie.Need-returns
-unfolding triesNext accessTries accessStage restTries restStage validTriesNext validTries validStage attemptNext awaiting validAttemptNext
-returns c = (λ h. rw (c .before .n .given .1) (going-tally _ _ _ _), λ cap hc h g. picked _ _ (le-leb _ _ h) (rw (c .before .n .given .1) at g))
+unfolding beginning triesNext accessTries accessStage restTries restStage validTriesNext validTries validStage dueTriesNext dueTries dueStage more pick attemptNext awaiting validAttemptNext
+returns c = (rw (c .before .n .given .1) (going _ _ _), (λ tries h g. picked _ _ (lt-ltb _ _ h) (rw (c .before .n .given .1) at g), omega arith))
 
 returns-2 : tie.Need-returns-2
-unfolding triesNext accessTries accessStage restTries restStage validTriesNext validTries validStage attemptNext awaiting tells validAttemptNext
-returns-2 c = (λ h. rw (c .before .n2 .given .1) (going-tally _ _ _ _), λ cap hc h g. picked _ _ (le-leb _ _ h) (rw (c .before .n2 .given .1) at g))
+unfolding beginning triesNext accessTries accessStage restTries restStage validTriesNext validTries validStage dueTriesNext dueTries dueStage more pick attemptNext awaiting tells validAttemptNext
+returns-2 c = (rw (c .before .n2 .given .1) (going _ _ _), (λ tries h g. picked _ _ (lt-ltb _ _ h) (rw (c .before .n2 .given .1) at g), omega arith))
 
 returns-3 : tie.Need-returns-3
 unfolding attemptNext followed _>>=_
-returns-3 c = (λ h. rw (c .before .before .n3 .given .1) (c .after-try .ensures .0 h ∙ sym (tally-erase _ _)), λ cap hc h g. c .after-try .ensures .1 cap hc h)
+returns-3 c = (rw (c .before .before .n3 .given .1) (c .after-try .ensures .0), (λ tries h g. c .after-try .ensures .1 .0 tries h, c .after-try .ensures .1 .1))
 
 pub tried-spec : {M : Type 1} → statement M
 tried-spec =

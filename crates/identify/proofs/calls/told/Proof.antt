@@ -1,7 +1,11 @@
 -- `told` meets its contract.
+use Rattle.hardware.specs.Asked.{yes}
+use Rattle.hardware.specs.Prog.{tally}
+use Rattle.i2c.proofs.Laws.{asked-on}
 use Rattle.identify.specs.Calls.{saidIdentify, standsIdentify}
 use Rattle.identify.specs.Walk.{identifyNext, validIdentifyNext}
 use borrow.Author.Needs.{needs}
+use mathlib.Core.Path.{ap, refl}
 use Rattle.identify.proofs.calls.told.Statement.{statement}
 use Rattle.identify.proofs.calls.told.Tie as tie
 
@@ -11,16 +15,21 @@ enum-known-n c = search needs
 access-requires : tie.Need-access-requires
 access-requires c κs = search needs
 
+count-requires : tie.Need-count-requires
+count-requires c κs = search needs
+
 enum-known-n-2 : tie.Need-enum-known-n-2
 enum-known-n-2 c = search needs
 
 returns : tie.Need-returns
 unfolding saidIdentify identifyNext standsIdentify validIdentifyNext
-returns c = (rw (c .before .before .n .given .1, ← c .access .ensures), λ p h. (c .access .ensures, p, rw (c .before .before .n .given .1) at h))
+returns c = rw (c .before .before .before .n .given .1, ← c .before .access .ensures, c .count .ensures) (λ h. ap yes (asked-on _ _ _ _ h), λ p v. (refl, p, v))
 
 returns-2 : tie.Need-returns-2
-unfolding saidIdentify identifyNext standsIdentify
-returns-2 c = (rw (c .before .n2 .given .1), λ p h. tt)
+unfolding saidIdentify identifyNext tally standsIdentify
+returns-2 c = rw (c .before .n2 .given .1) (λ h. refl, λ p v. tt)
 
 pub told-spec : {M : Type 1} → statement M
-told-spec = tie.close (tie.spec enum-known-n access-requires enum-known-n-2 returns returns-2)
+told-spec =
+    tie.close
+    (tie.spec enum-known-n access-requires count-requires enum-known-n-2 returns returns-2)

@@ -25,7 +25,7 @@ returns c = (λ port. rw (c .before .before .g .given .1) (c .on .ensures .0 por
 
 returns-2 : tie.Need-returns-2
 unfolding toldAt got valueOf
-returns-2 c = (λ port. rw (c .before .before .g2 .given .1) (c .failed .ensures .0 port _), λ h. c .failed .ensures .1 _)
+returns-2 c = (λ port. rw (c .before .before .g2 .given .1) (c .failed .ensures .0 port _), λ port h. c .failed .ensures .1 port _)
 
 pub after-spec : {M : Type 1} → statement M
 after-spec =

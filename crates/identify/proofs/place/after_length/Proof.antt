@@ -1,6 +1,6 @@
 -- `after_length` meets its contract.
 use Rattle.hardware.specs.Prog.{pick}
-use Rattle.identify.specs.Place.{Later, capAt, offsetAt, onAt, onward, placed, probesAt, triesAt, validPlace}
+use Rattle.identify.specs.Place.{Later, capAt, most, offsetAt, onAt, onward, placed, readingsAt, requestsAt, triesAt, validPlace}
 use Rattle.sfp.specs.Qsfp.{qsfpLength}
 use borrow.Author.Needs.{needs}
 use borrow.Author.Tests.{le-ltb, lt-ltb}
@@ -10,15 +10,15 @@ use Rattle.identify.proofs.place.after_length.Statement.{statement}
 use Rattle.identify.proofs.place.after_length.Tie as tie
 
 returns : tie.Need-returns
-unfolding onward Later placed offsetAt triesAt probesAt validPlace pick onAt qsfpLength capAt
-returns c = (λ port. rw (lt-ltb 0 _ (c .if1 .taken)), (refl, omega arith))
+unfolding onward Later placed offsetAt triesAt requestsAt validPlace pick onAt qsfpLength capAt readingsAt most
+returns c = (λ port. rw (lt-ltb 0 _ (c .if1 .taken)), λ port. (refl, omega arith))
 
 qsfp-found-requires : tie.Need-qsfp-found-requires
 qsfp-found-requires c κs = search needs
 
 returns-2 : tie.Need-returns-2
 unfolding onAt qsfpLength pick
-returns-2 c = (λ port. rw (le-ltb 0 _ (c .before .if1 .left)) (c .qsfp-found .ensures .0 port), c .qsfp-found .ensures .1 55)
+returns-2 c = (λ port. rw (le-ltb 0 _ (c .before .if1 .left)) (c .qsfp-found .ensures .0 port), λ port. c .qsfp-found .ensures .1 port _)
 
 pub after-length-spec : {M : Type 1} → statement M
 after-length-spec = tie.close (tie.spec returns qsfp-found-requires returns-2)

@@ -1,6 +1,6 @@
 -- `after_qsfp_identifier` meets its contract.
 use Rattle.hardware.specs.Prog.{pick}
-use Rattle.identify.specs.Place.{Later, capAt, offsetAt, onAt, onward, placed, probesAt, triesAt, validPlace}
+use Rattle.identify.specs.Place.{Later, capAt, most, offsetAt, onAt, onward, placed, readingsAt, requestsAt, triesAt, validPlace}
 use Rattle.sfp.specs.Qsfp.{qsfpIdentified, qsfpKnown}
 use borrow.Author.Needs.{needs}
 use borrow.Author.Tests.{ne-eqb}
@@ -10,15 +10,15 @@ use Rattle.identify.proofs.place.after_qsfp_identifier.Statement.{state
 use Rattle.identify.proofs.place.after_qsfp_identifier.Tie as tie
 
 returns : tie.Need-returns
-unfolding onward Later placed offsetAt triesAt probesAt validPlace pick onAt qsfpIdentified qsfpKnown capAt
-returns c = (λ port. rw (c .if1 .taken), (refl, omega arith))
+unfolding onward Later placed offsetAt triesAt requestsAt validPlace pick onAt qsfpIdentified qsfpKnown capAt readingsAt most
+returns c = (λ port. rw (c .if1 .taken), λ port. (refl, omega arith))
 
 other-requires : tie.Need-other-requires
 other-requires c κs = search needs
 
 returns-2 : tie.Need-returns-2
 unfolding onward Later qsfpIdentified pick
-returns-2 c = (λ port. rw (ne-eqb _ 0x0d (c .before .if1 .left), c .other .ensures), tt)
+returns-2 c = (λ port. rw (ne-eqb _ 0x0d (c .before .if1 .left), c .other .ensures), λ port. tt)
 
 pub after-qsfp-identifier-spec : {M : Type 1} → statement M
 after-qsfp-identifier-spec = tie.close (tie.spec returns other-requires returns-2)

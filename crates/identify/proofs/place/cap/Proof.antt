@@ -1,155 +1,41 @@
 -- `cap` meets its contract.
-use Rattle.hardware.specs.Prog.{pick}
-use Rattle.identify.specs.Place.{capAt}
-use borrow.Author.Needs.{needs}
-use borrow.Author.Tests.{le-ltb, lt-ltb}
+use Rattle.identify.proofs.Laws.{few-readings, few-requests}
+use Rattle.identify.specs.Place.{capAt, most}
+use borrow.Author.Needs.{fits-under, needs}
+use native.Mathlib.Omega.{arith}
 use Rattle.identify.proofs.place.cap.Statement.{statement}
 use Rattle.identify.proofs.place.cap.Tie as tie
 
-enum-known-p : tie.Need-enum-known-p
-enum-known-p c = search needs
-
-cast-result : tie.Need-cast-result
-cast-result c = search needs
-
-sub-result : tie.Need-sub-result
-sub-result c = search needs
+readings-requires : tie.Need-readings-requires
+readings-requires c κs = search needs
 
 mul-result : tie.Need-mul-result
-mul-result c = search needs
+mul-result c = fits-under _ _ 56 (rw (c .readings .ensures) (omega (arith, few-readings (c .before .args .p)))) tt
+
+requests-requires : tie.Need-requests-requires
+requests-requires c κs = search needs
+
+attempts-requires : tie.Need-attempts-requires
+attempts-requires c κs = search needs
+
+mul-result-2 : tie.Need-mul-result-2
+mul-result-2 c = fits-under _ _ 78 (rw (c .before .requests .ensures, c .attempts .ensures) (omega (arith, few-requests (c .before .before .before .args .port) (c .before .before .before .args .p)))) tt
+
+add-result : tie.Need-add-result
+add-result c = fits-under _ _ 133 (rw (c .before .before .readings .ensures, c .before .requests .ensures, c .attempts .ensures) (omega (arith, few-readings (c .before .before .before .args .p), few-requests (c .before .before .before .args .port) (c .before .before .before .args .p)))) tt
 
 returns : tie.Need-returns
-unfolding capAt pick
-returns c = rw (c .before .before .p .given .1, lt-ltb _ _ (c .if1 .taken))
-
-enum-told : tie.Need-enum-told
-enum-told c = search needs
-
-enum-told-2 : tie.Need-enum-told-2
-enum-told-2 c = search needs
-
-enum-told-3 : tie.Need-enum-told-3
-enum-told-3 c = search needs
-
-enum-told-4 : tie.Need-enum-told-4
-enum-told-4 c = search needs
-
-enum-told-5 : tie.Need-enum-told-5
-enum-told-5 c = search needs
-
-enum-told-6 : tie.Need-enum-told-6
-enum-told-6 c = search needs
-
-enum-told-7 : tie.Need-enum-told-7
-enum-told-7 c = search needs
-
-enum-told-8 : tie.Need-enum-told-8
-enum-told-8 c = search needs
-
-enum-told-9 : tie.Need-enum-told-9
-enum-told-9 c = search needs
-
-enum-told-10 : tie.Need-enum-told-10
-enum-told-10 c = search needs
-
-enum-told-11 : tie.Need-enum-told-11
-enum-told-11 c = search needs
-
-enum-told-12 : tie.Need-enum-told-12
-enum-told-12 c = search needs
-
-enum-told-13 : tie.Need-enum-told-13
-enum-told-13 c = search needs
-
-returns-2 : tie.Need-returns-2
-unfolding capAt pick
-returns-2 c = rw (c .before .before .p .given .1, le-ltb _ _ (c .if1 .left))
-
-returns-3 : tie.Need-returns-3
-unfolding capAt
-returns-3 c = rw (c .enum-told .given .1)
-
-returns-4 : tie.Need-returns-4
-unfolding capAt
-returns-4 c = rw (c .enum-told2 .given .1)
-
-returns-5 : tie.Need-returns-5
-unfolding capAt
-returns-5 c = rw (c .enum-told3 .given .1)
-
-returns-6 : tie.Need-returns-6
-unfolding capAt
-returns-6 c = rw (c .enum-told4 .given .1)
-
-returns-7 : tie.Need-returns-7
-unfolding capAt
-returns-7 c = rw (c .enum-told5 .given .1)
-
-returns-8 : tie.Need-returns-8
-unfolding capAt
-returns-8 c = rw (c .enum-told6 .given .1)
-
-returns-9 : tie.Need-returns-9
-unfolding capAt
-returns-9 c = rw (c .enum-told7 .given .1)
-
-returns-10 : tie.Need-returns-10
-unfolding capAt
-returns-10 c = rw (c .enum-told8 .given .1)
-
-returns-11 : tie.Need-returns-11
-unfolding capAt
-returns-11 c = rw (c .enum-told9 .given .1)
-
-returns-12 : tie.Need-returns-12
-unfolding capAt
-returns-12 c = rw (c .enum-told10 .given .1)
-
-returns-13 : tie.Need-returns-13
-unfolding capAt
-returns-13 c = rw (c .enum-told11 .given .1)
-
-returns-14 : tie.Need-returns-14
-unfolding capAt
-returns-14 c = rw (c .enum-told12 .given .1)
-
-returns-15 : tie.Need-returns-15
-unfolding capAt
-returns-15 c = rw (c .enum-told13 .given .1)
+unfolding capAt most
+returns c = rw (c .before .before .readings .ensures, c .before .requests .ensures, c .attempts .ensures)
 
 pub cap-spec : {M : Type 1} → statement M
 cap-spec =
     tie.close
     (tie.spec
-    enum-known-p
-    cast-result
-    sub-result
+    readings-requires
     mul-result
-    returns
-    enum-told
-    enum-told-2
-    enum-told-3
-    enum-told-4
-    enum-told-5
-    enum-told-6
-    enum-told-7
-    enum-told-8
-    enum-told-9
-    enum-told-10
-    enum-told-11
-    enum-told-12
-    enum-told-13
-    returns-2
-    returns-3
-    returns-4
-    returns-5
-    returns-6
-    returns-7
-    returns-8
-    returns-9
-    returns-10
-    returns-11
-    returns-12
-    returns-13
-    returns-14
-    returns-15)
+    requests-requires
+    attempts-requires
+    mul-result-2
+    add-result
+    returns)

@@ -15,11 +15,11 @@ absent-requires c κs = search needs
 
 returns : tie.Need-returns
 unfolding onward Later orAbsent pick
-returns c = (λ port p. rw (← c .before .before .is-i2c .ensures, c .before .if1 .taken) (ap (λ m. ret (Ok m)) (c .absent .ensures)), λ n. tt)
+returns c = (λ port p. rw (← c .before .before .is-i2c .ensures, c .before .if1 .taken) (ap (λ m. ret (Ok m)) (c .absent .ensures)), λ port n. tt)
 
 returns-2 : tie.Need-returns-2
 unfolding onward Later orAbsent pick
-returns-2 c = (λ port p. rw (← c .before .is-i2c .ensures, c .if1 .left), λ n. tt)
+returns-2 c = (λ port p. rw (← c .before .is-i2c .ensures, c .if1 .left), λ port n. tt)
 
 pub failed-spec : {M : Type 1} → statement M
 failed-spec = tie.close (tie.spec is-i2c-requires absent-requires returns returns-2)

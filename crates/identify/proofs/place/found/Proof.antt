@@ -11,7 +11,7 @@ recorded-requires c κs = search needs
 
 returns : tie.Need-returns
 unfolding onward Later
-returns c = (λ port. ap (λ m. ret (Ok m)) (c .recorded .ensures), λ n. tt)
+returns c = (λ port. ap (λ m. ret (Ok m)) (c .recorded .ensures), λ port n. tt)
 
 pub found-spec : {M : Type 1} → statement M
 found-spec = tie.close (tie.spec recorded-requires returns)

@@ -11,7 +11,7 @@ qsfp-recorded-requires c κs = search needs
 
 returns : tie.Need-returns
 unfolding onward Later
-returns c = (λ port. ap (λ m. ret (Ok m)) (c .qsfp-recorded .ensures), λ n. tt)
+returns c = (λ port. ap (λ m. ret (Ok m)) (c .qsfp-recorded .ensures), λ port n. tt)
 
 pub qsfp-found-spec : {M : Type 1} → statement M
 qsfp-found-spec = tie.close (tie.spec qsfp-recorded-requires returns)

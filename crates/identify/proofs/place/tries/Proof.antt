@@ -3,16 +3,17 @@ use Rattle.hardware.specs.Prog.{pick}
 use Rattle.identify.specs.Place.{triesAt}
 use Rattle.sfp.proofs.Ends.{attempts-few}
 use borrow.Author.Needs.{fits-under, needs}
+use borrow.Author.Tests.{ne-eqb}
 use native.Mathlib.Omega.{arith}
 use Rattle.identify.proofs.place.tries.Statement.{statement}
 use Rattle.identify.proofs.place.tries.Tie as tie
 
-probes-requires : tie.Need-probes-requires
-probes-requires c κs = search needs
+requests-requires : tie.Need-requests-requires
+requests-requires c κs = search needs
 
 returns : tie.Need-returns
 unfolding triesAt pick
-returns c = rw (← c .before .probes .ensures, c .if1 .taken)
+returns c = rw (← c .before .requests .ensures, c .if1 .taken)
 
 attempts-requires : tie.Need-attempts-requires
 attempts-requires c κs = search needs
@@ -22,7 +23,7 @@ cast-result c = fits-under _ _ 12 (omega (arith, c .attempts .ensures, attempts-
 
 returns-2 : tie.Need-returns-2
 unfolding triesAt pick
-returns-2 c = rw (← c .before .before .probes .ensures, c .before .if1 .left) (c .attempts .ensures)
+returns-2 c = rw (← c .before .before .requests .ensures, ne-eqb _ 0 (c .before .if1 .left)) (c .attempts .ensures)
 
 pub tries-spec : {M : Type 1} → statement M
-tries-spec = tie.close (tie.spec probes-requires returns attempts-requires cast-result returns-2)
+tries-spec = tie.close (tie.spec requests-requires returns attempts-requires cast-result returns-2)

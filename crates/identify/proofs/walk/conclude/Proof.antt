@@ -1,5 +1,5 @@
 -- `conclude` meets its contract.
-use Rattle.hardware.specs.Prog.{tally}
+use Rattle.hardware.specs.Prog.{erase}
 use Rattle.identify.specs.Place.{Later, onward}
 use Rattle.identify.specs.Walk.{foundOf, identifyNext, validIdentifyNext}
 use borrow.Author.Needs.{needs}
@@ -22,15 +22,15 @@ enum-known-t-3 c = search needs
 
 returns : tie.Need-returns
 unfolding onward Later
-returns c = rw (c .before .before .t .given .1) (c .begin .ensures .0, λ most k l. c .begin .ensures .1 (l .0) (omega (arith, k, l .1)))
+returns c = rw (c .before .before .t .given .1) (c .begin .ensures .0, λ made n k l. c .begin .ensures .1 made (l .0) (omega (arith, k, l .1)))
 
 returns-2 : tie.Need-returns-2
-unfolding onward identifyNext foundOf tally validIdentifyNext
-returns-2 c = rw (c .before .t2 .given .1) (λ h. refl, λ most k l. refl)
+unfolding onward identifyNext foundOf erase validIdentifyNext
+returns-2 c = rw (c .before .t2 .given .1) (refl, λ made n k l. refl)
 
 returns-3 : tie.Need-returns-3
-unfolding onward identifyNext foundOf tally validIdentifyNext
-returns-3 c = rw (c .before .t3 .given .1) (λ h. refl, λ most k l. refl)
+unfolding onward identifyNext foundOf erase validIdentifyNext
+returns-3 c = rw (c .before .t3 .given .1) (refl, λ made n k l. refl)
 
 pub conclude-spec : {M : Type 1} → statement M
 conclude-spec =

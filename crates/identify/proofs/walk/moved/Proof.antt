@@ -1,11 +1,13 @@
 -- `moved` meets its contract.
-use Rattle.hardware.specs.Prog.{_>>=_, after, going-after, pick, tally}
-use Rattle.i2c.specs.Moves.{movesNext, validMovesNext}
-use Rattle.identify.proofs.Laws.{cap-room}
+use Rattle.bus.proofs.Laws.{picked}
+use Rattle.hardware.specs.Prog.{_>>=_, erase, followed}
+use Rattle.i2c.proofs.Laws.{fits-valid, going-on}
+use Rattle.i2c.specs.Moves.{dueMovesNext, movesNext, validMovesNext}
+use Rattle.identify.proofs.Laws.{cap-most}
 use Rattle.identify.specs.Walk.{accessIdentify, identifyNext, restIdentify, validIdentify, validIdentifyNext}
 use borrow.Author.Needs.{needs}
-use borrow.Author.Tests.{leb-true}
 use mathlib.Core.Path.{_∙_, ap}
+use native.Mathlib.Omega.{arith}
 use Rattle.identify.proofs.walk.moved.Statement.{statement}
 use Rattle.identify.proofs.walk.moved.Tie as tie
 
@@ -22,12 +24,12 @@ conclude-requires : tie.Need-conclude-requires
 conclude-requires c κs = search needs
 
 returns : tie.Need-returns
-unfolding identifyNext accessIdentify restIdentify movesNext validMovesNext validIdentifyNext validIdentify pick
-returns c = rw (c .before .n .given .1) (λ h. going-after _ _ _ _, λ v h. rw v h)
+unfolding identifyNext accessIdentify restIdentify movesNext validMovesNext dueMovesNext validIdentifyNext validIdentify
+returns c = rw (c .before .n .given .1) (going-on _ _ _ _, λ made p v all. picked _ _ p (fits-valid _ _ _ _ _ made _ (cap-most _ _) v all))
 
 returns-2 : tie.Need-returns-2
-unfolding movesNext validMovesNext after _>>=_
-returns-2 c = rw (c .before .before .before .n2 .given .1) (λ h. c .conclude .ensures .0 (cap-room _ _ (leb-true _ _ h)) ∙ ap (tally _) (c .before .after .ensures .0 _), λ v h. c .conclude .ensures .1 _ (leb-true _ _ h) (c .before .after .ensures .1 v))
+unfolding movesNext dueMovesNext followed _>>=_
+returns-2 c = rw (c .before .before .before .n2 .given .1) (c .conclude .ensures .0 ∙ ap erase (c .before .after .ensures .0 _), λ made p v all. c .conclude .ensures .1 made _ (omega (arith, all)) (c .before .after .ensures .1 _ p))
 
 pub moved-spec : {M : Type 1} → statement M
 moved-spec =

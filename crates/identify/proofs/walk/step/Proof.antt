@@ -1,8 +1,8 @@
 -- `step` meets its contract.
-use Rattle.hardware.proofs.Laws.{both-true}
-use Rattle.hardware.specs.Prog.{over-after}
-use Rattle.identify.proofs.Laws.{cap-most}
-use Rattle.identify.specs.Place.{capAt, validPlace}
+use Rattle.bus.proofs.Laws.{picked-first, picked-second}
+use Rattle.hardware.specs.Prog.{over}
+use Rattle.i2c.proofs.Laws.{valid-fits}
+use Rattle.identify.specs.Place.{validPlace}
 use Rattle.identify.specs.Walk.{restIdentify, validIdentify}
 use borrow.Author.Needs.{needs}
 use native.Mathlib.Omega.{arith}
@@ -19,8 +19,8 @@ moved-requires : tie.Need-moved-requires
 moved-requires c κs = search needs
 
 returns : tie.Need-returns
-unfolding validIdentify restIdentify
-returns c = (λ h. over-after _ _ _ (c .moved .ensures .0 (rw (← c .before .before .request .ensures) (c .before .step .ensures .1 (capAt (c .before .before .before .args .s .place)) (omega (arith, cap-most (c .before .before .before .args .s .place))) (rw (c .before .before .request .ensures) (both-true (validPlace (c .before .before .before .args .s .place)) _ h .1))))) (rw (← c .before .before .request .ensures) (c .before .step .ensures .0 (capAt (c .before .before .before .args .s .place)) (omega (arith, cap-most (c .before .before .before .args .s .place))) (rw (c .before .before .request .ensures) (both-true (validPlace (c .before .before .before .args .s .place)) _ h .1)))), λ h. c .moved .ensures .1 (both-true (validPlace (c .before .before .before .args .s .place)) _ h .0) (rw (← c .before .before .request .ensures) (c .before .step .ensures .1 (capAt (c .before .before .before .args .s .place)) (omega (arith, cap-most (c .before .before .before .args .s .place))) (rw (c .before .before .request .ensures) (both-true (validPlace (c .before .before .before .args .s .place)) _ h .1)))))
+unfolding restIdentify validIdentify
+returns c = (over _ _ (c .moved .ensures .0) (rw (← c .before .before .request .ensures) (c .before .step .ensures .0)), λ made h. c .moved .ensures .1 made (picked-first (validPlace (c .before .before .before .args .s .place)) _ h) (rw (← c .before .before .request .ensures) (c .before .step .ensures .1 .0 _ (rw (c .before .before .request .ensures) (valid-fits _ _ _ _ _ _ (picked-second (validPlace (c .before .before .before .args .s .place)) _ h) .counters)))) (omega (arith, (rw (c .before .before .request .ensures) at (c .before .step .ensures .1 .1)), (valid-fits _ _ _ _ _ _ (picked-second (validPlace (c .before .before .before .args .s .place)) _ h) .all))))
 
 pub step-spec : {M : Type 1} → statement M
 step-spec = tie.close (tie.spec request-requires step-requires moved-requires returns)

@@ -1,10 +1,10 @@
 -- `soft_rate_select_open` meets its contract.
 use Rattle.hardware.proofs.Laws.{opened-valid}
 use Rattle.hardware.specs.Asked.{andThen, portOpened, yes}
-use Rattle.hardware.specs.Prog.{pick, tally}
+use Rattle.hardware.specs.Prog.{erase, pick, tally, tally-erase}
 use Rattle.softrate.proofs.Laws.{first-placed}
 use Rattle.softrate.specs.Calls.{openRate, saidRate, standsRate}
-use Rattle.softrate.specs.Spot.{capAt, isReading, needAt, validSpot}
+use Rattle.softrate.specs.Spot.{before, capAt, triesAt, upTo, validSpot}
 use borrow.Author.Needs.{needs}
 use mathlib.Core.Path.{_∙_, ap, refl}
 use native.Mathlib.Omega.{arith}
@@ -27,8 +27,8 @@ enum-known-q : tie.Need-enum-known-q
 enum-known-q c = search needs
 
 returns : tie.Need-returns
-unfolding openRate andThen portOpened validSpot capAt isReading needAt pick
-returns c = (rw (← c .before .before .before .before .before .open-port .ensures, c .before .before .before .p .given .1) (c .told .ensures .0 ∙ ap yes (c .before .begin .ensures .0 (omega arith) ∙ ap (tally 0) (first-placed _ _))), c .told .ensures .1 (opened-valid _ _ _ (c .before .before .before .p .given .1) (c .before .before .before .before .before .open-port .ensures)) (c .before .begin .ensures .1 refl (omega arith)))
+unfolding openRate andThen portOpened validSpot capAt before upTo triesAt pick
+returns c = (rw (← c .before .before .before .before .before .open-port .ensures, c .before .before .before .p .given .1) (c .told .ensures .0 (omega arith) ∙ ap yes (ap (tally 0) (c .before .begin .ensures .0 ∙ ap erase (first-placed _ _)) ∙ tally-erase 0 _)), c .told .ensures .1 (opened-valid _ _ _ (c .before .before .before .p .given .1) (c .before .before .before .before .before .open-port .ensures)) (c .before .begin .ensures .1 0 refl (omega arith)))
 
 returns-2 : tie.Need-returns-2
 unfolding openRate andThen portOpened saidRate standsRate

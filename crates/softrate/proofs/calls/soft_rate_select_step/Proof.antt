@@ -1,5 +1,7 @@
 -- `soft_rate_select_step` meets its contract.
 use Rattle.hardware.specs.Asked.{question, yes}
+use Rattle.hardware.specs.Prog.{tally, tally-erase}
+use Rattle.softrate.proofs.Laws.{valid-below}
 use Rattle.softrate.specs.Calls.{saidRate, standsRate, stepRate}
 use borrow.Author.Needs.{needs}
 use mathlib.Core.Path.{_∙_, ap, sym}
@@ -29,7 +31,7 @@ told-requires c κs = search needs
 
 returns : tie.Need-returns
 unfolding stepRate question
-returns c = (rw (c .before .before .before .before .before .before .before .before .before .before .s .given .1, ← c .before .before .before .before .before .before .before .before .valid-port .ensures, c .before .before .before .before .before .before .before .if1 .taken, ← c .before .before .before .before .before .before .valid .ensures, c .before .before .before .before .before .if2 .taken, ← c .before .before .before .before .access .ensures, ← c .before .before .before .awaited .ensures, c .before .before .if3 .taken) (c .told .ensures .0 ∙ ap yes (c .before .step .ensures .0 (sym (c .before .before .before .before .before .before .valid .ensures) ∙ c .before .before .before .before .before .if2 .taken))), c .told .ensures .1 (sym (c .before .before .before .before .before .before .before .before .valid-port .ensures) ∙ c .before .before .before .before .before .before .before .if1 .taken) (c .before .step .ensures .1 (sym (c .before .before .before .before .before .before .valid .ensures) ∙ c .before .before .before .before .before .if2 .taken)))
+returns c = (rw (c .before .before .before .before .before .before .before .before .before .before .s .given .1, ← c .before .before .before .before .before .before .before .before .valid-port .ensures, c .before .before .before .before .before .before .before .if1 .taken, ← c .before .before .before .before .before .before .valid .ensures, c .before .before .before .before .before .if2 .taken, ← c .before .before .before .before .access .ensures, ← c .before .before .before .awaited .ensures, c .before .before .if3 .taken) (c .told .ensures .0 (valid-below _ _ _ _ (sym (c .before .before .before .before .before .before .valid .ensures) ∙ c .before .before .before .before .before .if2 .taken)) ∙ ap yes (ap (tally _) (c .before .step .ensures .0) ∙ tally-erase _ _)), c .told .ensures .1 (sym (c .before .before .before .before .before .before .before .before .valid-port .ensures) ∙ c .before .before .before .before .before .before .before .if1 .taken) (c .before .step .ensures .1 _ (sym (c .before .before .before .before .before .before .valid .ensures) ∙ c .before .before .before .before .before .if2 .taken)))
 
 returns-2 : tie.Need-returns-2
 unfolding stepRate question saidRate standsRate

@@ -1,6 +1,6 @@
 -- `tries` meets its contract.
-use Rattle.softrate.specs.Spot.{triesAt}
 use Rattle.sfp.proofs.Ends.{attempts-few}
+use Rattle.softrate.specs.Spot.{triesAt}
 use borrow.Author.Needs.{fits-under, needs}
 use native.Mathlib.Omega.{arith}
 use Rattle.softrate.proofs.spot.tries.Statement.{statement}

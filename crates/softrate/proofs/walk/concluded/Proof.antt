@@ -1,5 +1,5 @@
 -- `concluded` meets its contract.
-use Rattle.hardware.specs.Prog.{tally}
+use Rattle.hardware.specs.Prog.{erase}
 use Rattle.softrate.proofs.Laws.{on-told}
 use Rattle.transfer.specs.Attempt.{got}
 use borrow.Author.Needs.{needs}
@@ -21,11 +21,11 @@ failed-requires c κs = search needs
 
 returns : tie.Need-returns
 unfolding got
-returns c = (λ h. rw (c .before .before .g .given .1) (c .on .ensures .0 h ∙ ap (tally (c .before .before .before .before .args .made)) (on-told _ _ _ _)), c .on .ensures .1)
+returns c = (rw (c .before .before .g .given .1) (c .on .ensures .0 ∙ ap erase (on-told _ _ _ _)), c .on .ensures .1)
 
 returns-2 : tie.Need-returns-2
 unfolding got
-returns-2 c = (λ h. rw (c .before .before .g2 .given .1) (c .failed .ensures .0 h), λ v h. c .failed .ensures .1 h)
+returns-2 c = (rw (c .before .before .g2 .given .1) (c .failed .ensures .0), λ made v h. c .failed .ensures .1 made h)
 
 pub concluded-spec : {M : Type 1} → statement M
 concluded-spec =

@@ -1,11 +1,11 @@
 -- `failed` meets its contract.
-use Rattle.hardware.specs.Prog.{pick, tally}
+use Rattle.hardware.specs.Prog.{erase, pick}
 use Rattle.hardware.specs.Registers.{flag}
 use Rattle.i2c.specs.I2c.{valueOf}
+use Rattle.sfp.specs.Rate.{orNot}
 use Rattle.softrate.proofs.Laws.{cap-done}
 use Rattle.softrate.specs.Spot.{toldAt}
 use Rattle.softrate.specs.Walk.{rateNext, validRateNext}
-use Rattle.sfp.specs.Rate.{orNot}
 use borrow.Author.Needs.{needs}
 use mathlib.Core.Path.{refl}
 use native.Mathlib.Omega.{arith}
@@ -20,11 +20,11 @@ next-byte-requires c κs = search needs
 
 returns : tie.Need-returns
 unfolding toldAt valueOf orNot pick
-returns c = (λ h. rw (← c .before .before .is-i2c .ensures, c .before .if1 .taken) (c .next-byte .ensures .0 (omega (arith, h, cap-done (c .before .before .before .args .s)))), λ h. c .next-byte .ensures .1 (omega (arith, h, cap-done (c .before .before .before .args .s))))
+returns c = (rw (← c .before .before .is-i2c .ensures, c .before .if1 .taken) (c .next-byte .ensures .0), λ made h. c .next-byte .ensures .1 made (omega (arith, h, cap-done (c .before .before .before .args .port) (c .before .before .before .args .s))))
 
 returns-2 : tie.Need-returns-2
-unfolding toldAt valueOf orNot pick rateNext flag tally validRateNext
-returns-2 c = (λ h. rw (← c .before .is-i2c .ensures, c .if1 .left), λ h. refl)
+unfolding toldAt valueOf orNot pick rateNext flag erase validRateNext
+returns-2 c = (rw (← c .before .is-i2c .ensures, c .if1 .left), λ made h. refl)
 
 pub failed-spec : {M : Type 1} → statement M
 failed-spec = tie.close (tie.spec is-i2c-requires next-byte-requires returns returns-2)

@@ -1,8 +1,8 @@
--- `probes` meets its contract.
-use Rattle.identify.specs.Place.{probesAt}
+-- `requests` meets its contract.
+use Rattle.identify.specs.Place.{requestsAt}
 use borrow.Author.Needs.{needs}
-use Rattle.identify.proofs.place.probes.Statement.{statement}
-use Rattle.identify.proofs.place.probes.Tie as tie
+use Rattle.identify.proofs.place.requests.Statement.{statement}
+use Rattle.identify.proofs.place.requests.Tie as tie
 
 enum-told : tie.Need-enum-told
 enum-told c = search needs
@@ -47,63 +47,63 @@ enum-told-14 : tie.Need-enum-told-14
 enum-told-14 c = search needs
 
 returns : tie.Need-returns
-unfolding probesAt
+unfolding requestsAt
 returns c = rw (c .enum-told .given .1)
 
 returns-2 : tie.Need-returns-2
-unfolding probesAt
+unfolding requestsAt
 returns-2 c = rw (c .enum-told2 .given .1)
 
 returns-3 : tie.Need-returns-3
-unfolding probesAt
+unfolding requestsAt
 returns-3 c = rw (c .enum-told3 .given .1)
 
 returns-4 : tie.Need-returns-4
-unfolding probesAt
+unfolding requestsAt
 returns-4 c = rw (c .enum-told4 .given .1)
 
 returns-5 : tie.Need-returns-5
-unfolding probesAt
+unfolding requestsAt
 returns-5 c = rw (c .enum-told5 .given .1)
 
 returns-6 : tie.Need-returns-6
-unfolding probesAt
+unfolding requestsAt
 returns-6 c = rw (c .enum-told6 .given .1)
 
 returns-7 : tie.Need-returns-7
-unfolding probesAt
+unfolding requestsAt
 returns-7 c = rw (c .enum-told7 .given .1)
 
 returns-8 : tie.Need-returns-8
-unfolding probesAt
+unfolding requestsAt
 returns-8 c = rw (c .enum-told8 .given .1)
 
 returns-9 : tie.Need-returns-9
-unfolding probesAt
+unfolding requestsAt
 returns-9 c = rw (c .enum-told9 .given .1)
 
 returns-10 : tie.Need-returns-10
-unfolding probesAt
+unfolding requestsAt
 returns-10 c = rw (c .enum-told10 .given .1)
 
 returns-11 : tie.Need-returns-11
-unfolding probesAt
+unfolding requestsAt
 returns-11 c = rw (c .enum-told11 .given .1)
 
 returns-12 : tie.Need-returns-12
-unfolding probesAt
+unfolding requestsAt
 returns-12 c = rw (c .enum-told12 .given .1)
 
 returns-13 : tie.Need-returns-13
-unfolding probesAt
+unfolding requestsAt
 returns-13 c = rw (c .enum-told13 .given .1)
 
 returns-14 : tie.Need-returns-14
-unfolding probesAt
+unfolding requestsAt
 returns-14 c = rw (c .enum-told14 .given .1)
 
-pub probes-spec : {M : Type 1} → statement M
-probes-spec =
+pub requests-spec : {M : Type 1} → statement M
+requests-spec =
     tie.close
     (tie.spec
     enum-told

@@ -1,5 +1,5 @@
 //! The answers of a case: a `Registers` that plays a pseudo-random stream,
-//! bent by rules, and sums up every access in order.
+//! changed by rules, and sums up every access in order.
 
 use std::fmt;
 

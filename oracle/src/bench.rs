@@ -14,6 +14,7 @@ use start::Start;
 
 mod host;
 mod module;
+pub mod record;
 mod start;
 mod words;
 

@@ -20,7 +20,8 @@ use case::Case;
 use fresh::Fresh;
 
 const USAGE: &str =
-    "usage: oracle list | fresh SEED COUNT | replay FILE | trace FILE LINE | count FILE | bench SEED COUNT | images DIR";
+    "usage: oracle list | fresh SEED COUNT | replay FILE | trace FILE LINE | count FILE | bench SEED COUNT | images DIR \
+     | records FILE DIR | words SEED COUNT DIR";
 /// Differing lines that `replay` shows.
 const SHOWN: usize = 10;
 
@@ -35,6 +36,10 @@ fn main() -> ExitCode {
         ["count", file] => count(file),
         ["bench", seed, count] => bench(seed, count),
         ["images", folder] => images::write(folder),
+        ["records", file, folder] => text(file).and_then(|list| bench::record::records(&list, folder)),
+        ["words", seed, count, folder] => {
+            numbers(seed, count).and_then(|(seed, count)| bench::record::words(seed, count, folder))
+        }
         _ => Err(USAGE.into()),
     };
     match done {

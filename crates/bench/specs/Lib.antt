@@ -3,4 +3,4 @@ pub mod Bench
 pub mod Edges
 pub mod Register
 pub mod View
-pub mod Luck
+pub mod AtOnce

@@ -5,8 +5,8 @@ ghost use lib.ListN.{set};
 ghost use Rattle.bench.specs.Bench.{onward, under, acted, pageOf, withPage, takesEdge, pullsLow};
 ghost use Rattle.bench.specs.Edges.{edgeOf};
 
+pub mod at_once;
 pub mod lent;
-pub mod luck;
 pub mod receiver;
 pub mod register;
 pub mod view;

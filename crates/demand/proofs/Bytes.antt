@@ -10,11 +10,10 @@ use Rattle.bus.specs.Bus.{Bus, fail, wait, sclHigh, sclLow, releaseSda, ackTrie
 use Rattle.wire.specs.Lines.{START, Fall, Bit, Distinct}
 use Rattle.wire.specs.Always.{Claim, From, FromRest}
 use Rattle.wire.proofs.Commands as Commands
-use Rattle.bench.specs.declared.receiver.Chosen.the-variants.{A0}
 use Rattle.bench.specs.declared.receiver.Receiver.{Receiver}
 use Rattle.bench.specs.declared.receiver.Stage.{Stage}
 use Rattle.bench.specs.declared.receiver.Stage.the-variants.{Address}
-use Rattle.bench.specs.Receiver.{at, stopped, taken, rise, fall}
+use Rattle.bench.specs.Receiver.{at, stopped, taken, rise}
 use Rattle.bench.specs.Bench.{onward, under}
 use Rattle.demand.specs.Claim.{Met, machine}
 use Rattle.demand.proofs.Bits.{tookBits, shifted-taken}

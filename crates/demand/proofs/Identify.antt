@@ -1,7 +1,7 @@
 -- The whole of `identify` against the module, by the module's state at its beginning.
 use Prim.Native.Nat.{ℕ, _+_, _<_, suc}
 use mathlib.Core.Path.{_≡_, subst}
-use mathlib.Core.Bool.{Bool, true, false, not}
+use mathlib.Core.Bool.{Bool, true, false}
 use native.Mathlib.Omega.{arith}
 use lib.Dec.{lit<}
 use Rattle.hardware.specs.declared.Port.{Port}

@@ -8,8 +8,8 @@ pub mod Fine
 pub mod Locks
 pub mod Handshake
 pub mod Requests
-pub mod Luck
-pub mod LuckyCalls
+pub mod AtOnce
+pub mod AtOnceCalls
 pub mod Identify
 pub mod Benched
 pub mod Claim

@@ -18,17 +18,17 @@ use Rattle.wire.specs.Always.{World, wrote, reading, noted}
 use Rattle.bench.specs.declared.Bench.{Bench}
 use Rattle.sfp.specs.Identify.{identify}
 use Rattle.sfp.proofs.Ends.{IDENTIFY-STEPS}
-use Rattle.demand.specs.Fine.{names, Lucky}
-use Rattle.bench.specs.Luck.{lucky}
+use Rattle.demand.specs.Fine.{names, AtOnce}
+use Rattle.bench.specs.AtOnce.{atOnce}
 use Rattle.demand.specs.Claim.{machine, elsewhere, visit, benched, Each, Works, Premise, atStart, Premises}
-use Rattle.demand.proofs.Luck.{lucky-stays}
-use Rattle.demand.proofs.LuckyCalls.{identify-lucky}
+use Rattle.demand.proofs.AtOnce.{at-once-stays}
+use Rattle.demand.proofs.AtOnceCalls.{identify-at-once}
 
--- the lucky answers to all accesses but I2CCTL's, which are the machine's
+-- the atOnce answers to all accesses but I2CCTL's, which are the machine's
 unfoldable pub playedAt : Layout → Access → (Answer → World machine → List Answer) → World machine → List Answer
-playedAt l (Read r) k w = pick (eqb r (l .reg)) (k (Value (reading l machine w)) w) (lucky (Read r) ∷ k (lucky (Read r)) w)
-playedAt l (Write r v) k w = pick (eqb r (l .reg)) (k Done (wrote l machine v w)) (lucky (Write r v) ∷ k (lucky (Write r v)) w)
-playedAt l (Wait n) k w = lucky (Wait n) ∷ k (lucky (Wait n)) w
+playedAt l (Read r) k w = pick (eqb r (l .reg)) (k (Value (reading l machine w)) w) (atOnce (Read r) ∷ k (atOnce (Read r)) w)
+playedAt l (Write r v) k w = pick (eqb r (l .reg)) (k Done (wrote l machine v w)) (atOnce (Write r v) ∷ k (atOnce (Write r v)) w)
+playedAt l (Wait n) k w = atOnce (Wait n) ∷ k (atOnce (Wait n)) w
 
 unfoldable pub played : {A : Type 0} → Layout → Prog A → World machine → List Answer
 played l (ret a) w = []
@@ -37,33 +37,33 @@ played l (note n p) w = played l p (noted machine n w)
 played l (give b p) w = played l p w
 
 -- each of them works
-lucky-works : (x : Access) → Works x (lucky x)
-unfolding lucky
-lucky-works (Read r) = lucky-stays r _ refl
-lucky-works (Write r v) = tt
-lucky-works (Wait n) = tt
+at-once-works : (x : Access) → Works x (atOnce x)
+unfolding atOnce
+at-once-works (Read r) = at-once-stays r _ refl
+at-once-works (Write r v) = tt
+at-once-works (Wait n) = tt
 
 module _ (l : Layout) {A : Type 0} (Q : A → Type 0) (rest : List Answer) where
-  lucky-at : (x : Access) (b : Bool) (f : Answer → Prog A) (w : World machine) → names (l .reg) x ≡ b
-      → ((a : Answer) (w′ : World machine) → Lucky (l .reg) lucky (f a) Q → Each Premise (benched l (f a) w′ (played l (f a) w′ ++ rest) .events))
-      → Lucky (l .reg) lucky (ask x f) Q → Each Premise (benched l (ask x f) w (played l (ask x f) w ++ rest) .events)
-  unfolding benched visit played playedAt names pick Lucky elsewhere Each Premise
-  lucky-at (Read r) true f w e h k = rw e (h (Value (reading l machine w)) w ((rw e at k) (Value (reading l machine w))))
-  lucky-at (Read r) false f w e h k = rw e (lucky-works (Read r), h (lucky (Read r)) w (rw e at k))
-  lucky-at (Write r v) true f w e h k = rw e (tt, h Done (wrote l machine v w) ((rw e at k) Done))
-  lucky-at (Write r v) false f w e h k = rw e (lucky-works (Write r v), h (lucky (Write r v)) w (rw e at k))
-  lucky-at (Wait n) b f w e h k = (lucky-works (Wait n), h (lucky (Wait n)) w k)
+  at-once-at : (x : Access) (b : Bool) (f : Answer → Prog A) (w : World machine) → names (l .reg) x ≡ b
+      → ((a : Answer) (w′ : World machine) → AtOnce (l .reg) atOnce (f a) Q → Each Premise (benched l (f a) w′ (played l (f a) w′ ++ rest) .events))
+      → AtOnce (l .reg) atOnce (ask x f) Q → Each Premise (benched l (ask x f) w (played l (ask x f) w ++ rest) .events)
+  unfolding benched visit played playedAt names pick AtOnce elsewhere Each Premise
+  at-once-at (Read r) true f w e h k = rw e (h (Value (reading l machine w)) w ((rw e at k) (Value (reading l machine w))))
+  at-once-at (Read r) false f w e h k = rw e (at-once-works (Read r), h (atOnce (Read r)) w (rw e at k))
+  at-once-at (Write r v) true f w e h k = rw e (tt, h Done (wrote l machine v w) ((rw e at k) Done))
+  at-once-at (Write r v) false f w e h k = rw e (at-once-works (Write r v), h (atOnce (Write r v)) w (rw e at k))
+  at-once-at (Wait n) b f w e h k = (at-once-works (Wait n), h (atOnce (Wait n)) w k)
 
-  pub lucky-premises : (p : Prog A) (w : World machine) → Lucky (l .reg) lucky p Q → Each Premise (benched l p w (played l p w ++ rest) .events)
-  unfolding benched played Lucky Each Premise
-  lucky-premises (ret a) w k = tt
-  lucky-premises (ask x f) w k = lucky-at x (names (l .reg) x) f w refl (λ a w′. lucky-premises (f a) w′) k
-  lucky-premises (note Attempt p) w k = (tt, lucky-premises p (noted machine Attempt w) k)
-  lucky-premises (note Acquires p) w k = (tt, lucky-premises p (noted machine Acquires w) k)
-  lucky-premises (note Acquired p) w k = (tt, lucky-premises p (noted machine Acquired w) k)
-  lucky-premises (note Released p) w k = (tt, lucky-premises p (noted machine Released w) k)
-  lucky-premises (note Lapsed p) w k = absurd k
-  lucky-premises (give b p) w k = lucky-premises p w k
+  pub at-once-premises : (p : Prog A) (w : World machine) → AtOnce (l .reg) atOnce p Q → Each Premise (benched l p w (played l p w ++ rest) .events)
+  unfolding benched played AtOnce Each Premise
+  at-once-premises (ret a) w k = tt
+  at-once-premises (ask x f) w k = at-once-at x (names (l .reg) x) f w refl (λ a w′. at-once-premises (f a) w′) k
+  at-once-premises (note Attempt p) w k = (tt, at-once-premises p (noted machine Attempt w) k)
+  at-once-premises (note Acquires p) w k = (tt, at-once-premises p (noted machine Acquires w) k)
+  at-once-premises (note Acquired p) w k = (tt, at-once-premises p (noted machine Acquired w) k)
+  at-once-premises (note Released p) w k = (tt, at-once-premises p (noted machine Released w) k)
+  at-once-premises (note Lapsed p) w k = absurd k
+  at-once-premises (give b p) w k = at-once-premises p w k
 
 -- so many more answers, which no run looks at
 abbrev pub dones : ℕ → List Answer
@@ -74,21 +74,21 @@ dones-length : (n : ℕ) → length (dones n) ≡ n
 dones-length zero = refl
 dones-length (suc n) = ap suc (dones-length n)
 
--- the lucky answers to a whole identification, and more
-abbrev pub luckyAnswers : Port → Bench → ℕ → List Answer
-luckyAnswers port b word = played (layoutOf (port .family)) (identify port) (atStart word b) ++ dones (IDENTIFY-STEPS (port .family))
+-- the atOnce answers to a whole identification, and more
+abbrev pub promptAnswers : Port → Bench → ℕ → List Answer
+promptAnswers port b word = played (layoutOf (port .family)) (identify port) (atStart word b) ++ dones (IDENTIFY-STEPS (port .family))
 
-pub lucky-meets : (port : Port) (b : Bench) (word : ℕ) → Premises port b word (luckyAnswers port b word)
+pub at-once-meets : (port : Port) (b : Bench) (word : ℕ) → Premises port b word (promptAnswers port b word)
 unfolding Premises
-lucky-meets port b word =
-    lucky-premises (layoutOf (port .family)) (λ _. Unit {0}) (dones (IDENTIFY-STEPS (port .family))) (identify port) (atStart word b) (identify-lucky port)
+at-once-meets port b word =
+    at-once-premises (layoutOf (port .family)) (λ _. Unit {0}) (dones (IDENTIFY-STEPS (port .family))) (identify port) (atStart word b) (identify-at-once port)
 
-pub lucky-long : (port : Port) (b : Bench) (word : ℕ) → IDENTIFY-STEPS (port .family) ≤ length (luckyAnswers port b word)
-lucky-long port b word = long (played (layoutOf (port .family)) (identify port) (atStart word b)) (IDENTIFY-STEPS (port .family))
+pub at-once-long : (port : Port) (b : Bench) (word : ℕ) → IDENTIFY-STEPS (port .family) ≤ length (promptAnswers port b word)
+at-once-long port b word = long (played (layoutOf (port .family)) (identify port) (atStart word b)) (IDENTIFY-STEPS (port .family))
   where
     long : (s : List Answer) (n : ℕ) → n ≤ length (s ++ dones n)
     long s n = omega (arith, length-append s (dones n), dones-length n)
 
 -- For every port and every start, AckWrite included, a list of answers that meets the premises and is long enough
 pub possible : (port : Port) (b : Bench) (word : ℕ) → (answers : List Answer) × Premises port b word answers × (IDENTIFY-STEPS (port .family) ≤ length answers)
-possible port b word = (luckyAnswers port b word, lucky-meets port b word, lucky-long port b word)
+possible port b word = (promptAnswers port b word, at-once-meets port b word, at-once-long port b word)

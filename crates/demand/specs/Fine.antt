@@ -49,8 +49,8 @@ Unlapsed Lapsed X = ⊥
 
 -- with these answers to all accesses but I2CCTL's, which may get any answer, no lock or grant runs out, and Q holds of
 -- the result
-unfoldable pub Lucky : ℕ → (Access → Answer) → {A : Type 0} → Prog A → (A → Type 0) → Type 0
-Lucky reg answers (ret a) Q = Q a
-Lucky reg answers (ask x f) Q = Chosen (names reg x) ((a : Answer) → Lucky reg answers (f a) Q) (Lucky reg answers (f (answers x)) Q)
-Lucky reg answers (note n p) Q = Unlapsed n (Lucky reg answers p Q)
-Lucky reg answers (give b p) Q = Lucky reg answers p Q
+unfoldable pub AtOnce : ℕ → (Access → Answer) → {A : Type 0} → Prog A → (A → Type 0) → Type 0
+AtOnce reg answers (ret a) Q = Q a
+AtOnce reg answers (ask x f) Q = Chosen (names reg x) ((a : Answer) → AtOnce reg answers (f a) Q) (AtOnce reg answers (f (answers x)) Q)
+AtOnce reg answers (note n p) Q = Unlapsed n (AtOnce reg answers p Q)
+AtOnce reg answers (give b p) Q = AtOnce reg answers p Q

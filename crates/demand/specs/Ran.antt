@@ -18,7 +18,7 @@ use Rattle.bench.specs.Register.{side}
 use Rattle.sfp.specs.declared.Module.{Module}
 use Rattle.sfp.specs.Identify.{identify}
 use Rattle.demand.specs.Claim.{machine, Outcome, ended, short, benched, atStart, Claimed, Premises}
-use Rattle.bench.specs.Luck.{lucky}
+use Rattle.bench.specs.AtOnce.{atOnce}
 
 -- it came to its end, the list was too short, or a question was answered with a number; I2CCTL and the module then
 pub data Ran (A : Type 0) : Type 0 where
@@ -65,11 +65,11 @@ Shown l b short o = ⊥
 unfoldable pub Demand3 : Port → Bench → ℕ → List Answer → Ran (Counted (R Module)) → Type 0
 Demand3 port b word answers o = Shown (layoutOf (port .family)) b (benched (layoutOf (port .family)) (identify port) (atStart word b) answers .outcome) o
 
--- A call run on the bench where every lock and grant comes at once: all other accesses get the lucky answers
+-- A call run on the bench where every lock and grant comes at once: all other accesses get the atOnce answers
 unfoldable pub grantedAt : {A : Type 0} → Layout → Access → (Answer → World side → Ran A) → World side → Ran A
-grantedAt l (Read r) k w = pick (eqb r (l .reg)) (k (Value (reading l side w)) w) (k (lucky (Read r)) w)
-grantedAt l (Write r v) k w = pick (eqb r (l .reg)) (k Done (wrote l side v w)) (k (lucky (Write r v)) w)
-grantedAt l (Wait n) k w = k (lucky (Wait n)) w
+grantedAt l (Read r) k w = pick (eqb r (l .reg)) (k (Value (reading l side w)) w) (k (atOnce (Read r)) w)
+grantedAt l (Write r v) k w = pick (eqb r (l .reg)) (k Done (wrote l side v w)) (k (atOnce (Write r v)) w)
+grantedAt l (Wait n) k w = k (atOnce (Wait n)) w
 
 unfoldable pub granted : {A : Type 0} → Layout → Prog A → World side → Ran A
 granted l (ret a) w = came a w

@@ -151,23 +151,3 @@ pub going-tally : {A B : Type 0} (n : ℕ) (x : Access) (p : Answer → Prog A) 
     → ask x (λ a. tally n (p a >>= k)) ≡ tally n (followed (ask x (λ a. erase (p a))) k)
 unfolding tally
 going-tally n x p k = ap (ask x) (fun-ext (λ a. sym (tally-erase n (p a >>= k)))) ∙ ap (tally n) (going x p k)
-
--- a counted call followed by another
-unfoldable pub after : {A B : Type 0} → Prog (Counted A) → (A → Prog B) → Prog (Counted B)
-after p k = p >>= λ c. tally (c .transfers) (k (c .result))
-
-pub tally-bind : {A B : Type 0} (n : ℕ) (p : Prog A) (k : A → Prog B) → tally n (p >>= k) ≡ after (tally n p) k
-unfolding tally after _>>=_
-tally-bind n (ret a) k = refl
-tally-bind n (ask x f) k = ap (ask x) (fun-ext (λ r. tally-bind n (f r) k))
-tally-bind n (note m p) k = tally-bind (begun m n) p k
-tally-bind n (give b p) k = ap (give b) (tally-bind n p k)
-
-pub over-after : {A B : Type 0} {q : Prog (Counted B)} {r : Prog (Counted A)} (n : ℕ) (p : Prog A) (k : A → Prog B)
-    → q ≡ after r k → r ≡ tally n p → q ≡ tally n (p >>= k)
-over-after n p k e d = e ∙ ap (λ t. after t k) d ∙ sym (tally-bind n p k)
-
-pub going-after : {A B : Type 0} (n : ℕ) (x : Access) (p : Answer → Prog A) (k : A → Prog B)
-    → ask x (λ a. tally n (p a >>= k)) ≡ after (ask x (λ a. tally n (p a))) k
-unfolding after _>>=_
-going-after n x p k = ap (ask x) (fun-ext (λ a. tally-bind n (p a) k))

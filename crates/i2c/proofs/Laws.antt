@@ -2,7 +2,7 @@
 use Prim.Native.Nat.{ℕ, _+_, _-_, _<_, _≤_, suc, zero}
 use mathlib.Core.Path.{_≡_, refl, ap, fun-ext, _∙_, sym, subst}
 use mathlib.Core.Bool.{Bool, true, false}
-use lib.Dec.{T}
+use lib.Dec.{T, leb}
 use borrow.Author.Tests.{leb-true, le-leb, lt-ltb}
 use native.Mathlib.Numerals.{sub-one}
 use native.Mathlib.Omega.{arith}
@@ -36,7 +36,7 @@ use Rattle.hardware.specs.Change.{change, accessUpdate, restUpdate}
 use Rattle.i2c.specs.declared.moves.Moves.{Moves}
 use Rattle.i2c.specs.declared.moves.Moves.the-variants.{Asking, Granting}
 use Rattle.i2c.specs.declared.moves.MovesNext.the-variants.{Going as MovesGoing}
-use Rattle.i2c.specs.Moves.{shakes, closing, entered, onGranted, awaitingGrant, lookedAt, accessMoves, restMoves, movesNext, dueMoves, validMoves, validRequest, MOST, countOf}
+use Rattle.i2c.specs.Moves.{shakes, closing, entered, onGranted, awaitingGrant, lookedAt, accessMoves, restMoves, movesNext, dueMoves, allows, validMoves, validRequest, MOST, countOf}
 use Rattle.i2c.specs.Calls.{limitOf, triesOf}
 use Rattle.i2c.specs.Tries.{wanted, beginning, more, backThen, afterRelease, afterRead, afterWrite, afterTry, tryNow, lockedTry, triesLeft, accessTries, accessStage, restTries, restStage, triesNext}
 
@@ -221,13 +221,28 @@ upto h g = omega (arith, h, g)
 pub less : {a b : ℕ} → a < b → a ≤ b
 less h = omega (arith, h)
 
+pub allows-wanted : (most : ℕ) (r : Request) (tries : ℕ) → allows most r tries ≡ true → wanted r tries ≤ most
+unfolding allows
+allows-wanted most r tries h = leb-true _ _ (picked-second (leb tries most) _ h)
+
 -- the attempts of a call fit its limit
-pub limit-fits : (r : Request) (attempts : ℕ) → attempts ≤ 255 → wanted r (triesOf r attempts) ≤ limitOf r
+limit-fits : (r : Request) (attempts : ℕ) → attempts ≤ 255 → wanted r (triesOf r attempts) ≤ limitOf r
 unfolding wanted isWrite triesOf limitOf pick
 limit-fits (ReadByte d o) attempts h = h
 limit-fits (WriteByte d o v) attempts h = omega arith
 limit-fits (ReadCombined d reg) attempts h = omega arith
 limit-fits (WriteCombined d reg v) attempts h = omega arith
+
+limit-tries : (r : Request) (attempts : ℕ) → attempts ≤ 255 → triesOf r attempts ≤ limitOf r
+unfolding triesOf limitOf
+limit-tries (ReadByte d o) attempts h = h
+limit-tries (WriteByte d o v) attempts h = omega arith
+limit-tries (ReadCombined d reg) attempts h = omega arith
+limit-tries (WriteCombined d reg v) attempts h = omega arith
+
+pub limit-allows : (r : Request) (attempts : ℕ) → attempts ≤ 255 → allows (limitOf r) r (triesOf r attempts) ≡ true
+unfolding allows
+limit-allows r attempts h = picked _ _ (le-leb _ _ (limit-tries r attempts h)) (le-leb _ _ (limit-fits r attempts h))
 
 pub limit-most : (r : Request) → limitOf r < MOST
 unfolding limitOf

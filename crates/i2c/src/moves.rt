@@ -19,14 +19,14 @@ use transfer::attempt::Got;
 ghost use Prim.Native.Nat.{ℕ, _<_, _≤_};
 ghost use mathlib.Core.Path.{_≡_};
 ghost use mathlib.Core.Bool.{Bool, true, false};
-ghost use lib.Dec.{leb, ltb};
+ghost use lib.Dec.{ltb};
 ghost use Rattle.hardware.specs.Prog.{erase, followed, orErr, ret, pick};
 ghost use Rattle.hardware.specs.Registers.{word};
 ghost use Rattle.hardware.specs.Change.{updateNext};
 ghost use Rattle.transfer.specs.Attempt.{got};
 ghost use Rattle.i2c.specs.I2c.{askBus, giveBus, moves, handshaken};
 ghost use Rattle.i2c.specs.Tries.{wanted, triesNext, dueTriesNext, validTriesNext};
-ghost use Rattle.i2c.specs.Moves.{shakes, closing, entered, awaitingGrant, lookedAt, accessMoves, restMoves, movesNext, dueMoves, dueMovesNext, validMoves, validMovesNext, validRequest, countOf};
+ghost use Rattle.i2c.specs.Moves.{shakes, closing, entered, awaitingGrant, lookedAt, accessMoves, restMoves, movesNext, dueMoves, dueMovesNext, allows, validMoves, validMovesNext, validRequest, countOf};
 
 // Asking, Granting, Waiting: with the attempts to come. Granting, Waiting: then the looks left after this one. Giving: with
 // how the attempts ended.
@@ -113,7 +113,7 @@ fn inside(port: Port, r: Request, n: TriesNext) -> MovesNext
 
 fn enter(port: Port, r: Request, lock: bool, tries: u8) -> MovesNext
     ensures { λ t. ⌜ movesNext port r lock t ≡ erase (entered port r lock tries) ⌝ }
-    ensures { λ t. ⌜ ((most : ℕ) → wanted r tries ≤ most → validMovesNext most port r t ≡ true) ⌝ }
+    ensures { λ t. ⌜ ((most : ℕ) → allows most r tries ≡ true → validMovesNext most port r t ≡ true) ⌝ }
     ensures { λ t. ⌜ dueMovesNext r t ≤ wanted r tries ⌝ }
 {
     inside(port, r, crate::tries::open(port, r, lock, tries))
@@ -122,7 +122,7 @@ fn enter(port: Port, r: Request, lock: bool, tries: u8) -> MovesNext
 // The looks for the grant that are left.
 fn grant(port: Port, r: Request, tries: u8, left: u8) -> MovesNext
     ensures { λ t. ⌜ ((lock : Bool) → movesNext port r lock t ≡ erase (awaitingGrant port r lock tries left)) ⌝ }
-    ensures { λ t. ⌜ ((most : ℕ) → left ≤ 200 → wanted r tries ≤ most → validMovesNext most port r t ≡ true) ⌝ }
+    ensures { λ t. ⌜ ((most : ℕ) → left ≤ 200 → allows most r tries ≡ true → validMovesNext most port r t ≡ true) ⌝ }
     ensures { λ t. ⌜ dueMovesNext r t ≤ wanted r tries ⌝ }
 {
     if left == 0 {
@@ -133,7 +133,7 @@ fn grant(port: Port, r: Request, tries: u8, left: u8) -> MovesNext
 
 fn looked(port: Port, r: Request, lock: bool, tries: u8, left: u8, w: Word) -> MovesNext
     ensures { λ t. ⌜ movesNext port r lock t ≡ erase (lookedAt port r lock tries left (word w)) ⌝ }
-    ensures { λ t. ⌜ ((most : ℕ) → left < 200 → wanted r tries ≤ most → validMovesNext most port r t ≡ true) ⌝ }
+    ensures { λ t. ⌜ ((most : ℕ) → left < 200 → allows most r tries ≡ true → validMovesNext most port r t ≡ true) ⌝ }
     ensures { λ t. ⌜ dueMovesNext r t ≤ wanted r tries ⌝ }
 {
     match w {
@@ -149,7 +149,7 @@ fn looked(port: Port, r: Request, lock: bool, tries: u8, left: u8, w: Word) -> M
 
 fn asked(port: Port, r: Request, tries: u8, n: UpdateNext) -> MovesNext
     ensures { λ t. ⌜ ((lock : Bool) → movesNext port r lock t ≡ followed (updateNext askBus n) (orErr (λ _. awaitingGrant port r lock tries 200))) ⌝ }
-    ensures { λ t. ⌜ ((most : ℕ) → wanted r tries ≤ most → validMovesNext most port r t ≡ true) ⌝ }
+    ensures { λ t. ⌜ ((most : ℕ) → allows most r tries ≡ true → validMovesNext most port r t ≡ true) ⌝ }
     ensures { λ t. ⌜ dueMovesNext r t ≤ wanted r tries ⌝ }
 {
     match n {
@@ -163,7 +163,7 @@ fn asked(port: Port, r: Request, tries: u8, n: UpdateNext) -> MovesNext
 
 pub fn open(port: Port, r: Request, lock: bool, tries: u8) -> MovesNext
     ensures { λ t. ⌜ movesNext port r lock t ≡ erase (handshaken port r (moves port r lock tries)) ⌝ }
-    ensures { λ t. ⌜ ((most : ℕ) → wanted r tries ≤ most → validMovesNext most port r t ≡ true) ⌝ }
+    ensures { λ t. ⌜ ((most : ℕ) → allows most r tries ≡ true → validMovesNext most port r t ≡ true) ⌝ }
     ensures { λ t. ⌜ dueMovesNext r t ≤ wanted r tries ⌝ }
 {
     if shakes(port, r) {
@@ -220,10 +220,19 @@ pub fn due(r: Request, s: Moves) -> u32
     }
 }
 
-fn valid_looks(most: u32, r: Request, tries: u8, left: u8) -> bool
-    ensures { λ b. ⌜ b ≡ pick (leb (wanted r tries) most) (ltb left 200) false ⌝ }
+fn allows(most: u32, r: Request, tries: u8) -> bool
+    ensures { λ b. ⌜ b ≡ allows most r tries ⌝ }
 {
-    if wanted(r, tries) <= most {
+    if tries as u32 <= most {
+        return wanted(r, tries) <= most;
+    }
+    false
+}
+
+fn valid_looks(most: u32, r: Request, tries: u8, left: u8) -> bool
+    ensures { λ b. ⌜ b ≡ pick (allows most r tries) (ltb left 200) false ⌝ }
+{
+    if allows(most, r, tries) {
         return left < 200;
     }
     false
@@ -234,7 +243,7 @@ pub fn valid(most: u32, port: Port, r: Request, s: Moves) -> bool
     ensures { λ b. ⌜ b ≡ validMoves most port r s ⌝ }
 {
     match s {
-        Moves::Asking(tries, _) => wanted(r, tries) <= most,
+        Moves::Asking(tries, _) => allows(most, r, tries),
         Moves::Granting(tries, left) => valid_looks(most, r, tries, left),
         Moves::Waiting(tries, left) => valid_looks(most, r, tries, left),
         Moves::Inside(t) => crate::tries::valid(most, port, r, t),

@@ -1,29 +1,38 @@
 -- Requests one after another: what the machine's proofs use.
-use Prim.Native.Nat.{ℕ, _+_, _*_, _-_, _<_, _≤_, suc, zero}
+use Prim.Native.Nat.{ℕ, _+_, _*_, _-_, _/_, _<_, _≤_, suc, zero}
 use mathlib.Core.Path.{_≡_, refl, ap, _∙_, sym}
 use mathlib.Core.Bool.{Bool, true, false}
 use native.Mathlib.Omega.{arith}
 use lib.Dec.{eqb}
 use borrow.Author.Tests.{leb-true, le-leb}
 use Rattle.hardware.specs.declared.Port.{Port}
-use Rattle.hardware.specs.Prog.{erase, over, bind-assoc, _>>=_, pick}
+use Rattle.hardware.specs.Prog.{Prog, ret, R, Ok, erase, over, bind-assoc, _>>=_, pick}
 use Rattle.bus.specs.Layout.{x550em}
-use Rattle.bus.proofs.Laws.{picked-second}
+use Rattle.bus.proofs.Laws.{picked, picked-second}
 use Rattle.i2c.specs.declared.moves.Moves.{Moves}
 use Rattle.i2c.specs.declared.moves.MovesNext.the-variants.{Going, End}
 use Rattle.transfer.specs.declared.attempt.Got.{Got}
 use Rattle.i2c.specs.I2c.{attempts, isWrite, givesValue, moves, handshaken, transferred}
 use Rattle.i2c.specs.Tries.{wanted}
-use Rattle.i2c.specs.Moves.{movesNext, MOST}
+use Rattle.i2c.specs.Moves.{movesNext, allows, MOST}
 use Rattle.i2c.proofs.Laws.{going-on, fits-below}
-use Rattle.sfp.specs.Identify.{EEPROM, orAbsent, byte, identifierOf, identified}
+use Rattle.sfp.specs.declared.Coded.{Coded}
+use Rattle.sfp.specs.declared.Coded.the-variants.{Known, Open}
+use Rattle.sfp.specs.declared.Codes.{Codes}
+use Rattle.sfp.specs.declared.Kind.{Kind}
+use Rattle.sfp.specs.declared.Kind.the-variants.{DaCu, DaActiveLimiting, SrLr, Unknown}
+use Rattle.sfp.specs.declared.Module.{Module}
+use Rattle.sfp.specs.Classes.{has, SFP, PASSIVE-DA, ACTIVE-DA}
+use Rattle.sfp.specs.Identify.{EEPROM, orAbsent, byte, identifierOf, fibreOf, kindBy, recorded, identified}
+use Rattle.sfp.specs.Coded.{codedBy, qsfpCoded, qsfpCable}
+use Rattle.sfp.specs.Qsfp.{qsfpFound, qsfpTechnology, qsfpClassify}
 use Rattle.sfp.proofs.Ends.{attempts-few}
 use Rattle.sfp.proofs.Asks.{asks-erase, read-asks}
 use Rattle.identify.specs.declared.place.Place.{Place}
 use Rattle.identify.specs.declared.place.Place.the-variants.{Identifier, Comp1g, Comp10g, Cable, Rate, Km, Hm, Active, QsfpIdentifier, Qsfp10g, Qsfp1g, QsfpConnector, QsfpLength, QsfpTechnology}
 use Rattle.identify.specs.declared.walk.Identify.{Identify}
 use Rattle.identify.specs.declared.walk.IdentifyNext.the-variants.{Going as Walking}
-use Rattle.identify.specs.Place.{offsetAt, requestAt, requestsAt, readingsAt, triesAt, most, capAt, validPlace, onAt, toldAt, placed}
+use Rattle.identify.specs.Place.{offsetAt, requestAt, requestsAt, readingsAt, triesAt, most, capAt, validPlace, kinded, onAt, toldAt, placed}
 use Rattle.identify.specs.Walk.{accessIdentify, restIdentify, identifyNext, validIdentify}
 
 -- a place has at least one attempt
@@ -93,6 +102,55 @@ placed-again port (suc left) v n = ap (λ k. byte port 0 11 (onAt port (Identifi
     less : left ≡ suc left - 1
     less = omega arith
 
+-- what follows the codes: a kind, or the bytes of an active cable
+abbrev onCoded : Coded → (Kind → Prog (R Module)) → Prog (R Module) → Prog (R Module)
+onCoded (Known kind) f other = f kind
+onCoded Open f other = other
+
+kinded-is : (port : Port) (c : Codes) (bx : Bool)
+    → onCoded (codedBy c bx) (λ kind. ret (Ok (recorded SFP c kind))) (placed port (Active c)) ≡ kinded port c bx
+unfolding codedBy kinded kindBy placed offsetAt triesAt requestsAt onAt pick
+kinded-is port c bx = by (has (c .cable) PASSIVE-DA) (has (c .cable) ACTIVE-DA) (λ kind. ret (Ok (recorded SFP c kind))) (placed port (Active c)) (fibreOf c bx)
+  where
+    by : (a b : Bool) (f : Kind → Prog (R Module)) (other : Prog (R Module)) (kind : Kind)
+        → onCoded (pick a (Known DaCu) (pick b Open (Known kind))) f other ≡ pick a (f DaCu) (pick b other (f kind))
+    by true b f other kind = refl
+    by false true f other kind = refl
+    by false false f other kind = refl
+
+pub kinded-known : (port : Port) (c : Codes) (bx : Bool) (kind : Kind) → codedBy c bx ≡ Known kind → ret (Ok (recorded SFP c kind)) ≡ kinded port c bx
+kinded-known port c bx kind e = ap (λ r. onCoded r (λ k. ret (Ok (recorded SFP c k))) (placed port (Active c))) (sym e) ∙ kinded-is port c bx
+
+pub kinded-open : (port : Port) (c : Codes) (bx : Bool) → codedBy c bx ≡ Open → placed port (Active c) ≡ kinded port c bx
+kinded-open port c bx e = ap (λ r. onCoded r (λ k. ret (Ok (recorded SFP c k))) (placed port (Active c))) (sym e) ∙ kinded-is port c bx
+
+qsfp-is : (port : Port) (g10 g1 : ℕ) → onCoded (qsfpCoded g10) (qsfpFound g10 g1) (placed port (QsfpConnector g10 g1)) ≡ qsfpClassify port g10 g1
+unfolding qsfpCoded qsfpClassify placed offsetAt triesAt requestsAt onAt pick
+qsfp-is port g10 g1 = by (has g10 0x08) (has g10 0x30) (has g10 0x01) (qsfpFound g10 g1) (placed port (QsfpConnector g10 g1))
+  where
+    by : (a b c : Bool) (f : Kind → Prog (R Module)) (other : Prog (R Module))
+        → onCoded (pick a (Known DaCu) (pick b (Known SrLr) (pick c (Known DaActiveLimiting) Open))) f other
+        ≡ pick a (f DaCu) (pick b (f SrLr) (pick c (f DaActiveLimiting) other))
+    by true b c f other = refl
+    by false true c f other = refl
+    by false false true f other = refl
+    by false false false f other = refl
+
+pub qsfp-known : (port : Port) (g10 g1 : ℕ) (kind : Kind) → qsfpCoded g10 ≡ Known kind → qsfpFound g10 g1 kind ≡ qsfpClassify port g10 g1
+qsfp-known port g10 g1 kind e = ap (λ r. onCoded r (qsfpFound g10 g1) (placed port (QsfpConnector g10 g1))) (sym e) ∙ qsfp-is port g10 g1
+
+pub qsfp-open : (port : Port) (g10 g1 : ℕ) → qsfpCoded g10 ≡ Open → placed port (QsfpConnector g10 g1) ≡ qsfpClassify port g10 g1
+qsfp-open port g10 g1 e = ap (λ r. onCoded r (qsfpFound g10 g1) (placed port (QsfpConnector g10 g1))) (sym e) ∙ qsfp-is port g10 g1
+
+-- a cable by its technology
+pub technology-is : (g10 g1 v : ℕ) (kind : Kind) → kind ≡ qsfpCable v → qsfpFound g10 g1 kind ≡ qsfpTechnology g10 g1 v
+unfolding qsfpCable qsfpTechnology pick
+technology-is g10 g1 v kind e = ap (qsfpFound g10 g1) e ∙ by (eqb (v / 16) 0)
+  where
+    by : (b : Bool) → qsfpFound g10 g1 (pick b DaActiveLimiting Unknown) ≡ pick b (qsfpFound g10 g1 DaActiveLimiting) (qsfpFound g10 g1 Unknown)
+    by true = refl
+    by false = refl
+
 -- from the request on
 placed-is : (port : Port) (p : Place) → handshaken port (requestAt p) (moves port (requestAt p) true (triesAt port p)) >>= toldAt port p ≡ placed port p
 unfolding placed byte transferred toldAt requestAt givesValue _>>=_
@@ -116,8 +174,9 @@ pub first-due : (port : Port) (p : Place) (due : ℕ) → due ≤ wanted (reques
 unfolding wanted requestAt isWrite pick
 first-due port p due h = h
 
-pub least-due : (port : Port) (p : Place) → wanted (requestAt p) (triesAt port p) ≤ triesAt port p
-least-due port p = first-due port p _ (omega arith)
+pub own-allows : (port : Port) (p : Place) → allows (triesAt port p) (requestAt p) (triesAt port p) ≡ true
+unfolding allows
+own-allows port p = picked _ _ (le-leb (triesAt port p) (triesAt port p) (omega arith)) (le-leb _ _ (first-due port p _ (omega arith)))
 
 -- the count of a state within its limits is below the top of its type
 pub valid-below : (port : Port) (made : ℕ) (s : Identify) → validIdentify port made s ≡ true → made < MOST

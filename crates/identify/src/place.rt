@@ -2,6 +2,7 @@
 use hardware::Error;
 use hardware::Port;
 use i2c::once::Request;
+use sfp::Coded;
 use sfp::Codes;
 use sfp::Kind;
 use sfp::Module;
@@ -180,18 +181,15 @@ fn after_identifier(left: u8, v: u8) -> Then
     Then::Request(Place::Identifier(left - 1))
 }
 
-// The kind, where byte 60 is not needed for it.
+// The kind, or byte 60 for it.
 fn kinded(c: Codes, bx: bool) -> Then
     ensures { λ t. ⌜ ((port : Port) → onward port t ≡ kinded port c bx) ⌝ }
     ensures { λ t. ⌜ ((port : Port) (n : ℕ) → n + attempts port ≤ most port 5 7 → Later port n t) ⌝ }
 {
-    if class::has(c.cable, class::PASSIVE_DA) {
-        return found(c, Kind::DaCu);
+    match class::coded(c, bx) {
+        Coded::Known(kind) => found(c, kind),
+        Coded::Open => Then::Request(Place::Active(c)),
     }
-    if class::has(c.cable, class::ACTIVE_DA) {
-        return Then::Request(Place::Active(c));
-    }
-    found(c, class::fibre(c, bx))
 }
 
 fn after_cable(c: Codes) -> Then
@@ -235,23 +233,17 @@ fn qsfp_codes(g10: u8, g1: u8) -> Then
     ensures { λ t. ⌜ ((port : Port) → onward port t ≡ qsfpClassify port g10 g1) ⌝ }
     ensures { λ t. ⌜ ((port : Port) → Later port (most port 1 2) t) ⌝ }
 {
-    if class::has(g10, 0x08) {
-        return qsfp_found(g10, g1, Kind::DaCu);
+    match sfp::qsfp::coded(g10) {
+        Coded::Known(kind) => qsfp_found(g10, g1, kind),
+        Coded::Open => Then::Request(Place::QsfpConnector(g10, g1)),
     }
-    if class::has(g10, class::SR | class::LR) {
-        return qsfp_found(g10, g1, Kind::SrLr);
-    }
-    if class::has(g10, 0x01) {
-        return qsfp_found(g10, g1, Kind::DaActiveLimiting);
-    }
-    Then::Request(Place::QsfpConnector(g10, g1))
 }
 
 fn after_connector(g10: u8, g1: u8, v: u8) -> Then
     ensures { λ t. ⌜ ((port : Port) → onward port t ≡ onAt port (Place.QsfpConnector g10 g1) v) ⌝ }
     ensures { λ t. ⌜ ((port : Port) → Later port (most port 1 3) t) ⌝ }
 {
-    if v == 0x23 {
+    if sfp::qsfp::fixed(v) {
         return Then::Request(Place::QsfpLength(g10, g1));
     }
     qsfp_found(g10, g1, Kind::Unknown)
@@ -261,7 +253,7 @@ fn after_length(g10: u8, g1: u8, v: u8) -> Then
     ensures { λ t. ⌜ ((port : Port) → onward port t ≡ onAt port (Place.QsfpLength g10 g1) v) ⌝ }
     ensures { λ t. ⌜ ((port : Port) → Later port (most port 1 4) t) ⌝ }
 {
-    if v > 0 {
+    if sfp::qsfp::measured(v) {
         return Then::Request(Place::QsfpTechnology(g10, g1));
     }
     qsfp_found(g10, g1, Kind::Unknown)
@@ -271,10 +263,7 @@ fn after_technology(g10: u8, g1: u8, v: u8) -> Then
     ensures { λ t. ⌜ ((port : Port) → onward port t ≡ onAt port (Place.QsfpTechnology g10 g1) v) ⌝ }
     ensures { λ t. ⌜ ((port : Port) (n : ℕ) → Later port n t) ⌝ }
 {
-    if v / 16 == 0 {
-        return qsfp_found(g10, g1, Kind::DaActiveLimiting);
-    }
-    qsfp_found(g10, g1, Kind::Unknown)
+    qsfp_found(g10, g1, sfp::qsfp::cable_of(v))
 }
 
 // A byte was read.

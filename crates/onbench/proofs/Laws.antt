@@ -43,7 +43,7 @@ use Rattle.identify.specs.Walk.{restIdentify}
 use Rattle.identify.specs.Calls.{openIdentify, stepIdentify, saidIdentify, standsIdentify}
 use Rattle.demand.specs.Fine.{names}
 use Rattle.demand.specs.Claim.{Starts, Premises}
-use Rattle.bench.specs.Luck.{lucky}
+use Rattle.bench.specs.AtOnce.{atOnce}
 use Rattle.demand.specs.Ran.{Ran, lacked, stopped, Came, nextAnswer, ranAt, ran, ranIdentify, Demand3, grantedAt, granted, grantedIdentify, Granted3}
 use Rattle.demand.proofs.Ran.{demand-3-ended, demand-3}
 use Rattle.demand.proofs.Granted.{granted-3}
@@ -104,9 +104,9 @@ away-by l f d answers (Write r v) true e h = absurd (false≢true (sym (rw e at 
 away-by l f d answers (Write r v) false e h = rw e
 away-by l f d answers (Wait n) b e h = refl
 
--- or the lucky one
+-- or the one of `AtOnce`
 granted-away : {A : Type 0} (l : Layout) (f : Answer → Prog A) (d : Desk) (x : Access) (b : Bool) → names (l .reg) x ≡ b → accessed l x d .here ≡ false
-    → granted l (ask x f) (world d) ≡ granted l (f (lucky x)) (world d)
+    → granted l (ask x f) (world d) ≡ granted l (f (atOnce x)) (world d)
 unfolding accessed names pick granted grantedAt
 granted-away l f d (Read r) true e h = absurd (false≢true (sym (rw e at h)))
 granted-away l f d (Read r) false e h = rw e
@@ -114,11 +114,11 @@ granted-away l f d (Write r v) true e h = absurd (false≢true (sym (rw e at h))
 granted-away l f d (Write r v) false e h = rw e
 granted-away l f d (Wait n) b e h = refl
 
-lucky-kind : (x : Access) → fits x (lucky x) ≡ true
-unfolding lucky fits
-lucky-kind (Read r) = refl
-lucky-kind (Write r v) = refl
-lucky-kind (Wait n) = refl
+at-once-kind : (x : Access) → fits x (atOnce x) ≡ true
+unfolding atOnce fits
+at-once-kind (Read r) = refl
+at-once-kind (Write r v) = refl
+at-once-kind (Wait n) = refl
 
 is-true : (b : Bool) → b ≡ true → T b
 is-true b e = subst⁻¹ T e tt
@@ -175,15 +175,15 @@ left-settles : (l : Layout) (ns : List ℕ) (s : Stand) → Settled (s .told) �
 unfolding leftOf Final
 left-settles l ns s h = told-settles l (s .told) (world (s .desk)) (decodedAll (drop (s .at) ns)) h
 
-luck-settles : (l : Layout) (q : IdentifyTold) (w : World side) → Settled q → toldGranted l (saidIdentify q) w ≡ stopsAt q w
+at-once-settles : (l : Layout) (q : IdentifyTold) (w : World side) → Settled q → toldGranted l (saidIdentify q) w ≡ stopsAt q w
 unfolding toldGranted saidIdentify granted stopsAt
-luck-settles l (Ask x c) w h = absurd h
-luck-settles l (End f made) w h = refl
-luck-settles l (Refused q) w h = refl
+at-once-settles l (Ask x c) w h = absurd h
+at-once-settles l (End f made) w h = refl
+at-once-settles l (Refused q) w h = refl
 
 granted-settles : (l : Layout) (s : Stand) → Settled (s .told) → Final (grantedOf l) s
 unfolding grantedOf Final
-granted-settles l s h = luck-settles l (s .told) (world (s .desk)) h
+granted-settles l s h = at-once-settles l (s .told) (world (s .desk)) h
 
 -- an access was answered
 stepped : (left : Stand → Ran (Counted (R Module))) (x : Access) (c : IdentifyCall) (a : Answer) (s t : Stand) → s .told ≡ Ask x c → standsIdentify (Ask x c)
@@ -235,12 +235,12 @@ module _ (l : Layout) (x : Access) (c : IdentifyCall) (d : Desk) (at : ℕ) wher
         ∙ sym (granted-here l (restOf c) d x (names (l .reg) x) refl (here-is true h))
         ∙ ap (λ q. toldGranted l q (world d)) (sym (said-ask x c st)))
 
-    pub granted-visit-away : (t : IdentifyTold) (a : Answer) → a ≡ lucky x → r .here ≡ false → saidIdentify t ≡ stepIdentify c a → standsIdentify t
+    pub granted-visit-away : (t : IdentifyTold) (a : Answer) → a ≡ atOnce x → r .here ≡ false → saidIdentify t ≡ stepIdentify c a → standsIdentify t
         → Moved (grantedOf l) from (record { told = t; desk = d; at = 0; over = false })
     unfolding Moved grantedOf toldGranted
     granted-visit-away t a ea h said stands st =
         stepped (grantedOf l) x c a from (record { told = t; desk = d; at = 0; over = false }) refl st said stands refl
-        (ap (λ q. toldGranted l q (world d)) (goes t a st said (ap (fits x) ea ∙ lucky-kind x))
+        (ap (λ q. toldGranted l q (world d)) (goes t a st said (ap (fits x) ea ∙ at-once-kind x))
         ∙ ap (λ b. granted l (restOf c b) (world d)) ea
         ∙ sym (granted-away l (restOf c) d x (names (l .reg) x) refl (here-is false h))
         ∙ ap (λ q. toldGranted l q (world d)) (sym (said-ask x c st)))

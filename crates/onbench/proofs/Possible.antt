@@ -19,12 +19,12 @@ use Rattle.bus.specs.declared.Layout.{Layout}
 use Rattle.bus.specs.Layout.{layoutOf}
 use Rattle.wire.specs.Always.{World, wrote, reading, noted}
 use Rattle.bench.specs.declared.Bench.{Bench}
-use Rattle.bench.specs.Luck.{lucky, luckyAt}
+use Rattle.bench.specs.AtOnce.{atOnce, atOnceAt}
 use Rattle.sfp.specs.Identify.{identify}
 use Rattle.sfp.proofs.Ends.{IDENTIFY-STEPS}
 use Rattle.demand.specs.Fine.{names}
 use Rattle.demand.specs.Claim.{machine, atStart, Premises}
-use Rattle.demand.proofs.Possible.{playedAt, played, dones, luckyAnswers, lucky-meets, lucky-long}
+use Rattle.demand.proofs.Possible.{playedAt, played, dones, promptAnswers, at-once-meets, at-once-long}
 use Rattle.onbench.specs.Run.{decoded, decodedAll}
 
 -- an answer as a number; its value has 32 bits
@@ -61,25 +61,25 @@ plain-dones : (n : ℕ) → AllPlain (dones n)
 plain-dones zero = tt
 plain-dones (suc n) = (tt, plain-dones n)
 
-lucky-plain : (x : Access) → Plain (lucky x)
-unfolding lucky luckyAt pick
-lucky-plain (Read r) = by (eqb r 0x10140 || eqb r ESDP)
+at-once-plain : (x : Access) → Plain (atOnce x)
+unfolding atOnce atOnceAt pick
+at-once-plain (Read r) = by (eqb r 0x10140 || eqb r ESDP)
   where
     by : (b : Bool) → pick b 2 0 < 0x100000000
     by true = lit< tt
     by false = lit< tt
-lucky-plain (Write r v) = tt
-lucky-plain (Wait n) = tt
+at-once-plain (Write r v) = tt
+at-once-plain (Wait n) = tt
 
 module _ (l : Layout) {A : Type 0} where
   plain-at : (x : Access) (b : Bool) (f : Answer → Prog A) (w : World machine) → names (l .reg) x ≡ b
       → ((a : Answer) (w′ : World machine) → AllPlain (played l (f a) w′)) → AllPlain (played l (ask x f) w)
   unfolding played playedAt names pick
   plain-at (Read r) true f w e h = rw e (h (Value (reading l machine w)) w)
-  plain-at (Read r) false f w e h = rw e (lucky-plain (Read r), h (lucky (Read r)) w)
+  plain-at (Read r) false f w e h = rw e (at-once-plain (Read r), h (atOnce (Read r)) w)
   plain-at (Write r v) true f w e h = rw e (h Done (wrote l machine v w))
-  plain-at (Write r v) false f w e h = rw e (lucky-plain (Write r v), h (lucky (Write r v)) w)
-  plain-at (Wait n) b f w e h = (lucky-plain (Wait n), h (lucky (Wait n)) w)
+  plain-at (Write r v) false f w e h = rw e (at-once-plain (Write r v), h (atOnce (Write r v)) w)
+  plain-at (Wait n) b f w e h = (at-once-plain (Wait n), h (atOnce (Wait n)) w)
 
   played-plain : (p : Prog A) (w : World machine) → AllPlain (played l p w)
   unfolding played
@@ -88,12 +88,27 @@ module _ (l : Layout) {A : Type 0} where
   played-plain (note k p) w = played-plain p (noted machine k w)
   played-plain (give b p) w = played-plain p w
 
+-- each fits the type of what is lent
+abbrev pub Lendable : List ℕ → Type 0
+Lendable [] = Unit {0}
+Lendable (n ∷ ns) = (n < 0x10000000000000000) × Lendable ns
+
+encoded-fits : (a : Answer) → Plain a → encoded a < 0x10000000000000000
+encoded-fits (Value v) h = omega (arith, h)
+encoded-fits Done h = lit< tt
+encoded-fits Failed h = lit< tt
+
+lendable : (l : List Answer) → AllPlain l → Lendable (map encoded l)
+lendable [] h = tt
+lendable (a ∷ l) h = (encoded-fits a (h .0), lendable l (h .1))
+
 -- For every port and every start, AckWrite included, numbers that stand for answers which meet the premises, and enough of them
 pub possible-lent : (port : Port) (b : Bench) (word : ℕ)
-    → (ns : List ℕ) × Premises port b word (decodedAll ns) × (IDENTIFY-STEPS (port .family) ≤ length ns)
+    → (ns : List ℕ) × Lendable ns × Premises port b word (decodedAll ns) × (IDENTIFY-STEPS (port .family) ≤ length ns)
 possible-lent port b word =
     let plain = plain-append (played (layoutOf (port .family)) (identify port) (atStart word b)) (dones (IDENTIFY-STEPS (port .family))) (played-plain (layoutOf (port .family)) (identify port) (atStart word b)) (plain-dones (IDENTIFY-STEPS (port .family))) in (
-      map encoded (luckyAnswers port b word),
-      subst⁻¹ (Premises port b word) (decoded-all (luckyAnswers port b word) plain) (lucky-meets port b word),
-      omega (arith, lucky-long port b word, length-map (luckyAnswers port b word) encoded),
+      map encoded (promptAnswers port b word),
+      lendable (promptAnswers port b word) plain,
+      subst⁻¹ (Premises port b word) (decoded-all (promptAnswers port b word) plain) (at-once-meets port b word),
+      omega (arith, at-once-long port b word, length-map (promptAnswers port b word) encoded),
     )

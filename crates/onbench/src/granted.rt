@@ -37,7 +37,7 @@ fn visit(family: Family, x: Access, c: IdentifyCall, d: Desk) -> Stand
         };
     }
     Stand {
-        told: identify::calls::identify_step(c, bench::luck::lucky(x)),
+        told: identify::calls::identify_step(c, bench::at_once::at_once(x)),
         desk: d,
         at: 0,
         over: false,

@@ -166,6 +166,7 @@ fn length(page: &[u8]) -> usize
 
 // Each byte of a page is below 256, as its type says; the claim needs it said.
 pub(crate) fn bytes(page: &[u8]) -> usize
+    ensures { λ l. ⌜ l ≡ length (now (page .entry)) ⌝ }
     ensures { λ _. ⌜ ((n : ℕ) → getD (now (page .entry)) n 0 < 256) ⌝ }
 {
     length(page)

@@ -269,8 +269,8 @@ fn turn(l: Lines) -> u32 {
     l.reads % l.period
 }
 
-// The window's bend.
-fn bend(l: Lines, v: u32) -> u32 {
+// Within the window the value is changed.
+fn in_window(l: Lines, v: u32) -> u32 {
     let k = turn(l);
     if l.at <= k {
         if k - l.at < l.run {
@@ -284,7 +284,7 @@ fn bend(l: Lines, v: u32) -> u32 {
 pub(crate) fn value(l: Lines, v: u32) -> u32 {
     let high = l.scl && l.stretch <= l.since;
     let outs = with(with(v, scl_out(l), l.scl), sda_out(l), l.sda);
-    bend(l, sampled(l, with(outs, scl_in(l), high)))
+    in_window(l, sampled(l, with(outs, scl_in(l), high)))
 }
 
 // The lines after a read.

@@ -1,4 +1,4 @@
-// The rules that bend a read's value.
+// The rules that change a read's value.
 use crate::lines;
 use crate::lines::Lines;
 ghost use Prim.Native.Nat.{_≤_};
@@ -23,7 +23,7 @@ pub struct Rules {
 }
 
 // A read's value, and the rules after it.
-pub struct Bent {
+pub struct Changed {
     pub rules: Rules,
     pub value: u32,
 }
@@ -80,7 +80,7 @@ fn turn(rule: Rule) -> u32 {
     rule.reads % rule.period
 }
 
-fn bend(rule: Rule, v: u32) -> u32 {
+fn value_by(rule: Rule, v: u32) -> u32 {
     if turn(rule) < rule.hold {
         return v & rule.and1 | rule.or1;
     }
@@ -93,29 +93,29 @@ fn counted(rule: Rule) -> Rule {
     next
 }
 
-pub(crate) fn apply(rules: Rules, register: u32, v: u32) -> Bent {
+pub(crate) fn apply(rules: Rules, register: u32, v: u32) -> Changed {
     let i = find(rules, register);
     if i < 4 {
         let mut all = rules;
         let rule = all.list[i];
-        let value = bend(rule, v);
+        let value = value_by(rule, v);
         let next = counted(rule);
         all.list[i] = next;
-        return Bent { rules: all, value };
+        return Changed { rules: all, value };
     }
     on_lines(rules, register, v)
 }
 
-fn on_lines(rules: Rules, register: u32, v: u32) -> Bent {
+fn on_lines(rules: Rules, register: u32, v: u32) -> Changed {
     let l = rules.lines;
     if lines::names(l, register) {
         let mut all = rules;
         let value = lines::value(l, v);
         let next = lines::counted(l);
         all.lines = next;
-        return Bent { rules: all, value };
+        return Changed { rules: all, value };
     }
-    Bent { rules, value: v }
+    Changed { rules, value: v }
 }
 
 // The rules after a write, which only the lines follow.

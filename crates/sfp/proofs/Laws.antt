@@ -1,19 +1,22 @@
 -- Laws of the classes.
 use Prim.Native.Nat.{ℕ, _*_, _/_, _%_, _≤_, _<_, suc, zero}
 use mathlib.Core.Path.{_≡_, refl, ap, ap₂, _∙_, sym}
-use mathlib.Core.Bool.{Bool, true, false, not, _||_}
+use mathlib.Core.Bool.{Bool, true, false, not, _&&_, _||_}
 use native.Mathlib.Omega.{arith}
 use lib.Bits.{and-high}
-use lib.Dec.{eqb}
+use lib.Dec.{eqb, ltb}
 use Rattle.hardware.specs.Prog.{pick}
 use Rattle.hardware.specs.Registers.{noneOf}
+use Rattle.sfp.specs.declared.Coded.{Coded}
+use Rattle.sfp.specs.declared.Coded.the-variants.{Known, Open}
 use Rattle.sfp.specs.declared.Codes.{Codes}
 use Rattle.sfp.specs.declared.Kind.{Kind}
-use Rattle.sfp.specs.declared.Kind.the-variants.{DaCu, DaActiveLimiting, Unknown}
+use Rattle.sfp.specs.declared.Kind.the-variants.{DaCu, DaActiveLimiting, SrLr, Unknown}
 use Rattle.sfp.specs.declared.Module.{Module}
 use Rattle.sfp.specs.Bytes.{sfpBytes, sfpBytesOf, qsfpBytes, qsfpBytesOf, codesOf, codesAskRate}
 use Rattle.sfp.specs.Classes.{Bytes, has, SR, LR, PASSIVE-DA, ACTIVE-DA, LIMITING, asksRate, asksReach, asksActive, bx10g, kindOf, multispeedOf, classOf, requests, qsfpActive, qsfpKindOf, qsfpMultispeedOf, qsfpClassOf}
 use Rattle.sfp.specs.Identify.{fibreOf, recorded}
+use Rattle.sfp.specs.Coded.{codedBy, qsfpCoded, qsfpCable}
 use Rattle.sfp.specs.Qsfp.{qsfpRecorded}
 use Rattle.sfp.specs.Finds.{classIn}
 
@@ -70,6 +73,42 @@ pub kind-by-codes : (at : Bytes)
     ≡ kindOf at
 unfolding kindOf fibreOf
 kind-by-codes at = rw (either-bit (at 3))
+
+-- the kind that the codes decide, or another's
+abbrev pub kindIn : Coded → Kind → Kind
+kindIn (Known kind) other = kind
+kindIn Open other = other
+
+pub coded-kind : {r : Coded} {c : Codes} {bx : Bool} (at : Bytes) → r ≡ codedBy c bx → c ≡ codesOf at → bx ≡ bx10g at
+    → kindIn r (pick (has (at 60) LIMITING) DaActiveLimiting Unknown) ≡ kindOf at
+unfolding codedBy pick
+coded-kind at e f g =
+    ap (λ r. kindIn r (pick (has (at 60) LIMITING) DaActiveLimiting Unknown)) (e ∙ ap₂ codedBy f g)
+    ∙ by (has (at 8) PASSIVE-DA) (has (at 8) ACTIVE-DA) (fibreOf (codesOf at) (bx10g at)) (pick (has (at 60) LIMITING) DaActiveLimiting Unknown)
+    ∙ kind-by-codes at
+  where
+    by : (a b : Bool) (kind other : Kind) → kindIn (pick a (Known DaCu) (pick b Open (Known kind))) other ≡ pick a DaCu (pick b other kind)
+    by true b kind other = refl
+    by false true kind other = refl
+    by false false kind other = refl
+
+pub qsfp-coded-kind : {r : Coded} (at : Bytes) → r ≡ qsfpCoded (at 0x83)
+    → kindIn r (pick (eqb (at 0x82) 0x23) (pick (ltb 0 (at 0x92)) (qsfpCable (at 0x93)) Unknown) Unknown) ≡ qsfpKindOf at
+unfolding qsfpCoded qsfpCable qsfpKindOf qsfpActive pick
+qsfp-coded-kind at e =
+    rw (e, ← either-bit (at 0x83))
+    (by (has (at 0x83) 0x08) (has (at 0x83) 0x30) (has (at 0x83) 0x01) (eqb (at 0x82) 0x23) (ltb 0 (at 0x92)) (eqb (at 0x93 / 16) 0))
+  where
+    by : (a b c d e f : Bool)
+        → kindIn (pick a (Known DaCu) (pick b (Known SrLr) (pick c (Known DaActiveLimiting) Open))) (pick d (pick e (pick f DaActiveLimiting Unknown) Unknown) Unknown)
+        ≡ pick a DaCu (pick b SrLr (pick (c || (d && (e && f))) DaActiveLimiting Unknown))
+    by true b c d e f = refl
+    by false true c d e f = refl
+    by false false true d e f = refl
+    by false false false false e f = refl
+    by false false false true false f = refl
+    by false false false true true true = refl
+    by false false false true true false = refl
 
 -- the class in the record of a module with these bytes
 pub recorded-class : {m : Module} {c : Codes} {kind : Kind} (identifier : ℕ) (at : Bytes)

@@ -5,3 +5,4 @@ pub mod Module
 pub mod Qsfp
 pub mod Rate
 pub mod Finds
+pub mod Coded

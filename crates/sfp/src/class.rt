@@ -1,4 +1,5 @@
 // Classes of SFP modules by SFF-8472.
+use crate::Coded;
 use crate::Codes;
 use crate::Kind;
 use crate::Module;
@@ -12,6 +13,7 @@ ghost use Rattle.sfp.specs.declared.Kind.the-variants.{DaActiveLimiting,
 ghost use Rattle.sfp.specs.Bytes.{sfpBytes, codesOf, codesAskRate, classed};
 ghost use Rattle.sfp.specs.Classes.{has, SX, LX, SR, LR, LIMITING, asksRate, asksReach, asksActive, bx10g, kindOf, isCable, classOf, requests};
 ghost use Rattle.sfp.specs.Identify.{fibreOf, recorded};
+ghost use Rattle.sfp.specs.Coded.{codedBy};
 
 // The identifier of an SFP.
 pub const SFP: u8 = 0x03;
@@ -210,16 +212,26 @@ fn bx10g(b: SfpBytes) -> bool
     false
 }
 
+// The kind, where byte 60 is not needed for it.
+pub fn coded(c: Codes, bx: bool) -> Coded
+    ensures { λ r. ⌜ r ≡ codedBy c bx ⌝ }
+{
+    if has(c.cable, PASSIVE_DA) {
+        return Coded::Known(Kind::DaCu);
+    }
+    if has(c.cable, ACTIVE_DA) {
+        return Coded::Open;
+    }
+    Coded::Known(fibre(c, bx))
+}
+
 fn kind_of(b: SfpBytes) -> Kind
     ensures { λ r. ⌜ r ≡ kindOf (sfpBytes b) ⌝ }
 {
-    if has(b.b8, PASSIVE_DA) {
-        return Kind::DaCu;
+    match coded(codes(b), bx10g(b)) {
+        Coded::Known(kind) => kind,
+        Coded::Open => cable_of(b.b60),
     }
-    if has(b.b8, ACTIVE_DA) {
-        return cable_of(b.b60);
-    }
-    fibre(codes(b), bx10g(b))
 }
 
 // The class of a module with these bytes.

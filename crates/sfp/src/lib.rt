@@ -32,6 +32,12 @@ pub struct Module {
     pub cable: u8,
 }
 
+// What the codes alone decide: the kind, or that it takes the bytes of an active cable.
+pub enum Coded {
+    Known(Kind),
+    Open,
+}
+
 // The codes of an SFP that its class goes by: bytes 6, 3 and 8.
 pub struct Codes {
     pub g1: u8,

@@ -1,4 +1,5 @@
 // Classes of QSFP modules by SFF-8636.
+use crate::Coded;
 use crate::Kind;
 use crate::Module;
 use crate::class;
@@ -6,7 +7,10 @@ use crate::class::Classed;
 ghost use mathlib.Core.Path.{_≡_};
 ghost use Rattle.sfp.specs.declared.Kind.the-variants.{Unknown};
 ghost use Rattle.sfp.specs.Bytes.{qsfpBytes, classed};
-ghost use Rattle.sfp.specs.Classes.{qsfpActive, qsfpKindOf, qsfpClassOf};
+ghost use Rattle.sfp.specs.Classes.{qsfpKindOf, qsfpClassOf};
+ghost use Rattle.sfp.specs.Coded.{qsfpCoded, qsfpCable};
+ghost use Rattle.hardware.specs.Prog.{pick};
+ghost use lib.Dec.{eqb, ltb};
 ghost use Rattle.sfp.specs.Qsfp.{qsfpRecorded};
 
 // The identifier of a QSFP.
@@ -44,35 +48,65 @@ pub fn qsfp_recorded(g10: u8, g1: u8, kind: Kind) -> Module
     }
 }
 
-// Whether a module with none of 38 in byte 83 is an active cable: by its code, or by its connector (82), its length (92) and its
-// transmitter's technology (93).
-fn active(b: QsfpBytes) -> bool
-    ensures { λ r. ⌜ r ≡ qsfpActive (qsfpBytes b) ⌝ }
+// The kind, where byte 83 decides it.
+pub fn coded(g10: u8) -> Coded
+    ensures { λ r. ⌜ r ≡ qsfpCoded g10 ⌝ }
 {
-    if class::has(b.b83, 0x01) {
-        return true;
+    if class::has(g10, 0x08) {
+        return Coded::Known(Kind::DaCu);
     }
-    if b.b82 == 0x23 {
-        if 0 < b.b92 {
-            return b.b93 / 16 == 0;
+    if class::has(g10, class::SR | class::LR) {
+        return Coded::Known(Kind::SrLr);
+    }
+    if class::has(g10, 0x01) {
+        return Coded::Known(Kind::DaActiveLimiting);
+    }
+    Coded::Open
+}
+
+// Byte 82: a cable that cannot be taken off.
+pub fn fixed(connector: u8) -> bool
+    ensures { λ r. ⌜ r ≡ eqb connector 0x23 ⌝ }
+{
+    connector == 0x23
+}
+
+// Byte 92: the cable has a length.
+pub fn measured(length: u8) -> bool
+    ensures { λ r. ⌜ r ≡ ltb 0 length ⌝ }
+{
+    0 < length
+}
+
+// A cable by byte 93, whose high half is the transmitter's technology.
+pub fn cable_of(technology: u8) -> Kind
+    ensures { λ r. ⌜ r ≡ qsfpCable technology ⌝ }
+{
+    if technology / 16 == 0 {
+        return Kind::DaActiveLimiting;
+    }
+    Kind::Unknown
+}
+
+// The kind where byte 83 does not decide it.
+fn cabled(b: QsfpBytes) -> Kind
+    ensures { λ r. ⌜ r ≡ pick (eqb (b .b82) 0x23) (pick (ltb 0 (b .b92)) (qsfpCable (b .b93)) Unknown) Unknown ⌝ }
+{
+    if fixed(b.b82) {
+        if measured(b.b92) {
+            return cable_of(b.b93);
         }
     }
-    false
+    Kind::Unknown
 }
 
 fn kind_of(b: QsfpBytes) -> Kind
     ensures { λ r. ⌜ r ≡ qsfpKindOf (qsfpBytes b) ⌝ }
 {
-    if class::has(b.b83, 0x08) {
-        return Kind::DaCu;
+    match coded(b.b83) {
+        Coded::Known(kind) => kind,
+        Coded::Open => cabled(b),
     }
-    if class::has(b.b83, class::SR | class::LR) {
-        return Kind::SrLr;
-    }
-    if active(b) {
-        return Kind::DaActiveLimiting;
-    }
-    Kind::Unknown
 }
 
 // The class of a module with these bytes.

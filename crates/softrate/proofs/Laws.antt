@@ -3,17 +3,18 @@ use Prim.Native.Nat.{ℕ, _+_, _-_, _<_, _≤_, suc}
 use mathlib.Core.Path.{_≡_, refl, ap, _∙_, sym}
 use mathlib.Core.Bool.{Bool, true, false}
 use native.Mathlib.Omega.{arith}
+use borrow.Author.Tests.{le-leb}
 use Rattle.hardware.specs.declared.Port.{Port}
 use Rattle.hardware.specs.Prog.{Ok, erase, over, bind-assoc, _>>=_, pick}
 use Rattle.bus.specs.Layout.{x550em}
 use Rattle.bus.specs.declared.Taken.{Taken}
-use Rattle.bus.proofs.Laws.{picked-second}
+use Rattle.bus.proofs.Laws.{picked, picked-second}
 use Rattle.transfer.specs.declared.attempt.Got.{Got}
 use Rattle.i2c.specs.declared.moves.Moves.{Moves}
 use Rattle.i2c.specs.declared.moves.MovesNext.the-variants.{Going, End}
 use Rattle.i2c.specs.I2c.{attempts, isWrite, read-off, valueOf, givesValue, moves, handshaken, transferred}
 use Rattle.i2c.specs.Tries.{wanted}
-use Rattle.i2c.specs.Moves.{movesNext, MOST}
+use Rattle.i2c.specs.Moves.{movesNext, allows, MOST}
 use Rattle.i2c.proofs.Laws.{going-on, fits-below}
 use Rattle.sfp.specs.Rate.{DIAG, orNot, rateByte, softRateSelect}
 use Rattle.sfp.proofs.Ends.{attempts-few}
@@ -71,8 +72,9 @@ pub first-due : (port : Port) (ten : Bool) (s : Spot) (due : ℕ) → due ≤ wa
 unfolding requestAt
 first-due port ten s due h = due-of port ten (s .second) (s .place) due h
 
-pub least-due : (port : Port) (ten : Bool) (s : Spot) → wanted (requestAt ten s) (triesAt port (s .place)) ≤ triesAt port (s .place)
-least-due port ten s = first-due port ten s _ (omega arith)
+pub own-allows : (port : Port) (ten : Bool) (s : Spot) → allows (triesAt port (s .place)) (requestAt ten s) (triesAt port (s .place)) ≡ true
+unfolding allows
+own-allows port ten s = picked _ _ (le-leb (triesAt port (s .place)) (triesAt port (s .place)) (omega arith)) (le-leb _ _ (first-due port ten s _ (omega arith)))
 
 -- from the request on
 placed-is : (port : Port) (ten : Bool) (s : Spot)

@@ -26,7 +26,7 @@ unfoldable pub stepLock : LockCall → Answer → Asked (Prog (R (Unit {0})))
 stepLock (LockGoing f t) a = question (validLock t) 10 (question (fits (accessLock f t) a) 12 (yes (erase (restLock f t a))))
 stepLock LockOver a = no 11
 
--- an access comes with a state to go on from, the end with the finished state
+-- what was told; 0 is none of the papers' numbers: nothing asks with a finished state (`standsLock`)
 unfoldable pub saidLock : LockTold → Asked (Prog (R (Unit {0})))
 saidLock (LockAsk x (LockGoing f t)) = yes (ask x (λ a. erase (restLock f t a)))
 saidLock (LockAsk x LockOver) = no 0

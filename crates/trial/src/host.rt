@@ -9,7 +9,7 @@ ghost use mathlib.Core.Path.{_≡_};
 ghost use Rattle.hardware.specs.Prog.{pick};
 ghost use Rattle.bus.specs.Layout.{layoutOf};
 ghost use Rattle.bench.specs.Register.{accessed};
-ghost use Rattle.bench.specs.Luck.{lucky};
+ghost use Rattle.bench.specs.AtOnce.{atOnce};
 
 // The byte of A0 that is read.
 pub const OFFSET: u8 = 0x2a;
@@ -32,7 +32,7 @@ pub struct Ran {
 
 fn meet(port: Port, d: Desk, x: Access) -> Met
     ensures { λ m. ⌜ m .desk ≡ accessed (layoutOf (port .family)) x d .desk ⌝ }
-    ensures { λ m. ⌜ m .answer ≡ pick (accessed (layoutOf (port .family)) x d .here) (accessed (layoutOf (port .family)) x d .answer) (lucky x) ⌝ }
+    ensures { λ m. ⌜ m .answer ≡ pick (accessed (layoutOf (port .family)) x d .here) (accessed (layoutOf (port .family)) x d .answer) (atOnce x) ⌝ }
 {
     let family = port.family;
     let reply = bench::register::access(family, d, x);
@@ -41,7 +41,7 @@ fn meet(port: Port, d: Desk, x: Access) -> Met
         let answer = reply.answer;
         return Met { answer, desk };
     }
-    let answer = bench::luck::lucky(x);
+    let answer = bench::at_once::at_once(x);
     Met { answer, desk }
 }
 

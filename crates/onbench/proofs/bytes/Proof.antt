@@ -8,7 +8,7 @@ length-requires : tie.Need-length-requires
 length-requires c κs = search needs
 
 returns : tie.Need-returns
-returns c = λ n. omega (arith, c .before .shared-slice-known .given n)
+returns c = (c .length .ensures, λ n. omega (arith, c .before .shared-slice-known .given n))
 
 pub bytes-spec : {M : Type 1} → statement M
 bytes-spec = tie.close (tie.spec length-requires returns)

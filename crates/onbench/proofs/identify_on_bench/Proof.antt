@@ -27,14 +27,14 @@ enum-known-q c = search needs
 
 returns : tie.Need-returns
 returns c =
-    of-bytes (c .before .before .before .before .before .before .before .before .before .before .args .family) (c .before .before .before .before .before .before .before .before .before .before .args .device) (c .before .before .before .before .before .before .before .before .before .before .args .lan) (c .before .before .before .before .before .before .before .before .before .before .args .d) (c .before .before .before .before .before .before .before .before .before .before .args .answers .now) _ (c .before .before .before .before .before .before .bytes .ensures)
+    of-bytes (c .before .before .before .before .before .before .before .before .before .before .args .family) (c .before .before .before .before .before .before .before .before .before .before .args .device) (c .before .before .before .before .before .before .before .before .before .before .args .lan) (c .before .before .before .before .before .before .before .before .before .before .args .d) (c .before .before .before .before .before .before .before .before .before .before .args .answers .now) _ (c .before .before .before .before .before .before .bytes .ensures .1)
     (opened-both (c .before .before .before .before .before .before .before .before .before .before .args .family) (c .before .before .before .before .before .before .before .before .before .before .args .device) (c .before .before .before .before .before .before .before .before .before .before .args .lan) (c .before .before .before .before .before .before .before .before .before .before .args .d) (c .before .before .before .before .before .before .before .before .before .before .args .answers .now)
     (c .before .before .before .before .before .open-port .result) _ (c .before .identify-open .result) (c .play .result) (c .before .before .before .p .given .1) (c .before .before .before .before .before .open-port .ensures)
     (c .before .identify-open .ensures .0) (c .before .identify-open .ensures .1) (c .play .ensures))
 
 returns-2 : tie.Need-returns-2
 returns-2 c =
-    of-bytes (c .before .before .before .before .before .before .before .before .args .family) (c .before .before .before .before .before .before .before .before .args .device) (c .before .before .before .before .before .before .before .before .args .lan) (c .before .before .before .before .before .before .before .before .args .d) (c .before .before .before .before .before .before .before .before .args .answers .now) _ (c .before .before .before .before .bytes .ensures)
+    of-bytes (c .before .before .before .before .before .before .before .before .args .family) (c .before .before .before .before .before .before .before .before .args .device) (c .before .before .before .before .before .before .before .before .args .lan) (c .before .before .before .before .before .before .before .before .args .d) (c .before .before .before .before .before .before .before .before .args .answers .now) _ (c .before .before .before .before .bytes .ensures .1)
     (refused-both (c .before .before .before .before .before .before .before .before .args .family) (c .before .before .before .before .before .before .before .before .args .device) (c .before .before .before .before .before .before .before .before .args .lan) (c .before .before .before .before .before .before .before .before .args .d) (c .before .before .before .before .before .before .before .before .args .answers .now) (c .before .before .before .open-port .result) _ (c .before .q .given .1) (c .before .before .before .open-port .ensures))
 
 pub identify-on-bench-spec : {M : Type 1} → statement M

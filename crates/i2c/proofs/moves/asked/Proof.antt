@@ -6,7 +6,6 @@ use Rattle.i2c.specs.Moves.{accessMoves, dueMoves, dueMovesNext, movesNe
 use Rattle.i2c.specs.Tries.{beginning, more}
 use Rattle.transfer.specs.Attempt.{got}
 use borrow.Author.Needs.{needs}
-use borrow.Author.Tests.{le-leb}
 use mathlib.Core.Path.{refl}
 use native.Mathlib.Omega.{arith}
 use Rattle.i2c.proofs.moves.asked.Statement.{statement}
@@ -29,7 +28,7 @@ enum-known-o c = search needs
 
 returns : tie.Need-returns
 unfolding beginning movesNext accessMoves restMoves validMovesNext validMoves dueMovesNext dueMoves more pick updateNext
-returns c = (λ lock. rw (c .before .n .given .1) (going _ _ _), (λ most h. le-leb _ _ h, omega arith))
+returns c = (λ lock. rw (c .before .n .given .1) (going _ _ _), (λ most h. h, omega arith))
 
 returns-2 : tie.Need-returns-2
 unfolding updateNext followed _>>=_ orErr outcome

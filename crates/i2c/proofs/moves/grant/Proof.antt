@@ -8,7 +8,7 @@ use Rattle.i2c.specs.Moves.{awaitingGrant, dueMoves, dueMovesNext, onGra
 use Rattle.i2c.specs.Tries.{more}
 use Rattle.transfer.specs.Attempt.{got}
 use borrow.Author.Needs.{needs}
-use borrow.Author.Tests.{le-leb, lt-ltb}
+use borrow.Author.Tests.{lt-ltb}
 use native.Mathlib.Omega.{arith}
 use Rattle.i2c.proofs.moves.grant.Statement.{statement}
 use Rattle.i2c.proofs.moves.grant.Tie as tie
@@ -28,7 +28,7 @@ sub-t9 c = search needs
 
 returns-2 : tie.Need-returns-2
 unfolding validMovesNext validMoves dueMovesNext dueMoves more pick
-returns-2 c = (λ lock. granted-more (c .before .args .port) (c .before .args .r) lock (c .before .args .tries) (c .before .args .left) (c .if1 .left), (λ most h g. picked _ _ (le-leb _ _ g) (lt-ltb ((c .before .args .left) - 1) 200 (omega (arith, h, c .if1 .left))), omega arith))
+returns-2 c = (λ lock. granted-more (c .before .args .port) (c .before .args .r) lock (c .before .args .tries) (c .before .args .left) (c .if1 .left), (λ most h g. picked _ _ g (lt-ltb ((c .before .args .left) - 1) 200 (omega (arith, h, c .if1 .left))), omega arith))
 
 pub grant-spec : {M : Type 1} → statement M
 grant-spec = tie.close (tie.spec device-requires close-requires returns sub-t9 returns-2)

@@ -7,7 +7,7 @@ use Rattle.i2c.specs.Moves.{accessMoves, awaitingGrant, dueMoves, dueMov
 use Rattle.i2c.specs.Tries.{beginning, more}
 use Rattle.transfer.specs.Attempt.{got}
 use borrow.Author.Needs.{needs}
-use borrow.Author.Tests.{le-leb, lt-ltb}
+use borrow.Author.Tests.{lt-ltb}
 use mathlib.Core.Path.{refl}
 use native.Mathlib.Omega.{arith}
 use Rattle.i2c.proofs.moves.looked.Statement.{statement}
@@ -21,7 +21,7 @@ none-of-requires c κs = search needs
 
 returns : tie.Need-returns
 unfolding movesNext accessMoves restMoves beginning validMovesNext validMoves dueMovesNext dueMoves more pick lookedAt word orErr granting erase _>>=_ awaitingGrant
-returns c = (rw (c .before .before .before .w .given .1, ← c .before .none-of .ensures, c .if1 .taken), (λ most h g. picked _ _ (le-leb _ _ g) (lt-ltb _ _ h), omega arith))
+returns c = (rw (c .before .before .before .w .given .1, ← c .before .none-of .ensures, c .if1 .taken), (λ most h g. picked _ _ g (lt-ltb _ _ h), omega arith))
 
 enter-requires : tie.Need-enter-requires
 enter-requires c κs = search needs

@@ -4,7 +4,6 @@ use Rattle.i2c.proofs.Laws.{no-shake, shake-open}
 use Rattle.i2c.specs.Moves.{dueMoves, dueMovesNext, validMoves, validMovesNext}
 use Rattle.i2c.specs.Tries.{more}
 use borrow.Author.Needs.{needs}
-use borrow.Author.Tests.{le-leb}
 use mathlib.Core.Path.{_∙_, ap, sym}
 use native.Mathlib.Omega.{arith}
 use Rattle.i2c.proofs.moves.open.Statement.{statement}
@@ -15,7 +14,7 @@ shakes-requires c κs = search needs
 
 returns : tie.Need-returns
 unfolding validMovesNext validMoves dueMovesNext dueMoves more pick
-returns c = (shake-open (c .before .before .args .port) (c .before .before .args .r) (c .before .before .args .lock) (c .before .before .args .tries) (sym (c .before .shakes .ensures) ∙ c .if1 .taken), (λ most h. le-leb _ _ h, omega arith))
+returns c = (shake-open (c .before .before .args .port) (c .before .before .args .r) (c .before .before .args .lock) (c .before .before .args .tries) (sym (c .before .shakes .ensures) ∙ c .if1 .taken), (λ most h. h, omega arith))
 
 enter-requires : tie.Need-enter-requires
 enter-requires c κs = search needs

@@ -4,7 +4,7 @@ use Rattle.hardware.specs.Prog.{over}
 use Rattle.i2c.proofs.Laws.{less, upto}
 use Rattle.i2c.specs.Moves.{dueMoves, restMoves, validMoves}
 use borrow.Author.Needs.{needs}
-use borrow.Author.Tests.{leb-true, ltb-true}
+use borrow.Author.Tests.{ltb-true}
 use native.Mathlib.Omega.{arith}
 use Rattle.i2c.proofs.moves.step.Statement.{statement}
 use Rattle.i2c.proofs.moves.step.Tie as tie
@@ -59,15 +59,15 @@ given-requires c κs = search needs
 
 returns : tie.Need-returns
 unfolding restMoves validMoves dueMoves
-returns c = rw (c .before .before .before .before .s .given .1) (over _ _ (c .asked .ensures .0 (c .before .before .before .before .before .before .args .lock)) (rw (c .before .before .ask-bus .ensures) at (c .before .step .ensures)), (λ most v. c .asked .ensures .1 .0 most (leb-true _ _ v), c .asked .ensures .1 .1))
+returns c = rw (c .before .before .before .before .s .given .1) (over _ _ (c .asked .ensures .0 (c .before .before .before .before .before .before .args .lock)) (rw (c .before .before .ask-bus .ensures) at (c .before .step .ensures)), (λ most v. c .asked .ensures .1 .0 most v, c .asked .ensures .1 .1))
 
 returns-2 : tie.Need-returns-2
 unfolding restMoves validMoves dueMoves
-returns-2 c = rw (c .before .before .before .s2 .given .1) (rw (c .before .read .ensures) at (c .looked .ensures .0), (λ most v. c .looked .ensures .1 .0 most (ltb-true _ _ (picked-second _ _ v)) (leb-true _ _ (picked-first _ _ v)), c .looked .ensures .1 .1))
+returns-2 c = rw (c .before .before .before .s2 .given .1) (rw (c .before .read .ensures) at (c .looked .ensures .0), (λ most v. c .looked .ensures .1 .0 most (ltb-true _ _ (picked-second _ _ v)) (picked-first _ _ v), c .looked .ensures .1 .1))
 
 returns-3 : tie.Need-returns-3
 unfolding restMoves validMoves dueMoves
-returns-3 c = rw (c .before .before .s3 .given .1) (c .grant .ensures .0 (c .before .before .before .before .args .lock), (λ most v. c .grant .ensures .1 .0 most (less (ltb-true _ _ (picked-second _ _ v))) (leb-true _ _ (picked-first _ _ v)), c .grant .ensures .1 .1))
+returns-3 c = rw (c .before .before .s3 .given .1) (c .grant .ensures .0 (c .before .before .before .before .args .lock), (λ most v. c .grant .ensures .1 .0 most (less (ltb-true _ _ (picked-second _ _ v))) (picked-first _ _ v), c .grant .ensures .1 .1))
 
 returns-4 : tie.Need-returns-4
 unfolding restMoves validMoves dueMoves

@@ -7,8 +7,8 @@ use Rattle.i2c.proofs.moves.valid.Tie as tie
 enum-known-s : tie.Need-enum-known-s
 enum-known-s c = search needs
 
-wanted-requires : tie.Need-wanted-requires
-wanted-requires c κs = search needs
+allows-requires : tie.Need-allows-requires
+allows-requires c κs = search needs
 
 enum-known-s-2 : tie.Need-enum-known-s-2
 enum-known-s-2 c = search needs
@@ -33,7 +33,7 @@ enum-told c = search needs
 
 returns : tie.Need-returns
 unfolding validMoves
-returns c = rw (c .before .before .s .given .1, c .wanted .ensures)
+returns c = rw (c .before .before .s .given .1) (c .allows .ensures)
 
 returns-2 : tie.Need-returns-2
 unfolding validMoves
@@ -56,7 +56,7 @@ valid-spec =
     tie.close
     (tie.spec
     enum-known-s
-    wanted-requires
+    allows-requires
     enum-known-s-2
     valid-looks-requires
     enum-known-s-3

@@ -1,20 +1,19 @@
 -- `valid_looks` meets its contract.
 use Rattle.hardware.specs.Prog.{pick}
 use borrow.Author.Needs.{needs}
-use borrow.Author.Tests.{le-leb, lt-leb}
 use Rattle.i2c.proofs.moves.valid_looks.Statement.{statement}
 use Rattle.i2c.proofs.moves.valid_looks.Tie as tie
 
-wanted-requires : tie.Need-wanted-requires
-wanted-requires c κs = search needs
+allows-requires : tie.Need-allows-requires
+allows-requires c κs = search needs
 
 returns : tie.Need-returns
 unfolding pick
-returns c = rw (← c .before .wanted .ensures, le-leb _ _ (c .if1 .taken))
+returns c = rw (← c .before .allows .ensures, c .if1 .taken)
 
 returns-2 : tie.Need-returns-2
 unfolding pick
-returns-2 c = rw (← c .before .wanted .ensures, lt-leb _ _ (c .if1 .left))
+returns-2 c = rw (← c .before .allows .ensures, c .if1 .left)
 
 pub valid-looks-spec : {M : Type 1} → statement M
-valid-looks-spec = tie.close (tie.spec wanted-requires returns returns-2)
+valid-looks-spec = tie.close (tie.spec allows-requires returns returns-2)

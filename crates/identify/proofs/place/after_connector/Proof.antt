@@ -3,22 +3,24 @@ use Rattle.hardware.specs.Prog.{pick}
 use Rattle.identify.specs.Place.{Later, capAt, most, offsetAt, onAt, onward, placed, readingsAt, requestsAt, triesAt, validPlace}
 use Rattle.sfp.specs.Qsfp.{qsfpConnector}
 use borrow.Author.Needs.{needs}
-use borrow.Author.Tests.{ne-eqb}
 use mathlib.Core.Path.{refl}
 use native.Mathlib.Omega.{arith}
 use Rattle.identify.proofs.place.after_connector.Statement.{statement}
 use Rattle.identify.proofs.place.after_connector.Tie as tie
 
+fixed-requires : tie.Need-fixed-requires
+fixed-requires c κs = search needs
+
 returns : tie.Need-returns
 unfolding onward Later placed offsetAt triesAt requestsAt validPlace pick onAt qsfpConnector capAt readingsAt most
-returns c = (λ port. rw (c .if1 .taken), λ port. (refl, omega arith))
+returns c = (λ port. rw (← c .before .fixed .ensures, c .if1 .taken), λ port. (refl, omega arith))
 
 qsfp-found-requires : tie.Need-qsfp-found-requires
 qsfp-found-requires c κs = search needs
 
 returns-2 : tie.Need-returns-2
 unfolding onAt qsfpConnector pick
-returns-2 c = (λ port. rw (ne-eqb _ 0x23 (c .before .if1 .left)) (c .qsfp-found .ensures .0 port), λ port. c .qsfp-found .ensures .1 port _)
+returns-2 c = (λ port. rw (← c .before .before .fixed .ensures, c .before .if1 .left) (c .qsfp-found .ensures .0 port), λ port. c .qsfp-found .ensures .1 port _)
 
 pub after-connector-spec : {M : Type 1} → statement M
-after-connector-spec = tie.close (tie.spec returns qsfp-found-requires returns-2)
+after-connector-spec = tie.close (tie.spec fixed-requires returns qsfp-found-requires returns-2)

@@ -3,22 +3,24 @@ use Rattle.hardware.specs.Prog.{pick}
 use Rattle.identify.specs.Place.{Later, capAt, most, offsetAt, onAt, onward, placed, readingsAt, requestsAt, triesAt, validPlace}
 use Rattle.sfp.specs.Qsfp.{qsfpLength}
 use borrow.Author.Needs.{needs}
-use borrow.Author.Tests.{le-ltb, lt-ltb}
 use mathlib.Core.Path.{refl}
 use native.Mathlib.Omega.{arith}
 use Rattle.identify.proofs.place.after_length.Statement.{statement}
 use Rattle.identify.proofs.place.after_length.Tie as tie
 
+measured-requires : tie.Need-measured-requires
+measured-requires c κs = search needs
+
 returns : tie.Need-returns
 unfolding onward Later placed offsetAt triesAt requestsAt validPlace pick onAt qsfpLength capAt readingsAt most
-returns c = (λ port. rw (lt-ltb 0 _ (c .if1 .taken)), λ port. (refl, omega arith))
+returns c = (λ port. rw (← c .before .measured .ensures, c .if1 .taken), λ port. (refl, omega arith))
 
 qsfp-found-requires : tie.Need-qsfp-found-requires
 qsfp-found-requires c κs = search needs
 
 returns-2 : tie.Need-returns-2
 unfolding onAt qsfpLength pick
-returns-2 c = (λ port. rw (le-ltb 0 _ (c .before .if1 .left)) (c .qsfp-found .ensures .0 port), λ port. c .qsfp-found .ensures .1 port _)
+returns-2 c = (λ port. rw (← c .before .before .measured .ensures, c .before .if1 .left) (c .qsfp-found .ensures .0 port), λ port. c .qsfp-found .ensures .1 port _)
 
 pub after-length-spec : {M : Type 1} → statement M
-after-length-spec = tie.close (tie.spec returns qsfp-found-requires returns-2)
+after-length-spec = tie.close (tie.spec measured-requires returns qsfp-found-requires returns-2)

@@ -2,7 +2,7 @@
 use Rattle.bus.proofs.Laws.{picked}
 use Rattle.i2c.proofs.Laws.{fits-valid}
 use Rattle.i2c.specs.Moves.{dueMovesNext, validMovesNext}
-use Rattle.identify.proofs.Laws.{cap-most, first-due, least-due, request-asks, request-begun}
+use Rattle.identify.proofs.Laws.{cap-most, first-due, own-allows, request-asks, request-begun}
 use Rattle.identify.specs.Place.{triesAt}
 use Rattle.identify.specs.Walk.{validIdentify, validIdentifyNext}
 use borrow.Author.Needs.{needs}
@@ -28,7 +28,7 @@ enum-told c = search needs
 
 returns : tie.Need-returns
 unfolding validIdentifyNext validIdentify validMovesNext dueMovesNext
-returns c = (request-begun _ _ _ _ (rw (← c .before .before .before .before .before .request .ensures, ← c .before .before .before .before .tries .ensures, ← c .before .begins .given .1) (c .before .before .before .«open» .ensures .0)), λ made v h. picked _ _ v (fits-valid _ _ _ _ _ made _ (cap-most _ _) (rw (← c .before .before .before .before .before .request .ensures) (rw (c .before .begins .given .1) at (c .before .before .before .«open» .ensures .1 .0 (triesAt (c .before .before .before .before .before .before .args .port) (c .before .before .before .before .before .before .args .p)) (rw (c .before .before .before .before .before .request .ensures, c .before .before .before .before .tries .ensures) (least-due (c .before .before .before .before .before .before .args .port) (c .before .before .before .before .before .before .args .p)))))) (omega (arith, h, (first-due (c .before .before .before .before .before .before .args .port) (c .before .before .before .before .before .before .args .p) _ (rw (c .before .before .before .before .before .request .ensures, c .before .before .before .before .tries .ensures, c .before .begins .given .1) at (c .before .before .before .«open» .ensures .1 .1)))))))
+returns c = (request-begun _ _ _ _ (rw (← c .before .before .before .before .before .request .ensures, ← c .before .before .before .before .tries .ensures, ← c .before .begins .given .1) (c .before .before .before .«open» .ensures .0)), λ made v h. picked _ _ v (fits-valid _ _ _ _ _ made _ (cap-most _ _) (rw (← c .before .before .before .before .before .request .ensures) (rw (c .before .begins .given .1) at (c .before .before .before .«open» .ensures .1 .0 (triesAt (c .before .before .before .before .before .before .args .port) (c .before .before .before .before .before .before .args .p)) (rw (c .before .before .before .before .before .request .ensures, c .before .before .before .before .tries .ensures) (own-allows (c .before .before .before .before .before .before .args .port) (c .before .before .before .before .before .before .args .p)))))) (omega (arith, h, (first-due (c .before .before .before .before .before .before .args .port) (c .before .before .before .before .before .before .args .p) _ (rw (c .before .before .before .before .before .request .ensures, c .before .before .before .before .tries .ensures, c .before .begins .given .1) at (c .before .before .before .«open» .ensures .1 .1)))))))
 
 returns-2 : tie.Need-returns-2
 unfolding validIdentifyNext

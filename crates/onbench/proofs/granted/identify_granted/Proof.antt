@@ -27,14 +27,14 @@ enum-known-q c = search needs
 
 returns : tie.Need-returns
 returns c =
-    granted-of-bytes (c .before .before .before .before .before .before .before .before .before .args .family) (c .before .before .before .before .before .before .before .before .before .args .device) (c .before .before .before .before .before .before .before .before .before .args .lan) (c .before .before .before .before .before .before .before .before .before .args .d) _ (c .before .before .before .before .before .before .bytes .ensures)
+    granted-of-bytes (c .before .before .before .before .before .before .before .before .before .args .family) (c .before .before .before .before .before .before .before .before .before .args .device) (c .before .before .before .before .before .before .before .before .before .args .lan) (c .before .before .before .before .before .before .before .before .before .args .d) _ (c .before .before .before .before .before .before .bytes .ensures .1)
     (granted-opened (c .before .before .before .before .before .before .before .before .before .args .family) (c .before .before .before .before .before .before .before .before .before .args .device) (c .before .before .before .before .before .before .before .before .before .args .lan) (c .before .before .before .before .before .before .before .before .before .args .d)
     (c .before .before .before .before .before .open-port .result) _ (c .before .identify-open .result) (c .play .result) (c .before .before .before .p .given .1) (c .before .before .before .before .before .open-port .ensures)
     (c .before .identify-open .ensures .0) (c .before .identify-open .ensures .1) (c .play .ensures))
 
 returns-2 : tie.Need-returns-2
 returns-2 c =
-    granted-of-bytes (c .before .before .before .before .before .before .before .args .family) (c .before .before .before .before .before .before .before .args .device) (c .before .before .before .before .before .before .before .args .lan) (c .before .before .before .before .before .before .before .args .d) _ (c .before .before .before .before .bytes .ensures)
+    granted-of-bytes (c .before .before .before .before .before .before .before .args .family) (c .before .before .before .before .before .before .before .args .device) (c .before .before .before .before .before .before .before .args .lan) (c .before .before .before .before .before .before .before .args .d) _ (c .before .before .before .before .bytes .ensures .1)
     (granted-unopened (c .before .before .before .before .before .before .before .args .family) (c .before .before .before .before .before .before .before .args .device) (c .before .before .before .before .before .before .before .args .lan) (c .before .before .before .before .before .before .before .args .d) (c .before .before .before .open-port .result) _ (c .before .q .given .1) (c .before .before .before .open-port .ensures))
 
 pub identify-granted-spec : {M : Type 1} → statement M

@@ -10,10 +10,10 @@ use Rattle.hardware.specs.Prog.{pick}
 use Rattle.hardware.specs.Registers.{ESDP}
 
 -- SWSM with SMBI clear and SWESMBI set, ESDP with the grant on SDP1, and 0 of every other register: SW_FW_SYNC is free
-unfoldable pub luckyAt : ℕ → ℕ
-luckyAt register = pick (eqb register 0x10140 || eqb register ESDP) 2 0
+unfoldable pub atOnceAt : ℕ → ℕ
+atOnceAt register = pick (eqb register 0x10140 || eqb register ESDP) 2 0
 
-unfoldable pub lucky : Access → Answer
-lucky (Read register) = Value (luckyAt register)
-lucky (Write register v) = Done
-lucky (Wait us) = Done
+unfoldable pub atOnce : Access → Answer
+atOnce (Read register) = Value (atOnceAt register)
+atOnce (Write register v) = Done
+atOnce (Wait us) = Done

@@ -1,0 +1,288 @@
+-- Laws of `AtOnce` for any call, what `atOnce` answers, and that with its answers no lock runs out.
+use Prim.Native.Nat.{ℕ, suc}
+use mathlib.Core.Path.{_≡_, refl, ap, subst}
+use mathlib.Core.Bool.{Bool, true, false, _||_}
+use lib.Bits.{and-zero-l}
+use lib.Dec.{T, eqb}
+use Rattle.hardware.specs.declared.Family.{Family}
+use Rattle.hardware.specs.declared.Family.the-variants.{F82599, X540, X550, X552, X553}
+use Rattle.hardware.specs.declared.Port.{Port}
+use Rattle.hardware.specs.declared.Access.{Access}
+use Rattle.hardware.specs.declared.Access.the-variants.{Read, Write, Wait}
+use Rattle.hardware.specs.declared.Answer.{Answer}
+use Rattle.hardware.specs.declared.Answer.the-variants.{Value}
+use Rattle.hardware.specs.declared.change.Change.{Change}
+use Rattle.hardware.specs.declared.poll.Watch.{Watch}
+use Rattle.hardware.specs.Asked.{is, fits}
+use Rattle.hardware.specs.Prog.{Prog, ret, ask, note, give, Note, Attempt, Acquires, Acquired, Released, Lapsed, R, Ok, orErr, _>>=_, _>>?_, pick}
+use Rattle.hardware.specs.Registers.{STATUS, ESDP, noneOf, checked, written, flushed, read, write, delay}
+use Rattle.hardware.specs.Change.{settled, stored, change}
+use Rattle.hardware.specs.Poll.{polled, poll}
+use Rattle.sync.specs.Regs.{TOKEN, SMBI, REGSMP, swsm, swFwSync, tries, smbiWatch, regsmpWatch, setSwesmbi, backSwsm, clearSync, setMux}
+use Rattle.sync.specs.Lock.{swesmbi, swesmbiSeen, swesmbiDone, regsmpDone, second, smbiDone, lock, unlock}
+use Rattle.sync.specs.Resource.{against, muxed, taken, free, syncSeen, acquireTries, acquireBits, settle, cleared, clearBits, clearing, unmuxed, releaseBits}
+use Rattle.hostif.specs.Acquire.{hwOf, withBits, acquiredAll, acquire, giveBits, release}
+use Rattle.bus.specs.Layout.{layoutOf}
+use Rattle.bus.proofs.Noteless.{Noteless}
+use Rattle.demand.specs.Fine.{names, Chosen, Unlapsed, AtOnce}
+use Rattle.demand.specs.Claim.{staysIn}
+use Rattle.bench.specs.AtOnce.{atOnceAt, atOnce}
+use Rattle.demand.proofs.Locks.{Aside, aside}
+
+chosen-map : (b : Bool) {X Y X′ Y′ : Type 0} → (X → X′) → (Y → Y′) → Chosen b X Y → Chosen b X′ Y′
+chosen-map true f g h = f h
+chosen-map false f g h = g h
+
+-- what holds for any answer holds for the chosen one
+chosen-any : {A : Type 0} (b : Bool) (P : A → Type 0) (a : A) → ((c : A) → P c) → Chosen b ((c : A) → P c) (P a)
+chosen-any true P a h = h
+chosen-any false P a h = h a
+
+unlapsed-map : (n : Note) (X Y : Type 0) → (X → Y) → Unlapsed n X → Unlapsed n Y
+unlapsed-map Attempt X Y f h = f h
+unlapsed-map Acquires X Y f h = f h
+unlapsed-map Acquired X Y f h = f h
+unlapsed-map Released X Y f h = f h
+unlapsed-map Lapsed X Y f h = h
+
+module _ (reg : ℕ) (answers : Access → Answer) where
+  -- what follows from Q holds too
+  pub at-once-map : {A : Type 0} (p : Prog A) (Q S : A → Type 0) → ((a : A) → Q a → S a) → AtOnce reg answers p Q → AtOnce reg answers p S
+  unfolding AtOnce
+  at-once-map (ret a) Q S f h = f a h
+  at-once-map (ask x k) Q S f h = chosen-map (names reg x) (λ g a. at-once-map (k a) Q S f (g a)) (at-once-map (k (answers x)) Q S f) h
+  at-once-map (note n p) Q S f h = unlapsed-map n _ _ (at-once-map p Q S f) h
+  at-once-map (give b p) Q S f h = at-once-map p Q S f h
+
+  -- one call after another
+  pub at-once-bind : {A B : Type 0} (p : Prog A) (k : A → Prog B) (Q : B → Type 0) → AtOnce reg answers p (λ a. AtOnce reg answers (k a) Q)
+      → AtOnce reg answers (p >>= k) Q
+  unfolding AtOnce _>>=_
+  at-once-bind (ret a) k Q h = h
+  at-once-bind (ask x f) k Q h = chosen-map (names reg x) (λ g a. at-once-bind (f a) k Q (g a)) (at-once-bind (f (answers x)) k Q) h
+  at-once-bind (note n p) k Q h = unlapsed-map n _ _ (at-once-bind p k Q) h
+  at-once-bind (give b p) k Q h = at-once-bind p k Q h
+
+  pub at-once-then : {A B : Type 0} (p : Prog A) (k : A → Prog B) (P : A → Type 0) (Q : B → Type 0) → AtOnce reg answers p P
+      → ((a : A) → P a → AtOnce reg answers (k a) Q) → AtOnce reg answers (p >>= k) Q
+  at-once-then p k P Q h f = at-once-bind p k Q (at-once-map p P _ f h)
+
+  -- the same where a call gives one value only
+  pub at-once-next : {A B : Type 0} (p : Prog A) (k : A → Prog B) (a : A) (Q : B → Type 0) → AtOnce reg answers p (λ x. x ≡ a) → AtOnce reg answers (k a) Q
+      → AtOnce reg answers (p >>= k) Q
+  at-once-next p k a Q h g = at-once-then p k _ Q h (λ x e. rw e g)
+
+  pub at-once-try : {A B : Type 0} (p : Prog (R A)) (k : A → Prog (R B)) (a : A) (Q : R B → Type 0) → AtOnce reg answers p (λ x. x ≡ Ok a)
+      → AtOnce reg answers (k a) Q → AtOnce reg answers (p >>? k) Q
+  unfolding orErr
+  at-once-try p k a Q h g = at-once-next p (orErr k) (Ok a) Q h g
+
+  pub at-once-pick : {A : Type 0} (b : Bool) (p q : Prog A) (Q : A → Type 0) → AtOnce reg answers p Q → AtOnce reg answers q Q → AtOnce reg answers (pick b p q) Q
+  unfolding pick
+  at-once-pick true p q Q h g = h
+  at-once-pick false p q Q h g = g
+
+  pub at-once-ret : {A : Type 0} (a : A) (Q : A → Type 0) → Q a → AtOnce reg answers (ret a) Q
+  unfolding AtOnce
+  at-once-ret a Q h = h
+
+  pub at-once-note : {A : Type 0} (n : Note) (p : Prog A) (Q : A → Type 0) → Unlapsed n (AtOnce reg answers p Q) → AtOnce reg answers (note n p) Q
+  unfolding AtOnce
+  at-once-note n p Q h = h
+
+  -- an access of another register
+  pub at-once-ask : {A : Type 0} (x : Access) (f : Answer → Prog A) (Q : A → Type 0) → names reg x ≡ false → AtOnce reg answers (f (answers x)) Q
+      → AtOnce reg answers (ask x f) Q
+  unfolding AtOnce
+  at-once-ask x f Q e h = rw e h
+
+  -- a call that notes nothing, whatever the answers are
+  pub noteless-at-once : {A : Type 0} (p : Prog A) (Q : A → Type 0) → Noteless p → ((a : A) → Q a) → AtOnce reg answers p Q
+  unfolding AtOnce Noteless
+  noteless-at-once (ret a) Q h f = f a
+  noteless-at-once (ask x k) Q h f = chosen-any (names reg x) _ (answers x) (λ a. noteless-at-once (k a) Q (h a) f)
+  noteless-at-once (note n p) Q h f = absurd h
+  noteless-at-once (give b p) Q h f = noteless-at-once p Q h f
+
+-- what a register reads is 2 or 0
+either-way : (P : ℕ → Type 0) → P 2 → P 0 → (r : ℕ) → P (atOnceAt r)
+unfolding atOnceAt pick
+either-way P h g r = way (eqb r 0x10140 || eqb r ESDP)
+  where
+    way : (b : Bool) → P (pick b 2 0)
+    way true = h
+    way false = g
+
+-- every answer is of the awaited kind
+pub at-once-fits : (x : Access) → T (fits x (atOnce x))
+unfolding fits atOnce
+at-once-fits (Read r) = tt
+at-once-fits (Write r v) = tt
+at-once-fits (Wait us) = tt
+
+-- and by what is read the card stays in
+pub at-once-stays : (r v : ℕ) → atOnce (Read r) ≡ Value v → staysIn r v
+unfolding atOnce
+at-once-stays r v e = let z : atOnceAt r ≡ v = cc in subst (staysIn r) z (either-way (staysIn r) (or-true (eqb r STATUS)) (or-true (eqb r STATUS)) r)
+  where
+    or-true : (b : Bool) → T (b || true)
+    or-true true = tt
+    or-true false = tt
+
+smbi-clear : (r : ℕ) → noneOf (atOnceAt r) SMBI ≡ true
+unfolding noneOf
+smbi-clear = either-way (λ v. noneOf v SMBI ≡ true) refl refl
+
+regsmp-clear : (r : ℕ) → noneOf (atOnceAt r) REGSMP ≡ true
+unfolding noneOf
+regsmp-clear = either-way (λ v. noneOf v REGSMP ≡ true) refl refl
+
+module _ (reg : ℕ) where
+  pub read-at-once : (r : ℕ) → eqb r reg ≡ false → AtOnce reg atOnce (read r) (λ x. x ≡ Ok (atOnceAt r))
+  unfolding names atOnce checked pick
+  read-at-once r e = at-once-ask reg atOnce _ _ _ e (at-once-ret reg atOnce _ _ (rw (either-way (λ v. eqb v 0xffffffff ≡ false) refl refl r)))
+
+  pub write-at-once : (r v : ℕ) → eqb r reg ≡ false → AtOnce reg atOnce (write r v) (λ x. x ≡ Ok tt)
+  unfolding names atOnce written
+  write-at-once r v e = at-once-ask reg atOnce _ _ _ e (at-once-ret reg atOnce _ _ refl)
+
+  pub delay-at-once : (us : ℕ) → AtOnce reg atOnce (delay us) (λ x. x ≡ Ok tt)
+  unfolding names
+  delay-at-once us = at-once-ask reg atOnce _ _ _ refl (at-once-ret reg atOnce _ _ refl)
+
+  -- the bit is clear at the first look
+  pub poll-at-once : (w : Watch) (n last : ℕ) → eqb (w .register) reg ≡ false → noneOf (atOnceAt (w .register)) (w .bit) ≡ true
+      → AtOnce reg atOnce (poll w (suc n) last) (λ x. x ≡ Ok (atOnceAt (w .register)))
+  unfolding poll polled pick
+  poll-at-once w n last e h = at-once-try reg atOnce _ _ _ _ (read-at-once _ e) (rw h (at-once-ret reg atOnce _ _ refl))
+
+  module _ (f : Family) (s : Aside reg staysIn f) where
+    settled-at-once : (b : Bool) → AtOnce reg atOnce (settled b) (λ x. x ≡ Ok tt)
+    unfolding settled names atOnce flushed
+    settled-at-once true = at-once-ask reg atOnce _ _ _ (s .status) (at-once-ret reg atOnce _ _ refl)
+    settled-at-once false = at-once-ret reg atOnce _ _ refl
+
+    pub change-at-once : (c : Change) → eqb (c .register) reg ≡ false → AtOnce reg atOnce (change c) (λ x. x ≡ Ok tt)
+    unfolding change stored
+    change-at-once c e =
+        at-once-try reg atOnce _ _ _ _ (read-at-once _ e) (at-once-try reg atOnce _ _ _ _ (write-at-once _ _ e) (settled-at-once (c .flushed)))
+
+    swesmbi-at-once : (n : ℕ) → AtOnce reg atOnce (swesmbi (suc n)) (λ x. x ≡ Ok true)
+    unfolding swesmbi swesmbiSeen atOnceAt noneOf pick
+    swesmbi-at-once n =
+        at-once-try reg atOnce _ _ _ _ (change-at-once setSwesmbi (s .swesmbi .other))
+        (at-once-try reg atOnce (read 0x10140) _ _ _ (read-at-once 0x10140 (s .swesmbi .other)) (at-once-ret reg atOnce _ _ refl))
+
+    swesmbi-came : AtOnce reg atOnce (swesmbiDone f true) (λ x. x ≡ Ok tt)
+    unfolding swesmbiDone pick
+    swesmbi-came = at-once-ret reg atOnce _ _ refl
+
+    regsmp-came : (r : ℕ) → AtOnce reg atOnce (regsmpDone f (atOnceAt r)) (λ x. x ≡ Ok tt)
+    unfolding regsmpDone pick
+    regsmp-came r = rw (regsmp-clear r) (at-once-ret reg atOnce _ _ refl)
+
+    second-at-once : AtOnce reg atOnce (second f) (λ x. x ≡ Ok tt)
+    unfolding second regsmpWatch
+    second-at-once =
+        at-once-pick reg atOnce _ _ _ _ (at-once-try reg atOnce _ _ _ _ (swesmbi-at-once 1999) swesmbi-came)
+        (at-once-try reg atOnce _ _ _ _ (poll-at-once _ 1999 0 (s .sync .other) (regsmp-clear _)) (regsmp-came _))
+
+    pub lock-at-once : AtOnce reg atOnce (lock f) (λ x. x ≡ Ok tt)
+    unfolding lock smbiDone smbiWatch pick
+    lock-at-once = at-once-try reg atOnce _ _ _ _ (poll-at-once _ 1999 0 (s .swsm .other) (smbi-clear _)) (rw (smbi-clear (swsm f)) second-at-once)
+
+    back-at-once : AtOnce reg atOnce (change (backSwsm f)) (λ x. x ≡ Ok tt)
+    unfolding backSwsm
+    back-at-once = change-at-once _ (s .swsm .other)
+
+    clear-at-once : (bits : ℕ) → AtOnce reg atOnce (change (clearSync f bits)) (λ x. x ≡ Ok tt)
+    unfolding clearSync
+    clear-at-once bits = change-at-once _ (s .sync .other)
+
+    pub unlock-at-once : AtOnce reg atOnce (unlock f) (λ x. x ≡ Ok tt)
+    unfolding unlock
+    unlock-at-once = at-once-pick reg atOnce _ _ _ _ back-at-once (at-once-try reg atOnce _ _ _ _ (clear-at-once _) back-at-once)
+
+-- SW_FW_SYNC reads 0
+sync-free : (f : Family) → atOnceAt (swFwSync f) ≡ 0
+unfolding atOnceAt swFwSync is pick
+sync-free F82599 = refl
+sync-free X540 = refl
+sync-free X550 = refl
+sync-free X552 = refl
+sync-free X553 = refl
+
+against-none : (n : ℕ) → noneOf 0 n ≡ true
+unfolding noneOf
+against-none n = ap (λ v. eqb v 0) (and-zero-l n)
+
+-- there is a try
+some-tries : (f : Family) → (n : ℕ) × (tries f ≡ suc n)
+some-tries F82599 = (199, refl)
+some-tries X540 = (199, refl)
+some-tries X550 = (999, refl)
+some-tries X552 = (999, refl)
+some-tries X553 = (999, refl)
+
+module _ (reg : ℕ) (port : Port) (s : Aside reg staysIn (port .family)) (mask : ℕ) where
+  mux-at-once : (on : Bool) → AtOnce reg atOnce (change (setMux on)) (λ x. x ≡ Ok tt)
+  unfolding setMux
+  mux-at-once true = change-at-once reg (port .family) s _ (s .esdp .other)
+  mux-at-once false = change-at-once reg (port .family) s _ (s .esdp .other)
+
+  muxed-at-once : (on : Bool) → AtOnce reg atOnce (muxed port mask on) (λ x. x ≡ Ok tt)
+  unfolding muxed
+  muxed-at-once on = at-once-pick reg atOnce _ _ _ _ (mux-at-once on) (at-once-ret reg atOnce _ _ refl)
+
+  free-at-once : (sync : ℕ) → AtOnce reg atOnce (free port mask sync) (λ x. x ≡ Ok tt)
+  unfolding free taken orErr
+  free-at-once sync =
+      at-once-next reg atOnce _ _ _ _ (write-at-once reg _ _ (s .sync .other))
+      (at-once-try reg atOnce _ _ _ _ (unlock-at-once reg (port .family) s) (muxed-at-once true))
+
+  seen-at-once : (again : ℕ → Prog (R (Unit {0}))) → AtOnce reg atOnce (syncSeen port mask again (Ok 0)) (λ x. x ≡ Ok tt)
+  unfolding syncSeen pick
+  seen-at-once again = rw (against-none (against (port .family) mask)) (free-at-once 0)
+
+  acquire-tries-at-once : (n held : ℕ) → AtOnce reg atOnce (acquireTries port mask (suc n) held) (λ x. x ≡ Ok tt)
+  unfolding acquireTries
+  acquire-tries-at-once n held =
+      at-once-try reg atOnce _ _ _ _ (lock-at-once reg (port .family) s)
+      (at-once-next reg atOnce _ _ _ _ (read-at-once reg _ (s .sync .other)) (rw (sync-free (port .family)) (seen-at-once _)))
+
+  acquire-bits-at-once : AtOnce reg atOnce (acquireBits port mask) (λ x. x ≡ Ok tt)
+  unfolding acquireBits
+  acquire-bits-at-once = let n = some-tries (port .family) in rw (n .1) (acquire-tries-at-once (n .0) 0)
+
+  settle-at-once : AtOnce reg atOnce (settle port mask) (λ x. x ≡ Ok tt)
+  unfolding settle
+  settle-at-once = at-once-pick reg atOnce _ _ _ _ (at-once-ret reg atOnce _ _ refl) (delay-at-once reg _)
+
+  cleared-at-once : AtOnce reg atOnce (cleared port mask (Ok tt)) (λ x. x ≡ Ok tt)
+  unfolding cleared orErr
+  cleared-at-once = at-once-try reg atOnce _ _ _ _ (unlock-at-once reg (port .family) s) settle-at-once
+
+  release-bits-at-once : AtOnce reg atOnce (releaseBits port mask) (λ x. x ≡ Ok tt)
+  unfolding releaseBits unmuxed clearing clearBits
+  release-bits-at-once =
+      at-once-try reg atOnce _ _ _ _ (muxed-at-once false)
+      (at-once-try reg atOnce _ _ _ _ (lock-at-once reg (port .family) s)
+      (at-once-next reg atOnce _ _ _ _ (clear-at-once reg (port .family) s _) cleared-at-once))
+
+  given-at-once : AtOnce reg atOnce (giveBits port mask (Ok tt)) (λ x. x ≡ Ok tt)
+  unfolding giveBits withBits
+  given-at-once =
+      at-once-try reg atOnce _ _ _ _ (at-once-pick reg atOnce _ _ _ _ (at-once-ret reg atOnce _ _ refl) release-bits-at-once)
+      (at-once-ret reg atOnce _ _ refl)
+
+-- whatever the port, and whatever the bits of SW_FW_SYNC in the mask; it has no token
+pub acquire-at-once : (port : Port) (mask : ℕ) → noneOf mask TOKEN ≡ true → AtOnce (layoutOf (port .family) .reg) atOnce (acquire port mask) (λ r. r ≡ Ok tt)
+unfolding acquire acquiredAll pick
+acquire-at-once port mask e =
+    at-once-note _ _ Acquires _ _
+    (rw e
+    (at-once-try _ _ _ _ _ _ (acquire-bits-at-once _ port (aside (port .family)) (hwOf mask)) (at-once-note _ _ Acquired _ _ (at-once-ret _ _ _ _ refl))))
+
+pub release-at-once : (port : Port) (mask : ℕ) → noneOf mask TOKEN ≡ true → AtOnce (layoutOf (port .family) .reg) atOnce (release port mask) (λ r. r ≡ Ok tt)
+unfolding release pick
+release-at-once port mask e = at-once-note _ _ Released _ _ (rw e (given-at-once _ port (aside (port .family)) (hwOf mask)))

@@ -247,8 +247,9 @@ fn title() {
         b"the receiver, Send n with the bit 0 and 1, Listen with SDA noted low and high:\n",
     );
     print::text(b"39 states, bits taken a0, page A0, data next. 82599, port 0, PCI device 10fb.\n");
-    print::text(b"  m         multispeed; 0, 3, 6, 8: these bytes of A0, as recorded\n");
-    print::text(b"  T         transfers made from the state Idle\n");
+    print::text(
+        b"  m         multispeed; 0 3 6 8: bytes of A0 as recorded; T: transfers from Idle\n",
+    );
     print::text(b"  OK        states with the same kind and multispeed, no byte of the module\n");
     print::text(b"            changed, and at the end the module Idle and both lines released\n");
     print::text(b"  +1        those of them with one transfer more, as the module pulled SDA\n");

@@ -76,11 +76,11 @@ unfoldable pub dueMovesNext : Request → MovesNext → ℕ
 dueMovesNext r (Going begins s) = more begins (dueMoves r s)
 dueMovesNext r (End g) = 0
 
--- the attempts that are asked for, and those that a call then makes, are at most so many
+-- the number of attempts that stands in the state, and that of those to come, are at most so many; a write makes two
 unfoldable pub allows : ℕ → Request → ℕ → Bool
 allows most r tries = pick (leb tries most) (leb (wanted r tries) most) false
 
--- of a request with so many attempts
+-- the counters of a request that has so many attempts
 unfoldable pub validMoves : ℕ → Port → Request → Moves → Bool
 validMoves most port r (Asking tries u) = allows most r tries
 validMoves most port r (Granting tries left) = pick (allows most r tries) (ltb left 200) false

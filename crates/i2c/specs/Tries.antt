@@ -79,7 +79,7 @@ restStage port r lock left Pausing a = triesLeft port r lock left
 unfoldable pub restTries : Port → Request → Bool → Tries → Answer → Prog (R Taken)
 restTries port r lock t a = restStage port r lock (t .left) (t .stage) a
 
--- where an attempt begins, it is noted
+-- p, with an attempt noted where one begins with it
 unfoldable pub beginning : {A : Type 0} → Bool → Prog A → Prog A
 beginning begins p = pick begins (note Attempt p) p
 
@@ -112,7 +112,7 @@ validStage port r (Trying s) = validAttempt (layoutOf (port .family)) (scriptOf 
 validStage port r (Releasing g s) = validReleaseBits s
 validStage port r Pausing = true
 
--- of a request with so many attempts fewer are left
+-- fewer attempts are left than the request has
 unfoldable pub validTries : ℕ → Port → Request → Tries → Bool
 validTries tries port r t = pick (ltb (t .left) tries) (validStage port r (t .stage)) false
 

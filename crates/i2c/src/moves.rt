@@ -238,7 +238,7 @@ fn valid_looks(most: u32, r: Request, tries: u8, left: u8) -> bool
     false
 }
 
-// Of a request with so many attempts.
+// The counters of a request that has so many attempts.
 pub fn valid(most: u32, port: Port, r: Request, s: Moves) -> bool
     ensures { λ b. ⌜ b ≡ validMoves most port r s ⌝ }
 {

@@ -321,7 +321,7 @@ fn valid_stage(port: Port, r: Request, stage: Stage) -> bool
     }
 }
 
-// Of a request with so many attempts fewer are left.
+// Fewer attempts are left than the request has.
 pub fn valid(tries: u32, port: Port, r: Request, s: Tries) -> bool
     ensures { λ b. ⌜ b ≡ validTries tries port r s ⌝ }
 {

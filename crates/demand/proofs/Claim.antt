@@ -19,10 +19,12 @@ use Rattle.bench.specs.declared.Bench.{Bench}
 use Rattle.bench.specs.Receiver.{fall, fallAt}
 use Rattle.bench.specs.Bench.{pullsLow}
 use Rattle.sfp.specs.declared.Kind.{Kind}
-use Rattle.sfp.specs.declared.Kind.the-variants.{DaCu, DaActiveLimiting, SrLr, Cu1g, Sx1g, Lx1g, Bx10g, Bx1g, Unknown, NotPresent}
+use Rattle.sfp.specs.declared.Kind.the-variants.{Unknown}
 use Rattle.sfp.specs.declared.Module.{Module}
 use Rattle.sfp.specs.Classes.{Bytes, SFP, kindOf, multispeedOf, Class, classOf, requests}
 use Rattle.sfp.specs.Identify.{absent, other, identify}
+use Rattle.sfp.specs.Kinds.{is}
+use Rattle.sfp.specs.Module.{isPresent}
 use Rattle.sfp.specs.Finds.{moduleOf}
 use Rattle.sfp.proofs.Finds.{module-class}
 use Rattle.sfp.proofs.Ends.{IDENTIFY-STEPS, identify-ends}
@@ -35,41 +37,29 @@ use Rattle.demand.proofs.Identify as Identify
 use Rattle.demand.proofs.Benched.{Ending, Steady, always-benched, Over, ends-benched, told, tally-benched}
 
 -- no class is NotPresent
-abbrev present : Kind → Bool
-present DaCu = true
-present DaActiveLimiting = true
-present SrLr = true
-present Cu1g = true
-present Sx1g = true
-present Lx1g = true
-present Bx10g = true
-present Bx1g = true
-present Unknown = true
-present NotPresent = false
-
-pick-present : (b : Bool) (x y : Kind) → present x ≡ true → present y ≡ true → present (pick b x y) ≡ true
+pick-present : (b : Bool) (x y : Kind) → isPresent x ≡ true → isPresent y ≡ true → isPresent (pick b x y) ≡ true
 unfolding pick
 pick-present true x y e f = e
 pick-present false x y e f = f
 
-kind-present : (at : Bytes) → present (kindOf at) ≡ true
-unfolding kindOf
+kind-present : (at : Bytes) → isPresent (kindOf at) ≡ true
+unfolding kindOf is
 kind-present at =
     pick-present _ _ _ refl (pick-present _ _ _ (pick-present _ _ _ refl refl)
     (pick-present _ _ _ refl (pick-present _ _ _ refl (pick-present _ _ _ refl (pick-present _ _ _ refl (pick-present _ _ _ refl (pick-present _ _ _ refl refl)))))))
 
-class-present : (at : Bytes) → present (classOf at .kind) ≡ true
-unfolding classOf pick
+class-present : (at : Bytes) → isPresent (classOf at .kind) ≡ true
+unfolding classOf is pick
 class-present at = by (eqb (at 0) SFP)
   where
-    by : (b : Bool) → present ((pick {A = Class} b (record { kind = kindOf at; multispeed = multispeedOf at }) (record { kind = Unknown; multispeed = false })) .kind) ≡ true
+    by : (b : Bool) → isPresent ((pick {A = Class} b (record { kind = kindOf at; multispeed = multispeedOf at }) (record { kind = Unknown; multispeed = false })) .kind) ≡ true
     by true = kind-present at
     by false = refl
 
 -- so the four facts and NotPresent shut each other out
 never-both : (at : Bytes) (r : R Module) → Says r (classOf at) → Absent r → ⊥
-unfolding Says Absent
-never-both at (Ok m) s a = false≢true (ap present (sym a) ∙ ap present (s .0) ∙ class-present at)
+unfolding Says Absent is
+never-both at (Ok m) s a = false≢true (ap isPresent (sym a) ∙ ap isPresent (s .0) ∙ class-present at)
 never-both at (Err e) s a = s
 
 found-says : (at : Bytes) → Says (Ok (moduleOf at)) (classOf at)

@@ -6,30 +6,13 @@ use crate::host::Host;
 use hardware::Flag;
 use identify::calls::IdentifyTold;
 use identify::walk::Identified;
-use sfp::Kind;
 use sfp::Module;
 use softrate::calls::RateTold;
 
-// By the place in the original's list.
-fn number(k: Kind) -> u32 {
-    match k {
-        Kind::DaCu => 0,
-        Kind::DaActiveLimiting => 1,
-        Kind::SrLr => 2,
-        Kind::Cu1g => 3,
-        Kind::Sx1g => 4,
-        Kind::Lx1g => 5,
-        Kind::Bx10g => 6,
-        Kind::Bx1g => 7,
-        Kind::Unknown => 8,
-        Kind::NotPresent => 9,
-    }
-}
-
-// The kind, with 256 for multispeed.
+// The kind's number, with 256 for multispeed.
 fn class(m: Module) -> u32 {
     let k = m.kind;
-    let n = number(k);
+    let n = sfp::number(k) as u32;
     if m.multispeed {
         return n | 256;
     }

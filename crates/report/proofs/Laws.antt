@@ -1,5 +1,5 @@
--- Laws of digits, places and sums.
-use Prim.Native.Nat.{ℕ, _+_, _*_, _-_, _%_, _≤_, _<_}
+-- Laws of digits and places.
+use Prim.Native.Nat.{ℕ, _+_, _*_, _-_, _≤_, _<_}
 use mathlib.Core.Path.{_≡_}
 use mathlib.Core.List.{List}
 use native.Mathlib.Nat.{mul-le-mul}
@@ -11,7 +11,7 @@ use lib.Seq.{drop-cons, drop-length}
 use Rattle.hardware.specs.Prog.{pick}
 use Rattle.report.specs.declared.digits.Digits.{Digits}
 use Rattle.report.specs.Number.{digitOf, moreOf, runOf}
-use Rattle.report.specs.Text.{placeOf, total, sumOf}
+use Rattle.report.specs.Text.{placeOf}
 
 -- a byte by its range
 pub decimal : (b : ℕ) → 48 ≤ b → b ≤ 57 → b - 48 ≡ digitOf b
@@ -65,15 +65,3 @@ place-next b l i h e = rw (drop-cons l i 0 h, ne-eqb _ _ e, add-one i) (omega ar
 pub place-end : (b : ℕ) (l : List ℕ) (i : ℕ) → i ≡ length l → placeOf b (drop i l) ≡ 0
 unfolding placeOf
 place-end b l i e = rw (e, drop-length l)
-
-pub sum-start : (l : List ℕ) → (0 + total (drop 0 l)) % 256 ≡ sumOf l
-unfolding sumOf
-sum-start l = omega arith
-
-pub total-next : (l : List ℕ) (i : ℕ) → i < length l → total (drop i l) ≡ getD l i 0 + total (drop (i + 1) l)
-unfolding total
-total-next l i h = rw (drop-cons l i 0 h, add-one i)
-
-pub total-end : (l : List ℕ) (i : ℕ) → i ≡ length l → total (drop i l) ≡ 0
-unfolding total
-total-end l i e = rw (e, drop-length l)

@@ -1,5 +1,5 @@
 -- Bytes of a text.
-use Prim.Native.Nat.{ℕ, suc, _+_, _%_}
+use Prim.Native.Nat.{ℕ, suc}
 use mathlib.Core.List.{List, [], _∷_}
 use lib.Dec.{eqb}
 use Rattle.hardware.specs.Prog.{pick}
@@ -8,11 +8,3 @@ use Rattle.hardware.specs.Prog.{pick}
 unfoldable pub placeOf : ℕ → List ℕ → ℕ
 placeOf b [] = 0
 placeOf b (a ∷ l) = pick (eqb a b) 0 (suc (placeOf b l))
-
-unfoldable pub total : List ℕ → ℕ
-total [] = 0
-total (b ∷ l) = b + total l
-
--- SFF-8472's check bytes: the low eight bits of the sum
-unfoldable pub sumOf : List ℕ → ℕ
-sumOf l = total l % 256

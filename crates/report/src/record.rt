@@ -10,29 +10,13 @@ use identify::walk::Identified;
 use onbench::How;
 use onbench::Run;
 use sfp::Module;
-use std::num::wrapping_add_u8;
 ghost use Prim.Native.Nat.{_≤_};
 ghost use lib.ListN.{length};
-ghost use mathlib.Core.Path.{_≡_};
-ghost use Rattle.report.specs.Text.{sumOf};
-
-// The low eight bits of the sum.
-fn sum(bytes: &[u8]) -> u8
-    ensures { λ r. ⌜ r ≡ sumOf (now (bytes .entry)) ⌝ }
-{
-    let mut total = 0;
-    let mut i = 0;
-    while i < bytes.len() {
-        total = wrapping_add_u8(total, bytes[i]);
-        i += 1;
-    }
-    total
-}
 
 // Bytes 63 and 95 of A0 are the sums of the bytes before them, the second from byte 64 on.
 fn sums(a0: [u8; 256]) {
-    let base = sum(&a0[..63]) == a0[63];
-    let extended = sum(&a0[64..95]) == a0[95];
+    let base = sfp::sum::sum(&a0[..63]) == a0[63];
+    let extended = sfp::sum::sum(&a0[64..95]) == a0[95];
     text_of_sums(base, extended);
 }
 

@@ -11,7 +11,6 @@ use hardware::Family;
 use identify::walk::Identified;
 use onbench::How;
 use onbench::Run;
-use sfp::Kind;
 use sfp::Module;
 use std::num::wrapping_add_u32;
 ghost use Prim.Native.Nat.{_≤_};
@@ -76,25 +75,10 @@ fn desk(image: Image, n: u8) -> Desk {
     start::state(Family::F82599, n, a0, a2)
 }
 
-fn kind_number(k: Kind) -> u8 {
-    match k {
-        Kind::DaCu => 0,
-        Kind::DaActiveLimiting => 1,
-        Kind::SrLr => 2,
-        Kind::Cu1g => 3,
-        Kind::Sx1g => 4,
-        Kind::Lx1g => 5,
-        Kind::Bx10g => 6,
-        Kind::Bx1g => 7,
-        Kind::Unknown => 8,
-        Kind::NotPresent => 9,
-    }
-}
-
 fn same_class(m: Module, n: Module) -> bool {
     let one = m.kind;
     let other = n.kind;
-    if kind_number(one) == kind_number(other) {
+    if sfp::same(one, other) {
         return m.multispeed == n.multispeed;
     }
     false

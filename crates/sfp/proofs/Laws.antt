@@ -1,10 +1,14 @@
--- Laws of the classes.
-use Prim.Native.Nat.{ℕ, _*_, _/_, _%_, _≤_, _<_, suc, zero}
+-- Laws of the classes and of the sum.
+use Prim.Native.Nat.{ℕ, _+_, _*_, _/_, _%_, _≤_, _<_, suc, zero}
 use mathlib.Core.Path.{_≡_, refl, ap, ap₂, _∙_, sym}
 use mathlib.Core.Bool.{Bool, true, false, not, _&&_, _||_}
+use mathlib.Core.List.{List}
+use native.Mathlib.Numerals.{add-one}
 use native.Mathlib.Omega.{arith}
 use lib.Bits.{and-high}
 use lib.Dec.{eqb, ltb}
+use lib.ListN.{length, drop, getD}
+use lib.Seq.{drop-cons, drop-length}
 use Rattle.hardware.specs.Prog.{pick}
 use Rattle.hardware.specs.Registers.{noneOf}
 use Rattle.sfp.specs.declared.Coded.{Coded}
@@ -19,6 +23,7 @@ use Rattle.sfp.specs.Identify.{fibreOf, recorded}
 use Rattle.sfp.specs.Coded.{codedBy, qsfpCoded, qsfpCable}
 use Rattle.sfp.specs.Qsfp.{qsfpRecorded}
 use Rattle.sfp.specs.Finds.{classIn}
+use Rattle.sfp.specs.Sum.{total, sumOf}
 
 -- SR or LR: one look at both bits, or one at each
 pub either-bit : (v : ℕ) → has v 0x30 ≡ (has v SR || has v LR)
@@ -120,3 +125,16 @@ pub qsfp-recorded-class : {m : Module} {kind : Kind} (at : Bytes)
     → m ≡ qsfpRecorded (at 0x83) (at 0x86) kind → kind ≡ qsfpKindOf at → classIn m ≡ record { kind = qsfpKindOf at; multispeed = qsfpMultispeedOf at }
 unfolding qsfpRecorded qsfpMultispeedOf
 qsfp-recorded-class at e g = ap classIn (e ∙ ap (qsfpRecorded (at 0x83) (at 0x86)) g)
+
+-- the sum of the bytes, from the first and one by one
+pub sum-start : (l : List ℕ) → (0 + total (drop 0 l)) % 256 ≡ sumOf l
+unfolding sumOf
+sum-start l = omega arith
+
+pub total-next : (l : List ℕ) (i : ℕ) → i < length l → total (drop i l) ≡ getD l i 0 + total (drop (i + 1) l)
+unfolding total
+total-next l i h = rw (drop-cons l i 0 h, add-one i)
+
+pub total-end : (l : List ℕ) (i : ℕ) → i ≡ length l → total (drop i l) ≡ 0
+unfolding total
+total-end l i e = rw (e, drop-length l)

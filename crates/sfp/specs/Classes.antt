@@ -1,11 +1,12 @@
 -- Classes of modules by SFF-8472, over a module's bytes: at n is byte n of page A0 (decimal).
 use Prim.Native.Nat.{ℕ, _+_, _/_}
-use mathlib.Core.Bool.{Bool, true, false, not, _&&_, _||_}
+use mathlib.Core.Bool.{Bool, false, not, _&&_, _||_}
 use lib.Dec.{eqb, leb, ltb}
 use Rattle.hardware.specs.Prog.{pick}
 use Rattle.hardware.specs.Registers.{noneOf}
 use Rattle.sfp.specs.declared.Kind.{Kind}
-use Rattle.sfp.specs.declared.Kind.the-variants.{DaCu, DaActiveLimiting, SrLr, Cu1g, Sx1g, Lx1g, Bx10g, Bx1g, Unknown, NotPresent}
+use Rattle.sfp.specs.declared.Kind.the-variants.{DaCu, DaActiveLimiting, SrLr, Cu1g, Sx1g, Lx1g, Bx10g, Bx1g, Unknown}
+use Rattle.sfp.specs.Kinds.{is}
 
 -- a byte has one of the bits
 unfoldable pub has : ℕ → ℕ → Bool
@@ -77,17 +78,9 @@ kindOf at =
     (pick (bx10g at) Bx10g
     (pick (has (at 6) BX10) Bx1g Unknown)))))))
 
+-- a direct-attach cable
 unfoldable pub isCable : Kind → Bool
-isCable DaCu = true
-isCable DaActiveLimiting = true
-isCable SrLr = false
-isCable Cu1g = false
-isCable Sx1g = false
-isCable Lx1g = false
-isCable Bx10g = false
-isCable Bx1g = false
-isCable Unknown = false
-isCable NotPresent = false
+isCable kind = is kind DaCu || is kind DaActiveLimiting
 
 -- SX with SR, LX with LR, DaCu, or DaActiveLimiting
 unfoldable pub multispeedOf : Bytes → Bool

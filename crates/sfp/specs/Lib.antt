@@ -1,8 +1,10 @@
 pub mod Bytes
 pub mod Classes
 pub mod Identify
+pub mod Kinds
 pub mod Module
 pub mod Qsfp
 pub mod Rate
 pub mod Finds
 pub mod Coded
+pub mod Sum

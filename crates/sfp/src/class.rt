@@ -3,6 +3,7 @@ use crate::Coded;
 use crate::Codes;
 use crate::Kind;
 use crate::Module;
+use crate::same;
 ghost use mathlib.Core.Path.{_≡_};
 ghost use mathlib.Core.Bool.{_&&_, _||_};
 ghost use Prim.Native.Nat.{_+_};
@@ -133,18 +134,10 @@ pub fn cable_of(active: u8) -> Kind
 pub fn is_cable(kind: Kind) -> bool
     ensures { λ r. ⌜ r ≡ isCable kind ⌝ }
 {
-    match kind {
-        Kind::DaCu => true,
-        Kind::DaActiveLimiting => true,
-        Kind::SrLr => false,
-        Kind::Cu1g => false,
-        Kind::Sx1g => false,
-        Kind::Lx1g => false,
-        Kind::Bx10g => false,
-        Kind::Bx1g => false,
-        Kind::Unknown => false,
-        Kind::NotPresent => false,
+    if same(kind, Kind::DaCu) {
+        return true;
     }
+    same(kind, Kind::DaActiveLimiting)
 }
 
 // A 1G code with a 10G code.

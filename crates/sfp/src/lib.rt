@@ -1,9 +1,12 @@
 // SFP+ modules: their classes by SFF-8472, and what the driver records of one.
+ghost use mathlib.Core.Path.{_≡_};
+ghost use Rattle.sfp.specs.Kinds.{kindNumber, is};
 
 pub mod class;
 pub mod methods;
 pub mod qsfp;
 pub mod rate;
+pub mod sum;
 
 // The kinds of `sfp.rs`. DaCu: a passive direct-attach cable of copper. DaActiveLimiting: an active one with a limiting
 // amplifier. SrLr: 10GBASE-SR or -LR. Cu1g: 1000BASE-T. Sx1g, Lx1g: 1000BASE-SX, -LX. Bx10g, Bx1g: both directions on one
@@ -43,4 +46,29 @@ pub struct Codes {
     pub g1: u8,
     pub g10: u8,
     pub cable: u8,
+}
+
+// By the place in the Rust's list, from 0.
+pub fn number(kind: Kind) -> u8
+    ensures { λ n. ⌜ n ≡ kindNumber kind ⌝ }
+{
+    match kind {
+        Kind::DaCu => 0,
+        Kind::DaActiveLimiting => 1,
+        Kind::SrLr => 2,
+        Kind::Cu1g => 3,
+        Kind::Sx1g => 4,
+        Kind::Lx1g => 5,
+        Kind::Bx10g => 6,
+        Kind::Bx1g => 7,
+        Kind::Unknown => 8,
+        Kind::NotPresent => 9,
+    }
+}
+
+// Whether the two are one kind.
+pub fn same(kind: Kind, other: Kind) -> bool
+    ensures { λ r. ⌜ r ≡ is kind other ⌝ }
+{
+    number(kind) == number(other)
 }

@@ -1,10 +1,11 @@
 // The record of a module, and the methods of the Rust's `Module`.
 use crate::Kind;
 use crate::Module;
+use crate::same;
 use hardware::Family;
 ghost use mathlib.Core.Path.{_≡_};
 ghost use Rattle.sfp.specs.Identify.{absent, other};
-ghost use Rattle.sfp.specs.Module.{isPresent, isOneGig, isLinear, isSupported, keyOf};
+ghost use Rattle.sfp.specs.Module.{isPresent, isOneGig, isLinear, isKnown, isSupported, keyOf};
 
 // The Rust's `Option<u16>`.
 pub enum Key {
@@ -44,18 +45,7 @@ pub fn present(m: Module) -> bool
     ensures { λ r. ⌜ r ≡ isPresent (m .kind) ⌝ }
 {
     let kind = m.kind;
-    match kind {
-        Kind::DaCu => true,
-        Kind::DaActiveLimiting => true,
-        Kind::SrLr => true,
-        Kind::Cu1g => true,
-        Kind::Sx1g => true,
-        Kind::Lx1g => true,
-        Kind::Bx10g => true,
-        Kind::Bx1g => true,
-        Kind::Unknown => true,
-        Kind::NotPresent => false,
-    }
+    !same(kind, Kind::NotPresent)
 }
 
 // 1G only.
@@ -63,18 +53,16 @@ pub fn one_gig(m: Module) -> bool
     ensures { λ r. ⌜ r ≡ isOneGig (m .kind) ⌝ }
 {
     let kind = m.kind;
-    match kind {
-        Kind::DaCu => false,
-        Kind::DaActiveLimiting => false,
-        Kind::SrLr => false,
-        Kind::Cu1g => true,
-        Kind::Sx1g => true,
-        Kind::Lx1g => true,
-        Kind::Bx10g => false,
-        Kind::Bx1g => true,
-        Kind::Unknown => false,
-        Kind::NotPresent => false,
+    if same(kind, Kind::Cu1g) {
+        return true;
     }
+    if same(kind, Kind::Sx1g) {
+        return true;
+    }
+    if same(kind, Kind::Lx1g) {
+        return true;
+    }
+    same(kind, Kind::Bx1g)
 }
 
 // A passive cable.
@@ -82,55 +70,44 @@ pub fn linear(m: Module) -> bool
     ensures { λ r. ⌜ r ≡ isLinear (m .kind) ⌝ }
 {
     let kind = m.kind;
-    match kind {
-        Kind::DaCu => true,
-        Kind::DaActiveLimiting => false,
-        Kind::SrLr => false,
-        Kind::Cu1g => false,
-        Kind::Sx1g => false,
-        Kind::Lx1g => false,
-        Kind::Bx10g => false,
-        Kind::Bx1g => false,
-        Kind::Unknown => false,
-        Kind::NotPresent => false,
+    same(kind, Kind::DaCu)
+}
+
+// Something answered, and a rule fits it.
+fn known(m: Module) -> bool
+    ensures { λ r. ⌜ r ≡ isKnown (m .kind) ⌝ }
+{
+    let kind = m.kind;
+    if same(kind, Kind::Unknown) {
+        return false;
     }
+    present(m)
 }
 
 // Whether the family takes the module.
 pub fn supported(m: Module, family: Family) -> bool
     ensures { λ r. ⌜ r ≡ isSupported (m .kind) family ⌝ }
 {
-    let kind = m.kind;
-    match kind {
-        Kind::DaCu => true,
-        Kind::DaActiveLimiting => true,
-        Kind::SrLr => true,
-        Kind::Cu1g => !bus::x550em(family),
-        Kind::Sx1g => true,
-        Kind::Lx1g => true,
-        Kind::Bx10g => true,
-        Kind::Bx1g => true,
-        Kind::Unknown => false,
-        Kind::NotPresent => false,
+    if known(m) {
+        let kind = m.kind;
+        if same(kind, Kind::Cu1g) {
+            return !bus::x550em(family);
+        }
+        return true;
     }
+    false
 }
 
 // The key of the 82599's NVM sequence for the module on a port.
 pub fn nvm_key(m: Module, lan: u8) -> Key
     ensures { λ r. ⌜ r ≡ keyOf (m .kind) lan ⌝ }
 {
-    let kind = m.kind;
     let core = lan as u16;
-    match kind {
-        Kind::DaCu => Key::Key(3 + core),
-        Kind::DaActiveLimiting => Key::Key(5 + core),
-        Kind::SrLr => Key::Key(5 + core),
-        Kind::Cu1g => Key::Key(5 + core),
-        Kind::Sx1g => Key::Key(5 + core),
-        Kind::Lx1g => Key::Key(5 + core),
-        Kind::Bx10g => Key::Key(5 + core),
-        Kind::Bx1g => Key::Key(5 + core),
-        Kind::Unknown => Key::Nothing,
-        Kind::NotPresent => Key::Nothing,
+    if known(m) {
+        if linear(m) {
+            return Key::Key(3 + core);
+        }
+        return Key::Key(5 + core);
     }
+    Key::Nothing
 }

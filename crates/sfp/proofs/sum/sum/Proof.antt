@@ -5,10 +5,10 @@ use mathlib.Core.Path.{_≡_}
 use native.Mathlib.Omega.{arith}
 use lib.ListN.{length, drop}
 use borrow.Author.Needs.{needs}
-use Rattle.report.specs.Text.{sumOf, total as total-of}
-use Rattle.report.proofs.Laws.{sum-start, total-end, total-next}
-use Rattle.report.proofs.record.sum.Statement.{statement}
-use Rattle.report.proofs.record.sum.Tie as tie
+use Rattle.sfp.specs.Sum.{sumOf, total as total-of}
+use Rattle.sfp.proofs.Laws.{sum-start, total-end, total-next}
+use Rattle.sfp.proofs.sum.sum.Statement.{statement}
+use Rattle.sfp.proofs.sum.sum.Tie as tie
 
 abbrev Inv-loop : tie.InvT-loop
 Inv-loop bytes total₀ i₀ total i = (i ≤ length bytes) × (total < 256) × ((total + total-of (drop i bytes)) % 256 ≡ sumOf bytes)

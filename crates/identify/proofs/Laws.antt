@@ -2,9 +2,10 @@
 use Prim.Native.Nat.{ℕ, _+_, _*_, _-_, _/_, _<_, _≤_, suc, zero}
 use mathlib.Core.Path.{_≡_, refl, ap, _∙_, sym}
 use mathlib.Core.Bool.{Bool, true, false}
+use native.Mathlib.Nat.{mul-le-mul}
 use native.Mathlib.Omega.{arith}
 use lib.Dec.{eqb}
-use borrow.Author.Tests.{leb-true, le-leb}
+use borrow.Author.Tests.{le-leb, lt-ltb, ltb-true}
 use Rattle.hardware.specs.declared.Port.{Port}
 use Rattle.hardware.specs.Prog.{Prog, ret, R, Ok, erase, over, bind-assoc, _>>=_, pick}
 use Rattle.bus.specs.Layout.{x550em}
@@ -32,7 +33,7 @@ use Rattle.identify.specs.declared.place.Place.{Place}
 use Rattle.identify.specs.declared.place.Place.the-variants.{Identifier, Comp1g, Comp10g, Cable, Rate, Km, Hm, Active, QsfpIdentifier, Qsfp10g, Qsfp1g, QsfpConnector, QsfpLength, QsfpTechnology}
 use Rattle.identify.specs.declared.walk.Identify.{Identify}
 use Rattle.identify.specs.declared.walk.IdentifyNext.the-variants.{Going as Walking}
-use Rattle.identify.specs.Place.{offsetAt, requestAt, requestsAt, readingsAt, triesAt, most, capAt, validPlace, kinded, onAt, toldAt, placed}
+use Rattle.identify.specs.Place.{offsetAt, readingsAt, requestsAt, requestAt, triesAt, most, capAt, validPlace, kinded, onAt, toldAt, placed}
 use Rattle.identify.specs.Walk.{accessIdentify, restIdentify, identifyNext, validIdentify}
 
 -- a place has at least one attempt
@@ -45,57 +46,42 @@ tries-some port p = by (eqb (requestsAt p) 0) (x550em (port .family))
     by false true = refl
     by false false = refl
 
-pub few-readings : (p : Place) → readingsAt p ≤ 5
-unfolding readingsAt
-few-readings (Identifier left) = omega arith
-few-readings Comp1g = omega arith
-few-readings (Comp10g g1) = omega arith
-few-readings (Cable g1 g10) = omega arith
-few-readings (Rate c) = omega arith
-few-readings (Km c) = omega arith
-few-readings (Hm c km) = omega arith
-few-readings (Active c) = omega arith
-few-readings QsfpIdentifier = omega arith
-few-readings Qsfp10g = omega arith
-few-readings (Qsfp1g g10) = omega arith
-few-readings (QsfpConnector g10 g1) = omega arith
-few-readings (QsfpLength g10 g1) = omega arith
-few-readings (QsfpTechnology g10 g1) = omega arith
+few : (p : Place) → (readingsAt p ≤ 5) × (requestsAt p ≤ 7)
+few (Identifier left) = omega arith
+few Comp1g = omega arith
+few (Comp10g g1) = omega arith
+few (Cable g1 g10) = omega arith
+few (Rate c) = omega arith
+few (Km c) = omega arith
+few (Hm c km) = omega arith
+few (Active c) = omega arith
+few QsfpIdentifier = omega arith
+few Qsfp10g = omega arith
+few (Qsfp1g g10) = omega arith
+few (QsfpConnector g10 g1) = omega arith
+few (QsfpLength g10 g1) = omega arith
+few (QsfpTechnology g10 g1) = omega arith
 
 pub few-requests : (port : Port) (p : Place) → requestsAt p * attempts port ≤ 77
-unfolding requestsAt
-few-requests port (Identifier left) = omega arith
-few-requests port Comp1g = omega (arith, attempts-few port)
-few-requests port (Comp10g g1) = omega (arith, attempts-few port)
-few-requests port (Cable g1 g10) = omega (arith, attempts-few port)
-few-requests port (Rate c) = omega (arith, attempts-few port)
-few-requests port (Km c) = omega (arith, attempts-few port)
-few-requests port (Hm c km) = omega (arith, attempts-few port)
-few-requests port (Active c) = omega (arith, attempts-few port)
-few-requests port QsfpIdentifier = omega arith
-few-requests port Qsfp10g = omega (arith, attempts-few port)
-few-requests port (Qsfp1g g10) = omega (arith, attempts-few port)
-few-requests port (QsfpConnector g10 g1) = omega (arith, attempts-few port)
-few-requests port (QsfpLength g10 g1) = omega (arith, attempts-few port)
-few-requests port (QsfpTechnology g10 g1) = omega (arith, attempts-few port)
+few-requests port p = mul-le-mul (few p .1) (attempts-few port)
 
 pub cap-most : (port : Port) (p : Place) → capAt port p < MOST
 unfolding capAt most
-cap-most port p = omega (arith, few-readings p, few-requests port p)
+cap-most port p = omega (arith, few p .0, few-requests port p)
 
 -- byte 0 again, or the next byte
 pub cap-first : (port : Port) (left : ℕ) → capAt port (Identifier left) + triesAt port Comp1g ≤ capAt port Comp1g
-unfolding capAt most readingsAt requestsAt triesAt pick
+unfolding capAt most triesAt pick
 cap-first port left = omega arith
 
 pub cap-again : (port : Port) (left : ℕ) → (left ≡ 0 → ⊥) → validPlace (Identifier left) ≡ true
     → (validPlace (Identifier (left - 1)) ≡ true) × (capAt port (Identifier left) + triesAt port (Identifier (left - 1)) ≤ capAt port (Identifier (left - 1)))
-unfolding validPlace capAt most readingsAt requestsAt triesAt pick
+unfolding validPlace capAt most triesAt pick
 cap-again port zero n h = absurd (n refl)
-cap-again port (suc left) n h = (le-leb (suc left - 1) 4 (omega (arith, leb-true (suc left) 4 h)), omega (arith, leb-true (suc left) 4 h))
+cap-again port (suc left) n h = (lt-ltb 0 (5 - (suc left - 1)) (omega (arith, ltb-true 0 (5 - suc left) h)), omega (arith, ltb-true 0 (5 - suc left) h))
 
 pub placed-again : (port : Port) (left v : ℕ) → (left ≡ 0 → ⊥) → identifierOf port left v (identified port) ≡ placed port (Identifier (left - 1))
-unfolding identifierOf placed offsetAt triesAt requestsAt onAt pick
+unfolding identifierOf placed triesAt onAt pick
 placed-again port zero v n = absurd (n refl)
 placed-again port (suc left) v n = ap (λ k. byte port 0 11 (onAt port (Identifier k))) less
   where
@@ -109,7 +95,7 @@ onCoded Open f other = other
 
 kinded-is : (port : Port) (c : Codes) (bx : Bool)
     → onCoded (codedBy c bx) (λ kind. ret (Ok (recorded SFP c kind))) (placed port (Active c)) ≡ kinded port c bx
-unfolding codedBy kinded kindBy placed offsetAt triesAt requestsAt onAt pick
+unfolding codedBy kinded kindBy placed triesAt onAt pick
 kinded-is port c bx = by (has (c .cable) PASSIVE-DA) (has (c .cable) ACTIVE-DA) (λ kind. ret (Ok (recorded SFP c kind))) (placed port (Active c)) (fibreOf c bx)
   where
     by : (a b : Bool) (f : Kind → Prog (R Module)) (other : Prog (R Module)) (kind : Kind)
@@ -125,7 +111,7 @@ pub kinded-open : (port : Port) (c : Codes) (bx : Bool) → codedBy c bx ≡ Ope
 kinded-open port c bx e = ap (λ r. onCoded r (λ k. ret (Ok (recorded SFP c k))) (placed port (Active c))) (sym e) ∙ kinded-is port c bx
 
 qsfp-is : (port : Port) (g10 g1 : ℕ) → onCoded (qsfpCoded g10) (qsfpFound g10 g1) (placed port (QsfpConnector g10 g1)) ≡ qsfpClassify port g10 g1
-unfolding qsfpCoded qsfpClassify placed offsetAt triesAt requestsAt onAt pick
+unfolding qsfpCoded qsfpClassify placed triesAt onAt pick
 qsfp-is port g10 g1 = by (has g10 0x08) (has g10 0x30) (has g10 0x01) (qsfpFound g10 g1) (placed port (QsfpConnector g10 g1))
   where
     by : (a b c : Bool) (f : Kind → Prog (R Module)) (other : Prog (R Module))

@@ -17,61 +17,43 @@ use Rattle.sfp.specs.Identify.{EEPROM, orAbsent, byte, identifierOf, reachOf, k
 use Rattle.sfp.specs.Qsfp.{qsfpTechnology, qsfpLength, qsfpConnector, qsfpClassify, qsfpIdentified}
 use Rattle.identify.specs.declared.place.Place.{Place}
 use Rattle.identify.specs.declared.place.Place.the-variants.{Identifier, Comp1g, Comp10g, Cable, Rate, Km, Hm, Active, QsfpIdentifier, Qsfp10g, Qsfp1g, QsfpConnector, QsfpLength, QsfpTechnology}
+use Rattle.identify.specs.declared.place.Row.{Row}
 use Rattle.identify.specs.declared.place.Then.{Then}
 use Rattle.identify.specs.declared.place.Then.the-variants.{Request as Requests, Found, Failed}
 
-unfoldable pub offsetAt : Place → ℕ
-offsetAt (Identifier left) = 0
-offsetAt Comp1g = 6
-offsetAt (Comp10g g1) = 3
-offsetAt (Cable g1 g10) = 8
-offsetAt (Rate c) = 12
-offsetAt (Km c) = 14
-offsetAt (Hm c km) = 15
-offsetAt (Active c) = 60
-offsetAt QsfpIdentifier = 0
-offsetAt Qsfp10g = 0x83
-offsetAt (Qsfp1g g10) = 0x86
-offsetAt (QsfpConnector g10 g1) = 0x82
-offsetAt (QsfpLength g10 g1) = 0x92
-offsetAt (QsfpTechnology g10 g1) = 0x93
+-- of a place: the byte's offset; the most readings of byte 0, and how many of them are left; the requests after byte 0, this
+-- one among them
+abbrev row : ℕ → ℕ → ℕ → ℕ → Row
+row offset readings left requests = record { 0 = offset; 1 = readings; 2 = left; 3 = requests }
+
+abbrev pub rowAt : Place → Row
+rowAt (Identifier left) = row 0 5 left 0
+rowAt Comp1g = row 6 5 0 1
+rowAt (Comp10g g1) = row 3 5 0 2
+rowAt (Cable g1 g10) = row 8 5 0 3
+rowAt (Rate c) = row 12 5 0 4
+rowAt (Km c) = row 14 5 0 5
+rowAt (Hm c km) = row 15 5 0 6
+rowAt (Active c) = row 60 5 0 7
+rowAt QsfpIdentifier = row 0 1 0 0
+rowAt Qsfp10g = row 0x83 1 0 1
+rowAt (Qsfp1g g10) = row 0x86 1 0 2
+rowAt (QsfpConnector g10 g1) = row 0x82 1 0 3
+rowAt (QsfpLength g10 g1) = row 0x92 1 0 4
+rowAt (QsfpTechnology g10 g1) = row 0x93 1 0 5
+
+abbrev pub offsetAt : Place → ℕ
+offsetAt p = rowAt p .0
+
+-- the readings of byte 0, this one among them
+abbrev pub readingsAt : Place → ℕ
+readingsAt p = rowAt p .1 - rowAt p .2
+
+abbrev pub requestsAt : Place → ℕ
+requestsAt p = rowAt p .3
 
 unfoldable pub requestAt : Place → Request
 requestAt p = ReadByte EEPROM (offsetAt p)
-
--- the requests after byte 0, this one among them
-unfoldable pub requestsAt : Place → ℕ
-requestsAt (Identifier left) = 0
-requestsAt Comp1g = 1
-requestsAt (Comp10g g1) = 2
-requestsAt (Cable g1 g10) = 3
-requestsAt (Rate c) = 4
-requestsAt (Km c) = 5
-requestsAt (Hm c km) = 6
-requestsAt (Active c) = 7
-requestsAt QsfpIdentifier = 0
-requestsAt Qsfp10g = 1
-requestsAt (Qsfp1g g10) = 2
-requestsAt (QsfpConnector g10 g1) = 3
-requestsAt (QsfpLength g10 g1) = 4
-requestsAt (QsfpTechnology g10 g1) = 5
-
--- the most readings of byte 0, this one among them
-unfoldable pub readingsAt : Place → ℕ
-readingsAt (Identifier left) = 5 - left
-readingsAt Comp1g = 5
-readingsAt (Comp10g g1) = 5
-readingsAt (Cable g1 g10) = 5
-readingsAt (Rate c) = 5
-readingsAt (Km c) = 5
-readingsAt (Hm c km) = 5
-readingsAt (Active c) = 5
-readingsAt QsfpIdentifier = 1
-readingsAt Qsfp10g = 1
-readingsAt (Qsfp1g g10) = 1
-readingsAt (QsfpConnector g10 g1) = 1
-readingsAt (QsfpLength g10 g1) = 1
-readingsAt (QsfpTechnology g10 g1) = 1
 
 -- byte 0 gets the long probe's attempts
 unfoldable pub triesAt : Port → Place → ℕ
@@ -85,22 +67,9 @@ most port readings requests = readings * 11 + requests * attempts port
 unfoldable pub capAt : Port → Place → ℕ
 capAt port p = most port (readingsAt p) (requestsAt p)
 
--- byte 0 is requested at most five times
+-- byte 0 is requested at most five times, once at least
 unfoldable pub validPlace : Place → Bool
-validPlace (Identifier left) = leb left 4
-validPlace Comp1g = true
-validPlace (Comp10g g1) = true
-validPlace (Cable g1 g10) = true
-validPlace (Rate c) = true
-validPlace (Km c) = true
-validPlace (Hm c km) = true
-validPlace (Active c) = true
-validPlace QsfpIdentifier = true
-validPlace Qsfp10g = true
-validPlace (Qsfp1g g10) = true
-validPlace (QsfpConnector g10 g1) = true
-validPlace (QsfpLength g10 g1) = true
-validPlace (QsfpTechnology g10 g1) = true
+validPlace p = ltb 0 (readingsAt p)
 
 -- the kind of an SFP once the 10G-BX test is decided
 unfoldable pub kinded : Port → Codes → Bool → Prog (R Module)

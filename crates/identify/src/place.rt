@@ -15,7 +15,7 @@ ghost use Rattle.transfer.specs.Attempt.{got};
 ghost use Rattle.sfp.specs.Identify.{orAbsent, recorded, classify};
 ghost use Rattle.hardware.specs.Prog.{ret, Ok, Err};
 ghost use Rattle.sfp.specs.Qsfp.{qsfpClassify, qsfpIdentified, qsfpFound};
-ghost use Rattle.identify.specs.Place.{offsetAt, requestAt, requestsAt, readingsAt, triesAt, most, capAt, validPlace, onAt, kinded, toldAt, onward, Later};
+ghost use Rattle.identify.specs.Place.{rowAt, readingsAt, requestAt, triesAt, most, capAt, validPlace, onAt, kinded, toldAt, onward, Later};
 ghost use Rattle.i2c.specs.I2c.{attempts};
 
 // The byte that is requested, with those read before it. Identifier: with the readings left after this one. The codes of
@@ -46,87 +46,53 @@ pub enum Then {
 
 const EEPROM: u8 = 0xa0;
 
-fn offset(p: Place) -> u8
-    ensures { λ n. ⌜ n ≡ offsetAt p ⌝ }
+// Of a place: the byte's offset; the most readings of byte 0, and how many of them are left; the requests after byte 0, this
+// one among them.
+struct Row(u8, u8, u8, u8);
+
+fn row_at(p: Place) -> Row
+    ensures { λ r. ⌜ (r .0 ≡ rowAt p .0) × (r .1 ≡ rowAt p .1) × (r .2 ≡ rowAt p .2) × (r .3 ≡ rowAt p .3) ⌝ }
 {
     match p {
-        Place::Identifier(_) => 0,
-        Place::Comp1g => 6,
-        Place::Comp10g(_) => 3,
-        Place::Cable(_, _) => 8,
-        Place::Rate(_) => 12,
-        Place::Km(_) => 14,
-        Place::Hm(_, _) => 15,
-        Place::Active(_) => 60,
-        Place::QsfpIdentifier => 0,
-        Place::Qsfp10g => 0x83,
-        Place::Qsfp1g(_) => 0x86,
-        Place::QsfpConnector(_, _) => 0x82,
-        Place::QsfpLength(_, _) => 0x92,
-        Place::QsfpTechnology(_, _) => 0x93,
+        Place::Identifier(left) => Row(0, 5, left, 0),
+        Place::Comp1g => Row(6, 5, 0, 1),
+        Place::Comp10g(_) => Row(3, 5, 0, 2),
+        Place::Cable(_, _) => Row(8, 5, 0, 3),
+        Place::Rate(_) => Row(12, 5, 0, 4),
+        Place::Km(_) => Row(14, 5, 0, 5),
+        Place::Hm(_, _) => Row(15, 5, 0, 6),
+        Place::Active(_) => Row(60, 5, 0, 7),
+        Place::QsfpIdentifier => Row(0, 1, 0, 0),
+        Place::Qsfp10g => Row(0x83, 1, 0, 1),
+        Place::Qsfp1g(_) => Row(0x86, 1, 0, 2),
+        Place::QsfpConnector(_, _) => Row(0x82, 1, 0, 3),
+        Place::QsfpLength(_, _) => Row(0x92, 1, 0, 4),
+        Place::QsfpTechnology(_, _) => Row(0x93, 1, 0, 5),
     }
 }
 
 pub fn request(p: Place) -> Request
     ensures { λ r. ⌜ r ≡ requestAt p ⌝ }
 {
-    Request::ReadByte(EEPROM, offset(p))
+    Request::ReadByte(EEPROM, row_at(p).0)
 }
 
-// The requests after byte 0, this one among them.
-fn requests(p: Place) -> u32
-    ensures { λ n. ⌜ n ≡ requestsAt p ⌝ }
-{
-    match p {
-        Place::Identifier(_) => 0,
-        Place::Comp1g => 1,
-        Place::Comp10g(_) => 2,
-        Place::Cable(_, _) => 3,
-        Place::Rate(_) => 4,
-        Place::Km(_) => 5,
-        Place::Hm(_, _) => 6,
-        Place::Active(_) => 7,
-        Place::QsfpIdentifier => 0,
-        Place::Qsfp10g => 1,
-        Place::Qsfp1g(_) => 2,
-        Place::QsfpConnector(_, _) => 3,
-        Place::QsfpLength(_, _) => 4,
-        Place::QsfpTechnology(_, _) => 5,
-    }
-}
-
-// The most readings of byte 0, this one among them.
-fn readings(p: Place) -> u32
+// The readings of byte 0, this one among them.
+fn readings(p: Place) -> u8
     ensures { λ n. ⌜ n ≡ readingsAt p ⌝ }
 {
-    match p {
-        Place::Identifier(left) => {
-            if left < 5 {
-                return 5 - left as u32;
-            }
-            0
-        }
-        Place::Comp1g => 5,
-        Place::Comp10g(_) => 5,
-        Place::Cable(_, _) => 5,
-        Place::Rate(_) => 5,
-        Place::Km(_) => 5,
-        Place::Hm(_, _) => 5,
-        Place::Active(_) => 5,
-        Place::QsfpIdentifier => 1,
-        Place::Qsfp10g => 1,
-        Place::Qsfp1g(_) => 1,
-        Place::QsfpConnector(_, _) => 1,
-        Place::QsfpLength(_, _) => 1,
-        Place::QsfpTechnology(_, _) => 1,
+    let r = row_at(p);
+    if r.2 < r.1 {
+        return r.1 - r.2;
     }
+    0
 }
 
 // A module's first byte gets the long probe's attempts.
 pub fn tries(port: Port, p: Place) -> u8
     ensures { λ n. ⌜ n ≡ triesAt port p ⌝ }
 {
-    if requests(p) == 0 {
+    if row_at(p).3 == 0 {
         return 11;
     }
     i2c::attempts(port) as u8
@@ -136,29 +102,14 @@ pub fn tries(port: Port, p: Place) -> u8
 pub fn cap(port: Port, p: Place) -> u32
     ensures { λ n. ⌜ n ≡ capAt port p ⌝ }
 {
-    readings(p) * 11 + requests(p) * i2c::attempts(port)
+    readings(p) as u32 * 11 + row_at(p).3 as u32 * i2c::attempts(port)
 }
 
 // Byte 0 is requested at most five times.
 pub fn valid(p: Place) -> bool
     ensures { λ b. ⌜ b ≡ validPlace p ⌝ }
 {
-    match p {
-        Place::Identifier(left) => left <= 4,
-        Place::Comp1g => true,
-        Place::Comp10g(_) => true,
-        Place::Cable(_, _) => true,
-        Place::Rate(_) => true,
-        Place::Km(_) => true,
-        Place::Hm(_, _) => true,
-        Place::Active(_) => true,
-        Place::QsfpIdentifier => true,
-        Place::Qsfp10g => true,
-        Place::Qsfp1g(_) => true,
-        Place::QsfpConnector(_, _) => true,
-        Place::QsfpLength(_, _) => true,
-        Place::QsfpTechnology(_, _) => true,
-    }
+    0 < readings(p)
 }
 
 fn found(c: Codes, kind: Kind) -> Then

@@ -3,7 +3,7 @@ use Rattle.hardware.proofs.Laws.{opened-valid}
 use Rattle.hardware.specs.Asked.{andThen, portOpened, yes}
 use Rattle.hardware.specs.Prog.{pick, tally, tally-erase}
 use Rattle.identify.specs.Calls.{openIdentify, saidIdentify, standsIdentify}
-use Rattle.identify.specs.Place.{capAt, most, offsetAt, onAt, placed, readingsAt, requestsAt, triesAt, validPlace}
+use Rattle.identify.specs.Place.{capAt, most, onAt, placed, triesAt, validPlace}
 use Rattle.sfp.specs.Identify.{identifierOf, identify}
 use borrow.Author.Needs.{needs}
 use mathlib.Core.Path.{_∙_, ap, refl}
@@ -27,7 +27,7 @@ enum-known-q : tie.Need-enum-known-q
 enum-known-q c = search needs
 
 returns : tie.Need-returns
-unfolding openIdentify identify identifierOf andThen portOpened placed offsetAt triesAt requestsAt readingsAt most onAt validPlace capAt pick
+unfolding openIdentify identify identifierOf andThen portOpened placed triesAt most onAt validPlace capAt pick
 returns c = (rw (← c .before .before .before .before .before .open-port .ensures, c .before .before .before .p .given .1) (c .told .ensures .0 (omega arith) ∙ ap yes (ap (tally 0) (c .before .begin .ensures .0) ∙ tally-erase 0 _)), c .told .ensures .1 (opened-valid _ _ _ (c .before .before .before .p .given .1) (c .before .before .before .before .before .open-port .ensures)) (c .before .begin .ensures .1 0 refl (omega arith)))
 
 returns-2 : tie.Need-returns-2

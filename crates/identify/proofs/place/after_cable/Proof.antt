@@ -1,6 +1,6 @@
 -- `after_cable` meets its contract.
 use Rattle.hardware.specs.Prog.{pick}
-use Rattle.identify.specs.Place.{Later, capAt, kinded, most, offsetAt, onAt, onward, placed, readingsAt, requestsAt, triesAt, validPlace}
+use Rattle.identify.specs.Place.{Later, capAt, kinded, most, onAt, onward, placed, triesAt, validPlace}
 use Rattle.sfp.specs.Bytes.{codesAskRate}
 use Rattle.sfp.specs.Identify.{bx10gOf, classify}
 use borrow.Author.Needs.{needs}
@@ -13,7 +13,7 @@ asks-rate-requires : tie.Need-asks-rate-requires
 asks-rate-requires c κs = search needs
 
 returns : tie.Need-returns
-unfolding onward Later placed offsetAt triesAt requestsAt validPlace pick onAt classify bx10gOf kinded codesAskRate capAt readingsAt most
+unfolding onward Later placed triesAt validPlace pick onAt classify bx10gOf kinded codesAskRate capAt most
 returns c = (λ port. rw (← c .before .asks-rate .ensures, c .if1 .taken), λ port. (refl, omega arith))
 
 kinded-requires : tie.Need-kinded-requires

@@ -1,6 +1,6 @@
 -- `after_connector` meets its contract.
 use Rattle.hardware.specs.Prog.{pick}
-use Rattle.identify.specs.Place.{Later, capAt, most, offsetAt, onAt, onward, placed, readingsAt, requestsAt, triesAt, validPlace}
+use Rattle.identify.specs.Place.{Later, capAt, most, onAt, onward, placed, triesAt, validPlace}
 use Rattle.sfp.specs.Qsfp.{qsfpConnector}
 use borrow.Author.Needs.{needs}
 use mathlib.Core.Path.{refl}
@@ -12,7 +12,7 @@ fixed-requires : tie.Need-fixed-requires
 fixed-requires c κs = search needs
 
 returns : tie.Need-returns
-unfolding onward Later placed offsetAt triesAt requestsAt validPlace pick onAt qsfpConnector capAt readingsAt most
+unfolding onward Later placed triesAt validPlace pick onAt qsfpConnector capAt most
 returns c = (λ port. rw (← c .before .fixed .ensures, c .if1 .taken), λ port. (refl, omega arith))
 
 qsfp-found-requires : tie.Need-qsfp-found-requires

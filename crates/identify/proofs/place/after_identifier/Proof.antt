@@ -1,7 +1,7 @@
 -- `after_identifier` meets its contract.
 use Rattle.hardware.specs.Prog.{pick}
 use Rattle.identify.proofs.Laws.{cap-again, cap-first, placed-again}
-use Rattle.identify.specs.Place.{Later, offsetAt, onAt, onward, placed, requestsAt, triesAt, validPlace}
+use Rattle.identify.specs.Place.{Later, onAt, onward, placed, triesAt, validPlace}
 use Rattle.sfp.specs.Identify.{identified, identifierOf, known}
 use borrow.Author.Needs.{needs}
 use borrow.Author.Tests.{ne-eqb}
@@ -10,7 +10,7 @@ use Rattle.identify.proofs.place.after_identifier.Statement.{statement}
 use Rattle.identify.proofs.place.after_identifier.Tie as tie
 
 returns : tie.Need-returns
-unfolding onward Later placed offsetAt triesAt requestsAt validPlace pick onAt identified known
+unfolding onward Later placed triesAt validPlace pick onAt identified known
 returns c = (λ port. rw (c .if1 .taken), λ port h. (refl, cap-first port _))
 
 other-requires : tie.Need-other-requires

@@ -1,6 +1,6 @@
 -- `after_length` meets its contract.
 use Rattle.hardware.specs.Prog.{pick}
-use Rattle.identify.specs.Place.{Later, capAt, most, offsetAt, onAt, onward, placed, readingsAt, requestsAt, triesAt, validPlace}
+use Rattle.identify.specs.Place.{Later, capAt, most, onAt, onward, placed, triesAt, validPlace}
 use Rattle.sfp.specs.Qsfp.{qsfpLength}
 use borrow.Author.Needs.{needs}
 use mathlib.Core.Path.{refl}
@@ -12,7 +12,7 @@ measured-requires : tie.Need-measured-requires
 measured-requires c κs = search needs
 
 returns : tie.Need-returns
-unfolding onward Later placed offsetAt triesAt requestsAt validPlace pick onAt qsfpLength capAt readingsAt most
+unfolding onward Later placed triesAt validPlace pick onAt qsfpLength capAt most
 returns c = (λ port. rw (← c .before .measured .ensures, c .if1 .taken), λ port. (refl, omega arith))
 
 qsfp-found-requires : tie.Need-qsfp-found-requires

@@ -1,6 +1,6 @@
 -- `after_qsfp_identifier` meets its contract.
 use Rattle.hardware.specs.Prog.{pick}
-use Rattle.identify.specs.Place.{Later, capAt, most, offsetAt, onAt, onward, placed, readingsAt, requestsAt, triesAt, validPlace}
+use Rattle.identify.specs.Place.{Later, capAt, most, onAt, onward, placed, triesAt, validPlace}
 use Rattle.sfp.specs.Qsfp.{qsfpIdentified, qsfpKnown}
 use borrow.Author.Needs.{needs}
 use borrow.Author.Tests.{ne-eqb}
@@ -10,7 +10,7 @@ use Rattle.identify.proofs.place.after_qsfp_identifier.Statement.{state
 use Rattle.identify.proofs.place.after_qsfp_identifier.Tie as tie
 
 returns : tie.Need-returns
-unfolding onward Later placed offsetAt triesAt requestsAt validPlace pick onAt qsfpIdentified qsfpKnown capAt readingsAt most
+unfolding onward Later placed triesAt validPlace pick onAt qsfpIdentified qsfpKnown capAt most
 returns c = (λ port. rw (c .if1 .taken), λ port. (refl, omega arith))
 
 other-requires : tie.Need-other-requires

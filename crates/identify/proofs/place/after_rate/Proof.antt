@@ -1,6 +1,6 @@
 -- `after_rate` meets its contract.
 use Rattle.hardware.specs.Prog.{pick}
-use Rattle.identify.specs.Place.{Later, capAt, most, offsetAt, onAt, onward, placed, readingsAt, requestsAt, triesAt, validPlace}
+use Rattle.identify.specs.Place.{Later, capAt, most, onAt, onward, placed, triesAt, validPlace}
 use Rattle.sfp.specs.Identify.{reachOf}
 use borrow.Author.Needs.{needs}
 use borrow.Author.Tests.{ne-eqb}
@@ -10,7 +10,7 @@ use Rattle.identify.proofs.place.after_rate.Statement.{statement}
 use Rattle.identify.proofs.place.after_rate.Tie as tie
 
 returns : tie.Need-returns
-unfolding onward Later placed offsetAt triesAt requestsAt validPlace pick onAt reachOf capAt readingsAt most
+unfolding onward Later placed triesAt validPlace pick onAt reachOf capAt most
 returns c = (λ port. rw (c .if1 .taken), λ port. (refl, omega arith))
 
 kinded-requires : tie.Need-kinded-requires

@@ -1,6 +1,6 @@
 -- `on` meets its contract.
 use Rattle.hardware.specs.Prog.{pick}
-use Rattle.identify.specs.Place.{Later, capAt, most, offsetAt, onAt, onward, placed, readingsAt, requestsAt, triesAt, validPlace}
+use Rattle.identify.specs.Place.{Later, capAt, most, onAt, onward, placed, triesAt, validPlace}
 use borrow.Author.Needs.{needs}
 use mathlib.Core.Path.{refl}
 use native.Mathlib.Omega.{arith}
@@ -89,27 +89,27 @@ returns : tie.Need-returns
 returns c = rw (c .before .before .p .given .1) (c .after-identifier .ensures)
 
 returns-2 : tie.Need-returns-2
-unfolding onward Later placed offsetAt triesAt requestsAt validPlace pick onAt capAt readingsAt most
+unfolding onward Later placed triesAt validPlace pick onAt capAt most
 returns-2 c = rw (c .enum-told .given .1) (λ port. refl, λ port h. (refl, omega arith))
 
 returns-3 : tie.Need-returns-3
-unfolding onward Later placed offsetAt triesAt requestsAt validPlace pick onAt capAt readingsAt most
+unfolding onward Later placed triesAt validPlace pick onAt capAt most
 returns-3 c = rw (c .before .p2 .given .1) (λ port. refl, λ port h. (refl, omega arith))
 
 returns-4 : tie.Need-returns-4
-unfolding onAt capAt readingsAt requestsAt most
+unfolding onAt capAt most
 returns-4 c = rw (c .before .before .p3 .given .1) (c .after-cable .ensures .0, λ port h. c .after-cable .ensures .1 port)
 
 returns-5 : tie.Need-returns-5
-unfolding capAt readingsAt requestsAt most
+unfolding capAt most
 returns-5 c = rw (c .before .before .p4 .given .1) (c .after-rate .ensures .0, λ port h. c .after-rate .ensures .1 port)
 
 returns-6 : tie.Need-returns-6
-unfolding onward Later placed offsetAt triesAt requestsAt validPlace pick onAt capAt readingsAt most
+unfolding onward Later placed triesAt validPlace pick onAt capAt most
 returns-6 c = rw (c .before .p5 .given .1) (λ port. refl, λ port h. (refl, omega arith))
 
 returns-7 : tie.Need-returns-7
-unfolding onAt capAt readingsAt requestsAt most
+unfolding onAt capAt most
 returns-7 c = rw (c .before .before .before .p6 .given .1) (λ port. rw (← c .before .reach .ensures) (c .kinded .ensures .0 port), λ port h. c .kinded .ensures .1 port _ (omega arith))
 
 returns-8 : tie.Need-returns-8
@@ -117,23 +117,23 @@ unfolding onAt
 returns-8 c = rw (c .before .before .before .p7 .given .1) (λ port. rw (← c .before .cable-of .ensures) (c .found .ensures .0 port), λ port h. c .found .ensures .1 port _)
 
 returns-9 : tie.Need-returns-9
-unfolding onAt capAt readingsAt requestsAt most
+unfolding onAt capAt most
 returns-9 c = rw (c .before .enum-told2 .given .1) (c .after-qsfp-identifier .ensures .0, λ port h. c .after-qsfp-identifier .ensures .1 port)
 
 returns-10 : tie.Need-returns-10
-unfolding onward Later placed offsetAt triesAt requestsAt validPlace pick onAt capAt readingsAt most
+unfolding onward Later placed triesAt validPlace pick onAt capAt most
 returns-10 c = rw (c .enum-told3 .given .1) (λ port. refl, λ port h. (refl, omega arith))
 
 returns-11 : tie.Need-returns-11
-unfolding onAt capAt readingsAt requestsAt most
+unfolding onAt capAt most
 returns-11 c = rw (c .before .before .p8 .given .1) (c .qsfp-codes .ensures .0, λ port h. c .qsfp-codes .ensures .1 port)
 
 returns-12 : tie.Need-returns-12
-unfolding capAt readingsAt requestsAt most
+unfolding capAt most
 returns-12 c = rw (c .before .before .p9 .given .1) (c .after-connector .ensures .0, λ port h. c .after-connector .ensures .1 port)
 
 returns-13 : tie.Need-returns-13
-unfolding capAt readingsAt requestsAt most
+unfolding capAt most
 returns-13 c = rw (c .before .before .p10 .given .1) (c .after-length .ensures .0, λ port h. c .after-length .ensures .1 port)
 
 returns-14 : tie.Need-returns-14

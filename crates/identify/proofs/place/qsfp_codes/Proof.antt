@@ -1,7 +1,7 @@
 -- `qsfp_codes` meets its contract.
 use Rattle.hardware.specs.Prog.{pick}
 use Rattle.identify.proofs.Laws.{qsfp-known, qsfp-open}
-use Rattle.identify.specs.Place.{Later, capAt, most, onward, readingsAt, requestsAt, triesAt, validPlace}
+use Rattle.identify.specs.Place.{Later, capAt, most, onward, triesAt, validPlace}
 use borrow.Author.Needs.{needs}
 use mathlib.Core.Path.{_∙_, refl, sym}
 use native.Mathlib.Omega.{arith}
@@ -24,7 +24,7 @@ returns : tie.Need-returns
 returns c = (λ port. c .qsfp-found .ensures .0 port ∙ qsfp-known port _ _ _ (sym (c .before .before .before .before .coded .ensures) ∙ c .before .before .kind .given .1), λ port. c .qsfp-found .ensures .1 port _)
 
 returns-2 : tie.Need-returns-2
-unfolding onward Later triesAt requestsAt validPlace pick capAt readingsAt most
+unfolding onward Later triesAt validPlace pick capAt most
 returns-2 c = (λ port. qsfp-open port _ _ (sym (c .before .before .coded .ensures) ∙ c .enum-told .given .1), λ port. (refl, omega arith))
 
 pub qsfp-codes-spec : {M : Type 1} → statement M

@@ -4,12 +4,12 @@ use borrow.Author.Needs.{needs}
 use Rattle.identify.proofs.place.request.Statement.{statement}
 use Rattle.identify.proofs.place.request.Tie as tie
 
-offset-requires : tie.Need-offset-requires
-offset-requires c κs = search needs
+row-at-requires : tie.Need-row-at-requires
+row-at-requires c κs = search needs
 
 returns : tie.Need-returns
 unfolding requestAt
-returns c = rw (c .offset .ensures)
+returns c = rw (c .row-at .ensures .0)
 
 pub request-spec : {M : Type 1} → statement M
-request-spec = tie.close (tie.spec offset-requires returns)
+request-spec = tie.close (tie.spec row-at-requires returns)

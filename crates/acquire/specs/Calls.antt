@@ -1,12 +1,15 @@
 -- What the public calls of `acquire` and `release` yield: a refusal by its number, or what is left of the call.
 use Prim.Native.Nat.{ℕ}
 use mathlib.Core.Path.{_≡_}
-use mathlib.Core.Bool.{true}
+use mathlib.Core.Bool.{Bool, true, false}
 use Rattle.hardware.specs.declared.Answer.{Answer}
-use Rattle.hardware.specs.Asked.{Asked, yes, no, question, andThen, openPort, validPort, fits}
+use Rattle.hardware.specs.declared.Port.{Port}
+use Rattle.hardware.specs.Asked.{Asked, yes, no, andThen, openPort, validPort, admitting}
 use Rattle.hardware.specs.Numbers.{refusalNumber}
-use Rattle.hardware.specs.Prog.{Prog, ret, ask, erase, R}
+use Rattle.hardware.specs.Prog.{Prog, ret, ask, erase, R, pick}
 use Rattle.hardware.specs.Registers.{outcome}
+use Rattle.acquire.specs.declared.acquire.Acquire.{Acquire}
+use Rattle.acquire.specs.declared.release.Release.{Release}
 use Rattle.acquire.specs.declared.calls.AcquireCall.{AcquireCall}
 use Rattle.acquire.specs.declared.calls.AcquireCall.the-variants.{Going as AcquireGoing, Over as AcquireOver}
 use Rattle.acquire.specs.declared.calls.AcquireTold.{AcquireTold}
@@ -22,11 +25,12 @@ use Rattle.acquire.specs.Acquire.{accessAcquire, restAcquire, validAcqui
 unfoldable pub openAcquire : ℕ → ℕ → ℕ → ℕ → Asked (Prog (R (Unit {0})))
 openAcquire family device lan mask = andThen (openPort family device lan) (λ port. yes (erase (acquire port mask)))
 
+unfoldable pub validAcquireCall : Port → Acquire → Bool
+validAcquireCall port t = pick (validPort port) (validAcquire port t) false
+
 -- a step: 10, 11, 12
 unfoldable pub stepAcquire : AcquireCall → Answer → Asked (Prog (R (Unit {0})))
-stepAcquire (AcquireGoing port hw t) a =
-    question (validPort port) 10
-    (question (validAcquire port t) 10 (question (fits (accessAcquire port hw t) a) 12 (yes (erase (restAcquire port hw t a)))))
+stepAcquire (AcquireGoing port hw t) a = admitting (validAcquireCall port t) (accessAcquire port hw t) a (yes (erase (restAcquire port hw t a)))
 stepAcquire AcquireOver a = no 11
 
 unfoldable pub saidAcquire : AcquireTold → Asked (Prog (R (Unit {0})))
@@ -37,7 +41,7 @@ saidAcquire (AcquireRefused q) = no (refusalNumber q)
 
 -- a state to go on from comes with the access it awaits, and passes question 10
 unfoldable pub standsAcquire : AcquireTold → Type 0
-standsAcquire (AcquireAsk x (AcquireGoing port hw t)) = (x ≡ accessAcquire port hw t) × (validPort port ≡ true) × (validAcquire port t ≡ true)
+standsAcquire (AcquireAsk x (AcquireGoing port hw t)) = (x ≡ accessAcquire port hw t) × (validAcquireCall port t ≡ true)
 standsAcquire (AcquireAsk x AcquireOver) = ⊥
 standsAcquire (AcquireEnd o) = Unit {0}
 standsAcquire (AcquireRefused q) = Unit {0}
@@ -46,10 +50,11 @@ standsAcquire (AcquireRefused q) = Unit {0}
 unfoldable pub openRelease : ℕ → ℕ → ℕ → ℕ → Asked (Prog (R (Unit {0})))
 openRelease family device lan mask = andThen (openPort family device lan) (λ port. yes (erase (release port mask)))
 
+unfoldable pub validReleaseCall : Port → Release → Bool
+validReleaseCall port t = pick (validPort port) (validRelease port t) false
+
 unfoldable pub stepRelease : ReleaseCall → Answer → Asked (Prog (R (Unit {0})))
-stepRelease (ReleaseGoing port hw t) a =
-    question (validPort port) 10
-    (question (validRelease port t) 10 (question (fits (accessRelease port hw t) a) 12 (yes (erase (restRelease port hw t a)))))
+stepRelease (ReleaseGoing port hw t) a = admitting (validReleaseCall port t) (accessRelease port hw t) a (yes (erase (restRelease port hw t a)))
 stepRelease ReleaseOver a = no 11
 
 unfoldable pub saidRelease : ReleaseTold → Asked (Prog (R (Unit {0})))
@@ -59,7 +64,7 @@ saidRelease (ReleaseEnd o) = yes (ret (outcome o))
 saidRelease (ReleaseRefused q) = no (refusalNumber q)
 
 unfoldable pub standsRelease : ReleaseTold → Type 0
-standsRelease (ReleaseAsk x (ReleaseGoing port hw t)) = (x ≡ accessRelease port hw t) × (validPort port ≡ true) × (validRelease port t ≡ true)
+standsRelease (ReleaseAsk x (ReleaseGoing port hw t)) = (x ≡ accessRelease port hw t) × (validReleaseCall port t ≡ true)
 standsRelease (ReleaseAsk x ReleaseOver) = ⊥
 standsRelease (ReleaseEnd o) = Unit {0}
 standsRelease (ReleaseRefused q) = Unit {0}

@@ -4,6 +4,7 @@ use crate::acquire::AcquireNext;
 use crate::release::Release;
 use crate::release::ReleaseNext;
 use hardware::Access;
+use hardware::Admitted;
 use hardware::Answer;
 use hardware::Opening;
 use hardware::Outcome;
@@ -12,8 +13,9 @@ use hardware::Refusal;
 ghost use mathlib.Core.Path.{_≡_};
 ghost use mathlib.Core.Bool.{true};
 ghost use Rattle.hardware.specs.Asked.{yes, validPort};
+ghost use Rattle.hardware.specs.Promise.{Keeps};
 ghost use Rattle.acquire.specs.Acquire.{acquireNext, validAcquireNext, releaseNext, validReleaseNext};
-ghost use Rattle.acquire.specs.Calls.{openAcquire, stepAcquire, saidAcquire, standsAcquire, openRelease, stepRelease, saidRelease, standsRelease};
+ghost use Rattle.acquire.specs.Calls.{openAcquire, validAcquireCall, stepAcquire, saidAcquire, standsAcquire, openRelease, validReleaseCall, stepRelease, saidRelease, standsRelease};
 
 // With the port and the mask's bits of SW_FW_SYNC.
 pub enum AcquireCall {
@@ -39,8 +41,7 @@ pub enum ReleaseTold {
 }
 
 fn acquire_told(port: Port, hw: u32, n: AcquireNext) -> AcquireTold
-    ensures { λ r. ⌜ saidAcquire r ≡ yes (acquireNext port hw n) ⌝ }
-    ensures { λ r. ⌜ (validPort port ≡ true → validAcquireNext port n ≡ true → standsAcquire r) ⌝ }
+    ensures { λ r. ⌜ Keeps (saidAcquire r ≡ yes (acquireNext port hw n)) (validPort port ≡ true → validAcquireNext port n ≡ true → standsAcquire r) ⌝ }
 {
     match n {
         AcquireNext::Going(t) => AcquireTold::Ask(
@@ -52,8 +53,7 @@ fn acquire_told(port: Port, hw: u32, n: AcquireNext) -> AcquireTold
 }
 
 pub fn acquire_open(family: u32, device: u16, lan: u32, mask: u32) -> AcquireTold
-    ensures { λ r. ⌜ saidAcquire r ≡ openAcquire family device lan mask ⌝ }
-    ensures { λ r. ⌜ standsAcquire r ⌝ }
+    ensures { λ r. ⌜ Keeps (saidAcquire r ≡ openAcquire family device lan mask) (standsAcquire r) ⌝ }
 {
     match hardware::open_port(family, device, lan) {
         Opening::Port(p) => acquire_told(
@@ -65,29 +65,35 @@ pub fn acquire_open(family: u32, device: u16, lan: u32, mask: u32) -> AcquireTol
     }
 }
 
+fn valid_acquire(port: Port, t: Acquire) -> bool
+    ensures { λ r. ⌜ r ≡ validAcquireCall port t ⌝ }
+{
+    if hardware::valid_port(port) {
+        return crate::acquire::valid(port, t);
+    }
+    false
+}
+
 pub fn acquire_step(s: AcquireCall, a: Answer) -> AcquireTold
-    ensures { λ r. ⌜ saidAcquire r ≡ stepAcquire s a ⌝ }
-    ensures { λ r. ⌜ standsAcquire r ⌝ }
+    ensures { λ r. ⌜ Keeps (saidAcquire r ≡ stepAcquire s a) (standsAcquire r) ⌝ }
 {
     match s {
         AcquireCall::Going(port, hw, t) => {
-            if hardware::valid_port(port) {
-                if crate::acquire::valid(port, t) {
-                    if hardware::awaited(crate::acquire::access(port, hw, t), a) {
-                        return acquire_told(port, hw, crate::acquire::step(port, hw, t, a));
-                    }
-                    return AcquireTold::Refused(Refusal::Kind);
-                }
+            match hardware::admit(
+                valid_acquire(port, t),
+                crate::acquire::access(port, hw, t),
+                a,
+            ) {
+                Admitted::Yes => acquire_told(port, hw, crate::acquire::step(port, hw, t, a)),
+                Admitted::No(q) => AcquireTold::Refused(q),
             }
-            AcquireTold::Refused(Refusal::State)
         }
         AcquireCall::Over => AcquireTold::Refused(Refusal::Finished),
     }
 }
 
 fn release_told(port: Port, hw: u32, n: ReleaseNext) -> ReleaseTold
-    ensures { λ r. ⌜ saidRelease r ≡ yes (releaseNext port hw n) ⌝ }
-    ensures { λ r. ⌜ (validPort port ≡ true → validReleaseNext port n ≡ true → standsRelease r) ⌝ }
+    ensures { λ r. ⌜ Keeps (saidRelease r ≡ yes (releaseNext port hw n)) (validPort port ≡ true → validReleaseNext port n ≡ true → standsRelease r) ⌝ }
 {
     match n {
         ReleaseNext::Going(t) => ReleaseTold::Ask(
@@ -99,8 +105,7 @@ fn release_told(port: Port, hw: u32, n: ReleaseNext) -> ReleaseTold
 }
 
 pub fn release_open(family: u32, device: u16, lan: u32, mask: u32) -> ReleaseTold
-    ensures { λ r. ⌜ saidRelease r ≡ openRelease family device lan mask ⌝ }
-    ensures { λ r. ⌜ standsRelease r ⌝ }
+    ensures { λ r. ⌜ Keeps (saidRelease r ≡ openRelease family device lan mask) (standsRelease r) ⌝ }
 {
     match hardware::open_port(family, device, lan) {
         Opening::Port(p) => release_told(
@@ -112,21 +117,28 @@ pub fn release_open(family: u32, device: u16, lan: u32, mask: u32) -> ReleaseTol
     }
 }
 
+fn valid_release(port: Port, t: Release) -> bool
+    ensures { λ r. ⌜ r ≡ validReleaseCall port t ⌝ }
+{
+    if hardware::valid_port(port) {
+        return crate::release::valid(port, t);
+    }
+    false
+}
+
 pub fn release_step(s: ReleaseCall, a: Answer) -> ReleaseTold
-    ensures { λ r. ⌜ saidRelease r ≡ stepRelease s a ⌝ }
-    ensures { λ r. ⌜ standsRelease r ⌝ }
+    ensures { λ r. ⌜ Keeps (saidRelease r ≡ stepRelease s a) (standsRelease r) ⌝ }
 {
     match s {
         ReleaseCall::Going(port, hw, t) => {
-            if hardware::valid_port(port) {
-                if crate::release::valid(port, t) {
-                    if hardware::awaited(crate::release::access(port, hw, t), a) {
-                        return release_told(port, hw, crate::release::step(port, hw, t, a));
-                    }
-                    return ReleaseTold::Refused(Refusal::Kind);
-                }
+            match hardware::admit(
+                valid_release(port, t),
+                crate::release::access(port, hw, t),
+                a,
+            ) {
+                Admitted::Yes => release_told(port, hw, crate::release::step(port, hw, t, a)),
+                Admitted::No(q) => ReleaseTold::Refused(q),
             }
-            ReleaseTold::Refused(Refusal::State)
         }
         ReleaseCall::Over => ReleaseTold::Refused(Refusal::Finished),
     }

@@ -11,7 +11,7 @@ use native.Mathlib.Omega.{arith}
 use Rattle.hardware.specs.Prog.{pick}
 use Rattle.bus.specs.Bus.{bitOf}
 use Rattle.wire.specs.Lines.{Edge}
-use Rattle.wire.specs.Always.{Side, takesAll}
+use Rattle.wire.specs.Machine.{Side, takesAll}
 use Rattle.bench.specs.declared.receiver.Receiver.{Receiver}
 use Rattle.bench.specs.declared.receiver.Stage.{Stage}
 use Rattle.bench.specs.View.{viewed, pageAt, within}

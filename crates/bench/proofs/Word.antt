@@ -10,9 +10,9 @@ use Rattle.hardware.specs.Registers.{not32, noneOf}
 use Rattle.bus.specs.Layout.{layoutOf}
 use Rattle.wire.specs.Bits.{bit, bit-two, bit-or, bit-and, bit-not, OneBit, absent, at}
 use Rattle.wire.specs.Lines.{pullsSda, pullsScl, master, levels, inputs, input, distinct}
-use Rattle.wire.specs.Always.{reading}
+use Rattle.wire.specs.Machine.{reading}
 use Rattle.wire.proofs.Words.{reads-sda, reads-scl}
-use Rattle.bench.specs.declared.register.Desk.{Desk}
+use Rattle.bench.specs.declared.register.BenchState.{BenchState}
 use Rattle.bench.specs.Bench.{pullsLow}
 use Rattle.bench.specs.Register.{side, world}
 use Rattle.bench.proofs.Laws.{or-false}
@@ -36,7 +36,7 @@ input-keeps k m w false h b z = bit-and k w (not32 m) ∙ rw (bit-not k m h b, z
     by a (inr e) = rw e
 
 -- every bit but the two inputs reads as last written
-pub reads-as-written : (f : Family) (d : Desk) (k : ℕ) → k < 32 → bit k (layoutOf f .sdain) ≡ 0 → bit k (layoutOf f .sclin) ≡ 0
+pub reads-as-written : (f : Family) (d : BenchState) (k : ℕ) → k < 32 → bit k (layoutOf f .sdain) ≡ 0 → bit k (layoutOf f .sclin) ≡ 0
     → bit k (reading (layoutOf f) side (world d)) ≡ bit k (d .word)
 unfolding reading inputs
 reads-as-written f d k h sda scl =
@@ -47,11 +47,11 @@ not-not true = refl
 not-not false = refl
 
 -- the two inputs read 0 where either side pulls the line; the module never pulls SCL
-pub reads-data : (f : Family) (d : Desk)
+pub reads-data : (f : Family) (d : BenchState)
     → noneOf (reading (layoutOf f) side (world d)) (layoutOf f .sdain) ≡ (pullsSda (layoutOf f) (d .word) || pullsLow (d .bench))
 unfolding reading levels master
 reads-data f d = reads-sda (layoutOf f) (distinct f) _ (d .word) ∙ not-not (pullsSda (layoutOf f) (d .word) || pullsLow (d .bench))
 
-pub reads-clock : (f : Family) (d : Desk) → noneOf (reading (layoutOf f) side (world d)) (layoutOf f .sclin) ≡ pullsScl (layoutOf f) (d .word)
+pub reads-clock : (f : Family) (d : BenchState) → noneOf (reading (layoutOf f) side (world d)) (layoutOf f .sclin) ≡ pullsScl (layoutOf f) (d .word)
 unfolding reading levels master
 reads-clock f d = reads-scl (layoutOf f) (distinct f) _ (d .word) ∙ not-not (pullsScl (layoutOf f) (d .word) || false) ∙ or-false (pullsScl (layoutOf f) (d .word))

@@ -13,8 +13,8 @@ use Rattle.bench.specs.declared.Bench.{Bench}
 use Rattle.bench.specs.Receiver.{edged, asksOn, pulls}
 
 -- after offset 255 comes offset 0
-unfoldable pub onward : ℕ → ℕ
-onward offset = (offset + 1) % 256
+unfoldable pub nextOffset : ℕ → ℕ
+nextOffset offset = (offset + 1) % 256
 
 -- the byte at the page's offset
 unfoldable pub under : Page → ℕ
@@ -23,8 +23,8 @@ under p = getD (p .bytes) (p .offset) 0
 unfoldable pub acted : Act → Page → Page
 acted Nothing p = p
 acted (Offset n) p = record { offset = n; bytes = p .bytes }
-acted (Store b) p = record { offset = onward (p .offset); bytes = set (p .bytes) (p .offset) b }
-acted Next p = record { offset = onward (p .offset); bytes = p .bytes }
+acted (Store b) p = record { offset = nextOffset (p .offset); bytes = set (p .bytes) (p .offset) b }
+acted Next p = record { offset = nextOffset (p .offset); bytes = p .bytes }
 
 unfoldable pub pageOf : Chosen → Bench → Page
 pageOf A0 b = b .a0

@@ -2,7 +2,7 @@
 ghost use mathlib.Core.Path.{_≡_};
 ghost use mathlib.Core.Bool.{true};
 ghost use lib.ListN.{set};
-ghost use Rattle.bench.specs.Bench.{onward, under, acted, pageOf, withPage, takesEdge, pullsLow};
+ghost use Rattle.bench.specs.Bench.{nextOffset, under, acted, pageOf, withPage, takesEdge, pullsLow};
 ghost use Rattle.bench.specs.Edges.{edgeOf};
 
 pub mod at_once;
@@ -47,19 +47,19 @@ fn at(page: Page, offset: u8) -> Page
 }
 
 // After offset 255 comes offset 0.
-fn onward(offset: u8) -> u8
-    ensures { λ r. ⌜ r ≡ onward offset ⌝ }
+fn next_offset(offset: u8) -> u8
+    ensures { λ r. ⌜ r ≡ nextOffset offset ⌝ }
 {
     wrapping_add_u8(offset, 1)
 }
 
 fn stored(page: Page, byte: u8) -> Page
-    ensures { λ r. ⌜ r ≡ record { offset = onward (page .offset); bytes = set (page .bytes) (page .offset) byte } ⌝ }
+    ensures { λ r. ⌜ r ≡ record { offset = nextOffset (page .offset); bytes = set (page .bytes) (page .offset) byte } ⌝ }
 {
     let place = page.offset as usize;
     let mut bytes = page.bytes;
     bytes[place] = byte;
-    let offset = onward(page.offset);
+    let offset = next_offset(page.offset);
     Page { offset, bytes }
 }
 
@@ -71,7 +71,7 @@ pub fn acted(act: Act, page: Page) -> Page
         Act::Nothing => page,
         Act::Offset(n) => at(page, n),
         Act::Store(b) => stored(page, b),
-        Act::Next => at(page, onward(page.offset)),
+        Act::Next => at(page, next_offset(page.offset)),
     }
 }
 

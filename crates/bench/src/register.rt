@@ -9,21 +9,21 @@ ghost use mathlib.Core.Path.{_≡_};
 ghost use mathlib.Core.Bool.{not, _||_, false};
 ghost use Rattle.bus.specs.Layout.{layoutOf};
 ghost use Rattle.wire.specs.Lines.{banging, pulling, pullsSda, pullsScl, ready, input, sclEdge, sdaEdge, master};
-ghost use Rattle.wire.specs.Always.{takesAll, turn, wrote, reading};
-ghost use Rattle.bench.specs.Register.{side, world, desk, elsewhere, accessed, released};
+ghost use Rattle.wire.specs.Machine.{takesAll, turn, wrote, reading, models};
+ghost use Rattle.bench.specs.Register.{side, world, benchState, elsewhere, accessed, released};
 
 // I2CCTL as last written, and the module.
-pub struct Desk {
+pub struct BenchState {
     pub word: u32,
     pub bench: Bench,
 }
 
-// here: the access was to I2CCTL, and is answered. Else it is left to the caller, the desk is as it was and the answer
+// here: the access was to I2CCTL, and is answered. Else it is left to the caller, the state is as it was and the answer
 // means nothing.
 pub struct Reply {
     pub here: bool,
     pub answer: Answer,
-    pub desk: Desk,
+    pub state: BenchState,
 }
 
 fn banging(l: Layout, w: u32) -> bool
@@ -116,7 +116,7 @@ fn input(mask: u32, high: bool, w: u32) -> u32
     w & !mask
 }
 
-fn reading(l: Layout, d: Desk) -> u32
+fn reading(l: Layout, d: BenchState) -> u32
     ensures { λ r. ⌜ r ≡ reading l side (world d) ⌝ }
 {
     let bench = d.bench;
@@ -125,53 +125,60 @@ fn reading(l: Layout, d: Desk) -> u32
     input(l.sdain, sda_high(l, d.word, pulled), with_scl)
 }
 
-fn write(l: Layout, d: Desk, v: u32) -> Desk
-    ensures { λ r. ⌜ r ≡ desk (wrote l side v (world d)) ⌝ }
+fn write(l: Layout, d: BenchState, v: u32) -> BenchState
+    ensures { λ r. ⌜ r ≡ benchState (wrote l side v (world d)) ⌝ }
 {
     let before = d.bench;
     let bench = turn(l, d.word, v, before);
-    Desk { word: v, bench }
+    BenchState { word: v, bench }
 }
 
-fn read_at(l: Layout, register: u32, d: Desk) -> Reply
+// Whether the register is the machine's own: I2CCTL alone.
+fn models(l: Layout, register: u32) -> bool
+    ensures { λ r. ⌜ r ≡ models l register ⌝ }
+{
+    register == l.reg
+}
+
+fn read_at(l: Layout, register: u32, d: BenchState) -> Reply
     ensures { λ r. ⌜ r ≡ accessed l (Access.Read register) d ⌝ }
 {
-    if register == l.reg {
+    if models(l, register) {
         return Reply {
             here: true,
             answer: Answer::Value(reading(l, d)),
-            desk: d,
+            state: d,
         };
     }
     elsewhere(d)
 }
 
-fn write_at(l: Layout, register: u32, v: u32, d: Desk) -> Reply
+fn write_at(l: Layout, register: u32, v: u32, d: BenchState) -> Reply
     ensures { λ r. ⌜ r ≡ accessed l (Access.Write register v) d ⌝ }
 {
-    if register == l.reg {
-        let desk = write(l, d, v);
+    if models(l, register) {
+        let state = write(l, d, v);
         return Reply {
             here: true,
             answer: Answer::Done,
-            desk,
+            state,
         };
     }
     elsewhere(d)
 }
 
-fn elsewhere(d: Desk) -> Reply
+fn elsewhere(d: BenchState) -> Reply
     ensures { λ r. ⌜ r ≡ elsewhere d ⌝ }
 {
     Reply {
         here: false,
         answer: Answer::Done,
-        desk: d,
+        state: d,
     }
 }
 
 // A step of the bench: an access to I2CCTL is answered and the module moved, any other is left to the caller.
-pub fn access(family: Family, d: Desk, x: Access) -> Reply
+pub fn access(family: Family, d: BenchState, x: Access) -> Reply
     ensures { λ r. ⌜ r ≡ accessed (layoutOf family) x d ⌝ }
 {
     let l = bus::layout_of(family);
@@ -197,7 +204,7 @@ pub fn ready(family: Family, word: u32) -> bool
 }
 
 // Whether both lines are released.
-pub fn released(family: Family, d: Desk) -> bool
+pub fn released(family: Family, d: BenchState) -> bool
     ensures { λ r. ⌜ r ≡ released (layoutOf family) d ⌝ }
 {
     let l = bus::layout_of(family);

@@ -6,22 +6,22 @@ ghost use Rattle.hardware.specs.Numbers.{refusalNumber};
 ghost use Rattle.bench.specs.View.{within, viewed, view, viewAt};
 
 // Whether a part lies in the page, which ends with the bytes lent.
-fn within(page: &[u8], first: usize, length: usize) -> bool
-    ensures { λ r. ⌜ r ≡ within (now (page .entry)) first length ⌝ }
+fn within(page: &[u8], first: usize, size: usize) -> bool
+    ensures { λ r. ⌜ r ≡ within (now (page .entry)) first size ⌝ }
 {
     if first <= page.len() {
-        return length <= page.len() - first;
+        return size <= page.len() - first;
     }
     false
 }
 
 // The number of the refusal, or 0 where `view` hands the part back.
-pub fn viewed(a0: &[u8], a2: &[u8], device: u8, first: usize, length: usize) -> u8
-    ensures { λ r. ⌜ r ≡ viewed (now (a0 .entry)) (now (a2 .entry)) device first length ⌝ }
+pub fn viewed(a0: &[u8], a2: &[u8], device: u8, first: usize, size: usize) -> u8
+    ensures { λ r. ⌜ r ≡ viewed (now (a0 .entry)) (now (a2 .entry)) device first size ⌝ }
 {
     match device {
-        0xa0 => number(within(a0, first, length)),
-        0xa2 => number(within(a2, first, length)),
+        0xa0 => number(within(a0, first, size)),
+        0xa2 => number(within(a2, first, size)),
         _ => hardware::refusal_number(Refusal::Device),
     }
 }
@@ -36,16 +36,16 @@ fn number(fits: bool) -> u8
 }
 
 // The part requested; refused, the empty part at the head of A0.
-pub fn view<'a>(a0: &'a [u8], a2: &'a [u8], device: u8, first: usize, length: usize) -> &'a [u8]
-    ensures { λ r. ⌜ now r ≡ view (now (a0 .entry)) (now (a2 .entry)) device first length ⌝ }
-    ensures { λ r. ⌜ r .ptr ≡ viewAt (a0 .entry .ptr) (a2 .entry .ptr) (viewed (now (a0 .entry)) (now (a2 .entry)) device first length) device first ⌝ }
+pub fn view<'a>(a0: &'a [u8], a2: &'a [u8], device: u8, first: usize, size: usize) -> &'a [u8]
+    ensures { λ r. ⌜ now r ≡ view (now (a0 .entry)) (now (a2 .entry)) device first size ⌝ }
+    ensures { λ r. ⌜ r .ptr ≡ viewAt (a0 .entry .ptr) (a2 .entry .ptr) (viewed (now (a0 .entry)) (now (a2 .entry)) device first size) device first ⌝ }
 {
-    if viewed(a0, a2, device, first, length) == 0 {
+    if viewed(a0, a2, device, first, size) == 0 {
         if device == 0xa2 {
-            let end = first + length;
+            let end = first + size;
             return &a2[first..end];
         }
-        let end = first + length;
+        let end = first + size;
         return &a0[first..end];
     }
     &a0[0..0]

@@ -14,7 +14,7 @@ use Rattle.bus.specs.declared.line.Goal.{Goal}
 use Rattle.bus.specs.declared.line.Goal.the-variants.{High, Free, Low, Release as Released, Down as Lowered, Up as Raised, Close as Closed}
 use Rattle.bus.specs.declared.line.Line.{Line}
 use Rattle.bus.specs.declared.line.Line.the-variants.{Look as Looking, Pause, Sample as Sampling, Ack as Listening, Rest, Write as Writing, Flush, Settle, Check, Rise}
-use Rattle.bus.specs.declared.line.Wire.{Wire}
+use Rattle.bus.specs.declared.line.LineState.{LineState}
 use Rattle.bus.specs.declared.line.LineNext.{LineNext}
 use Rattle.bus.specs.declared.line.LineNext.the-variants.{Going, End}
 use Rattle.bus.specs.Bus.{Held, Bus, orHeld, flushing, get, wait, shifted, sclSeen, sclTries, sclHigh, sclLow, sdaSeen, sdaFree, sda, releaseSda, look, lookSeen, close, sample, sampleSeen, ackSeen, ackTries}
@@ -77,7 +77,7 @@ accessAt l ctl (Settle g) = Wait (micros (settleUs g))
 accessAt l ctl Check = Read (l .reg)
 accessAt l ctl (Rise left) = Read (l .reg)
 
-unfoldable pub accessLine : Layout → Wire → Access
+unfoldable pub accessLine : Layout → LineState → Access
 accessLine l s = accessAt l (s .ctl) (s .line)
 
 unfoldable pub restAt : Layout → ℕ → ℕ → Line → Answer → (ℕ → Bus) → Prog Held
@@ -93,7 +93,7 @@ restAt l ctl bits (Settle g) a k = reached l g (k bits) ctl
 restAt l ctl bits Check a k = orHeld (sdaSeen l (k bits)) ctl (raw a)
 restAt l ctl bits (Rise left) a k = orHeld (sclSeen l (sclTries l left (k bits)) (k bits)) ctl (raw a)
 
-unfoldable pub restLine : Layout → Wire → Answer → (ℕ → Bus) → Prog Held
+unfoldable pub restLine : Layout → LineState → Answer → (ℕ → Bus) → Prog Held
 restLine l s a k = restAt l (s .ctl) (s .bits) (s .line) a k
 
 unfoldable pub lineNext : Layout → LineNext → (ℕ → Bus) → Prog Held

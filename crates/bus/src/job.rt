@@ -2,7 +2,7 @@
 use crate::Layout;
 use crate::command::Command;
 use crate::line::LineNext;
-use crate::line::Wire;
+use crate::line::LineState;
 use hardware::Access;
 use hardware::Answer;
 use hardware::Byte;
@@ -20,7 +20,7 @@ ghost use Rattle.bus.specs.Command.{callAt, callCount, finished, callsLe
 // left: the line calls after this one.
 pub struct Job {
     pub left: u8,
-    pub wire: Wire,
+    pub wire: LineState,
 }
 
 // The end: the control word, and the byte that was heard.

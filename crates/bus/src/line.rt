@@ -54,14 +54,14 @@ pub enum Line {
 }
 
 // The control word that the driver holds, and the bits heard so far.
-pub struct Wire {
+pub struct LineState {
     pub ctl: u32,
     pub bits: u8,
     pub line: Line,
 }
 
 pub enum LineNext {
-    Going(Wire),
+    Going(LineState),
     End(u32, u8, Outcome),
 }
 
@@ -79,7 +79,7 @@ fn settle_us(g: Goal) -> u32
     }
 }
 
-pub fn access(l: Layout, s: Wire) -> Access
+pub fn access(l: Layout, s: LineState) -> Access
     ensures { λ r. ⌜ r ≡ accessLine l s ⌝ }
 {
     let line = s.line;
@@ -118,10 +118,10 @@ fn shift(bits: u8, bit: bool) -> u8
     left
 }
 
-fn at(ctl: u32, bits: u8, line: Line) -> Wire
+fn at(ctl: u32, bits: u8, line: Line) -> LineState
     ensures { λ r. ⌜ r ≡ record { ctl = ctl; bits = bits; line = line } ⌝ }
 {
-    Wire { ctl, bits, line }
+    LineState { ctl, bits, line }
 }
 
 fn look_seen(l: Layout, ctl: u32, bits: u8, w: Word) -> LineNext
@@ -212,7 +212,7 @@ fn scl_seen(l: Layout, ctl: u32, bits: u8, left: u16, w: Word) -> LineNext
 }
 
 // SDA was raised: on the X552 and X553 its output enable goes off, then it is looked at.
-fn sda_free(l: Layout, ctl: u32, bits: u8) -> Wire
+fn sda_free(l: Layout, ctl: u32, bits: u8) -> LineState
     ensures { λ r. ⌜ ((k : ℕ → Bus) → lineNext l (LineNext.Going r) k ≡ erase (sdaFree l (k bits) ctl)) ⌝ }
     ensures { λ r. ⌜ validLine (r .line) ≡ true ⌝ }
 {
@@ -274,7 +274,7 @@ fn write_seen(l: Layout, ctl: u32, bits: u8, g: Goal, o: Outcome) -> LineNext
     }
 }
 
-pub fn step(l: Layout, s: Wire, a: Answer) -> LineNext
+pub fn step(l: Layout, s: LineState, a: Answer) -> LineNext
     ensures { λ r. ⌜ ((k : ℕ → Bus) → lineNext l r k ≡ erase (restLine l s a k)) ⌝ }
     ensures { λ r. ⌜ (validLine (s .line) ≡ true → validLineNext r ≡ true) ⌝ }
 {
@@ -293,7 +293,7 @@ pub fn step(l: Layout, s: Wire, a: Answer) -> LineNext
     }
 }
 
-fn sda(l: Layout, ctl: u32, bits: u8, high: bool) -> Wire
+fn sda(l: Layout, ctl: u32, bits: u8, high: bool) -> LineState
     ensures { λ r. ⌜ ((k : ℕ → Bus) → lineNext l (LineNext.Going r) k ≡ erase (sda l high (k bits) ctl)) ⌝ }
     ensures { λ r. ⌜ validLine (r .line) ≡ true ⌝ }
 {
@@ -303,7 +303,7 @@ fn sda(l: Layout, ctl: u32, bits: u8, high: bool) -> Wire
     at(ctl & !l.sdaout & !l.sdaoen, bits, Line::Write(Goal::Low))
 }
 
-pub fn open(l: Layout, call: Call, ctl: u32, bits: u8) -> Wire
+pub fn open(l: Layout, call: Call, ctl: u32, bits: u8) -> LineState
     ensures { λ r. ⌜ ((k : ℕ → Bus) → lineNext l (LineNext.Going r) k ≡ erase (called l call bits k ctl)) ⌝ }
     ensures { λ r. ⌜ (validCall call ≡ true → validLine (r .line) ≡ true) ⌝ }
 {

@@ -14,15 +14,15 @@ use Rattle.bus.specs.Layout.{layoutOf}
 use Rattle.bus.specs.Bus.{none}
 use Rattle.bus.proofs.Noteless.{NotelessBus}
 use Rattle.script.specs.Script.{commands}
-use Rattle.transfer.specs.declared.attempt.Sequence.the-variants.{Pulses}
-use Rattle.transfer.specs.Transfer.{silent}
+use Rattle.i2c.specs.declared.How.{How}
+use Rattle.transfer.specs.Transfer.{keeping}
 use Rattle.transfer.specs.Attempt.{attempt}
 use Rattle.transfer.proofs.Noteless.{transfer-noteless, attempting-noteless}
 use Rattle.i2c.specs.declared.once.Request.{Request}
 use Rattle.i2c.specs.declared.once.Request.the-variants.{ReadByte, WriteByte, ReadCombined, WriteCombined}
-use Rattle.i2c.specs.I2c.{mask, deviceOf, scriptOf, body, once, whenLock, readJudged, readTries, writeTries, givenUp, writes, moves, askBus, giveBus, granting, granted, givenBus, onGrant, withBus, handshaken, givesValue, transferred}
+use Rattle.i2c.specs.I2c.{standard, locked, mask, deviceOf, scriptOf, body, once, whenLock, readJudged, readTries, writeTries, givenUp, writes, retried, askBus, giveBus, granting, granted, givenBus, onGrant, withBus, handshaken, givesValue, transferred}
 use Rattle.i2c.proofs.Laws.{body-is}
-use Rattle.sfp.specs.declared.Module.{Module}
+use Rattle.sfp.specs.declared.Identity.{Identity}
 use Rattle.sfp.specs.declared.Codes.{Codes}
 use Rattle.sfp.specs.Identify.{EEPROM, orAbsent, byte, identifierOf, reachOf, bx10gOf, kindBy, classify, recorded, known, identified, identify}
 use Rattle.demand.specs.Fine.{AtOnce}
@@ -33,18 +33,18 @@ use Rattle.demand.proofs.AtOnce.{at-once-then, at-once-try, at-once-pic
 
 -- nothing is asked of the result
 abbrev pub AtOnces : {A : Type 0} → Port → Prog A → Type 0
-AtOnces port p = AtOnce (layoutOf (port .family) .reg) atOnce p (λ _. Unit {0})
+AtOnces port p = AtOnce (layoutOf (port .family)) atOnce p (λ _. Unit {0})
 
 body-noteless : (l : Layout) (r : Request) → NotelessBus (body l r)
-body-noteless l r = subst NotelessBus (body-is l r) (transfer-noteless silent l (deviceOf r) (commands (scriptOf r)) none)
+body-noteless l r = subst NotelessBus (body-is l r) (transfer-noteless keeping l (deviceOf r) (commands (scriptOf r)) none)
 
 module _ (port : Port) where
   -- ESDP: a bit is set or cleared
-  pub esdp-at-once : (c : Change) → c .register ≡ ESDP → AtOnce (layoutOf (port .family) .reg) atOnce (change c) (λ r. r ≡ Ok tt)
+  pub esdp-at-once : (c : Change) → c .register ≡ ESDP → AtOnce (layoutOf (port .family)) atOnce (change c) (λ r. r ≡ Ok tt)
   esdp-at-once c e = let s = aside (port .family) in change-at-once _ (port .family) s c (rw e (s .esdp .other))
 
   -- the first look finds the grant
-  pub granted-at-once : (n : ℕ) → AtOnce (layoutOf (port .family) .reg) atOnce (granted (suc n)) (λ r. r ≡ Ok true)
+  pub granted-at-once : (n : ℕ) → AtOnce (layoutOf (port .family)) atOnce (granted (suc n)) (λ r. r ≡ Ok true)
   unfolding granted granting atOnceAt noneOf pick
   granted-at-once n = at-once-try _ _ _ _ _ _ (read-at-once _ ESDP (aside (port .family) .esdp .other)) (at-once-ret _ _ _ _ refl)
 
@@ -55,11 +55,11 @@ module _ (port : Port) where
   bind-at-once p k h f = at-once-then _ _ p k _ _ h (λ a _. f a)
 
   -- an attempt, whatever happens on the lines
-  pub once-at-once : (r : Request) → AtOnces port (once port r)
+  pub once-at-once : (r : Request) (how : How) → AtOnces port (once port r how)
   unfolding once attempt
-  once-at-once r =
+  once-at-once r how =
       at-once-note _ _ Attempt _ _
-      (noteless-at-once _ _ _ _ (attempting-noteless Pulses (layoutOf (port .family)) (deviceOf r) _ (body-noteless (layoutOf (port .family)) r)) (λ _. tt))
+      (noteless-at-once _ _ _ _ (attempting-noteless (how .sequence) (layoutOf (port .family)) (deviceOf r) _ (body-noteless (layoutOf (port .family)) r)) (λ _. tt))
 
   locked-at-once : (on : Bool) (k : Prog (R Taken)) → AtOnces port k → AtOnces port (whenLock on (acquire port (mask port)) k)
   unfolding whenLock
@@ -75,24 +75,24 @@ module _ (port : Port) where
   judged-at-once r on again result h =
       at-once-pick _ _ _ _ _ _ (at-once-pick _ _ _ _ _ _ (at-once-try _ _ _ _ _ _ (delay-at-once _ _) h) h) (ret-at-once result)
 
-  pub reads-at-once : (r : Request) (on : Bool) (n : ℕ) → AtOnces port (readTries port r on n)
+  pub reads-at-once : (r : Request) (how : How) (n : ℕ) → AtOnces port (readTries port r how n)
   unfolding readTries
-  reads-at-once r on zero = ret-at-once _
-  reads-at-once r on (suc n) =
-      locked-at-once on _ (bind-at-once _ _ (once-at-once r) (λ result. unlocked-at-once on _ (judged-at-once r on _ result (reads-at-once r on n))))
+  reads-at-once r how zero = ret-at-once _
+  reads-at-once r how (suc n) =
+      locked-at-once (how .lock) _ (bind-at-once _ _ (once-at-once r how) (λ result. unlocked-at-once (how .lock) _ (judged-at-once r (how .lock) _ result (reads-at-once r how n))))
 
-  pub writes-at-once : (r : Request) (n : ℕ) (before : R Taken) → AtOnces port (writeTries port r n before)
+  pub writes-at-once : (r : Request) (how : How) (n : ℕ) (before : R Taken) → AtOnces port (writeTries port r how n before)
   unfolding writeTries
-  writes-at-once r zero before = ret-at-once before
-  writes-at-once r (suc n) before =
-      bind-at-once _ _ (once-at-once r) (λ result. at-once-pick _ _ _ _ _ _ (writes-at-once r n result) (ret-at-once result))
+  writes-at-once r how zero before = ret-at-once before
+  writes-at-once r how (suc n) before =
+      bind-at-once _ _ (once-at-once r how) (λ result. at-once-pick _ _ _ _ _ _ (writes-at-once r how n result) (ret-at-once result))
 
-  moves-at-once : (r : Request) (on : Bool) (n : ℕ) → AtOnces port (moves port r on n)
-  unfolding moves writes givenUp
-  moves-at-once r on n =
+  retried-at-once : (r : Request) (how : How) (n : ℕ) → AtOnces port (retried port r how n)
+  unfolding retried writes givenUp
+  retried-at-once r how n =
       at-once-pick _ _ _ _ _ _
-      (locked-at-once on _ (bind-at-once _ _ (writes-at-once r 2 _) (λ result. unlocked-at-once on _ (ret-at-once result))))
-      (reads-at-once r on n)
+      (locked-at-once (how .lock) _ (bind-at-once _ _ (writes-at-once r how 2 _) (λ result. unlocked-at-once (how .lock) _ (ret-at-once result))))
+      (reads-at-once r how n)
 
   given-at-once : (result : R Taken) → AtOnces port (givenBus result)
   unfolding givenBus
@@ -114,41 +114,41 @@ module _ (port : Port) where
   shaken-at-once (ReadCombined device reg) p h = h
   shaken-at-once (WriteCombined device reg value) p h = h
 
-  pub transferred-at-once : (r : Request) (on : Bool) (n : ℕ) → AtOnces port (transferred port r on n)
+  pub transferred-at-once : (r : Request) (how : How) (n : ℕ) → AtOnces port (transferred port r how n)
   unfolding transferred givesValue
-  transferred-at-once r on n = bind-at-once _ _ (shaken-at-once r _ (moves-at-once r on n)) (λ result. ret-at-once _)
+  transferred-at-once r how n = bind-at-once _ _ (shaken-at-once r _ (retried-at-once r how n)) (λ result. ret-at-once _)
 
   -- whatever is read, and whatever follows it
-  absent-at-once : (k : ℕ → Prog (R Module)) → ((v : ℕ) → AtOnces port (k v)) → (r : R ℕ) → AtOnces port (orAbsent k r)
+  absent-at-once : (k : ℕ → Prog (R Identity)) → ((v : ℕ) → AtOnces port (k v)) → (r : R ℕ) → AtOnces port (orAbsent k r)
   unfolding orAbsent
   absent-at-once k h (Ok v) = h v
   absent-at-once k h (Err e) = at-once-pick _ _ _ _ _ _ (ret-at-once _) (ret-at-once _)
 
-  byte-at-once : (offset n : ℕ) (k : ℕ → Prog (R Module)) → ((v : ℕ) → AtOnces port (k v)) → AtOnces port (byte port offset n k)
+  byte-at-once : (offset n : ℕ) (k : ℕ → Prog (R Identity)) → ((v : ℕ) → AtOnces port (k v)) → AtOnces port (byte standard port offset n k)
   unfolding byte
-  byte-at-once offset n k h = bind-at-once _ _ (transferred-at-once (ReadByte EEPROM offset) true n) (absent-at-once k h)
+  byte-at-once offset n k h = bind-at-once _ _ (transferred-at-once (ReadByte EEPROM offset) (locked standard) n) (absent-at-once k h)
 
-  identifier-at-once : (n identifier : ℕ) (k : ℕ → Prog (R Module)) → ((v : ℕ) → AtOnces port (k v)) → AtOnces port (identifierOf port n identifier k)
+  identifier-at-once : (n identifier : ℕ) (k : ℕ → Prog (R Identity)) → ((v : ℕ) → AtOnces port (k v)) → AtOnces port (identifierOf standard port n identifier k)
   unfolding identifierOf
   identifier-at-once zero identifier k h = h identifier
   identifier-at-once (suc n) identifier k h = byte-at-once 0 11 _ (λ v. at-once-pick _ _ _ _ _ _ (h v) (identifier-at-once n v k h))
 
-  classify-at-once : (identifier : ℕ) (c : Codes) → AtOnces port (classify port identifier c)
+  classify-at-once : (identifier : ℕ) (c : Codes) → AtOnces port (classify standard port identifier c)
   unfolding classify bx10gOf reachOf kindBy
   classify-at-once identifier c =
       at-once-pick _ _ _ _ _ _
       (byte-at-once 12 _ _ (λ rate. at-once-pick _ _ _ _ _ _ (byte-at-once 14 _ _ (λ km. byte-at-once 15 _ _ (λ hm. kind _))) (kind false)))
       (kind false)
     where
-      kind : (bx : Bool) → AtOnces port (kindBy port c bx (λ kind. ret (Ok (recorded identifier c kind))))
+      kind : (bx : Bool) → AtOnces port (kindBy standard port c bx (λ kind. ret (Ok (recorded identifier c kind))))
       kind bx =
           at-once-pick _ _ _ _ _ _ (ret-at-once _)
           (at-once-pick _ _ _ _ _ _ (byte-at-once 60 _ _ (λ v. ret-at-once _)) (ret-at-once _))
 
-  known-at-once : (identifier : ℕ) → AtOnces port (known port identifier)
+  known-at-once : (identifier : ℕ) → AtOnces port (known standard port identifier)
   unfolding known
   known-at-once identifier = byte-at-once 6 _ _ (λ g1. byte-at-once 3 _ _ (λ g10. byte-at-once 8 _ _ (λ cable. classify-at-once identifier _)))
 
-  pub identify-at-once : AtOnce (layoutOf (port .family) .reg) atOnce (identify port) (λ _. Unit {0})
+  pub identify-at-once : AtOnce (layoutOf (port .family)) atOnce (identify standard port) (λ _. Unit {0})
   unfolding identify identified
   identify-at-once = identifier-at-once 5 0 _ (λ identifier. at-once-pick _ _ _ _ _ _ (known-at-once identifier) (ret-at-once _))

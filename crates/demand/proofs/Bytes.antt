@@ -14,18 +14,18 @@ use Rattle.bench.specs.declared.receiver.Receiver.{Receiver}
 use Rattle.bench.specs.declared.receiver.Stage.{Stage}
 use Rattle.bench.specs.declared.receiver.Stage.the-variants.{Address}
 use Rattle.bench.specs.Receiver.{at, stopped, taken, rise}
-use Rattle.bench.specs.Bench.{onward, under}
-use Rattle.demand.specs.Claim.{Met, machine}
+use Rattle.bench.specs.Bench.{nextOffset, under}
+use Rattle.demand.specs.Claim.{CountedBench, machine}
 use Rattle.demand.proofs.Bits.{tookBits, shifted-taken}
 use Rattle.demand.proofs.Receiver.{with, stop-takes, rise-takes, rise-pulls, Taking, taking, taking-rises, taking-stays, taking-free, Acks, acks-pull, acks-rise, begun, stop-free, sending, listening, aimed, send-bit, send-rise, send-next, send-last}
 
 module _ (l : Layout) (g : Distinct l) where
   -- the same from an equal state
-  pub from : {a b : Bool} {s t : Met} {k : Bus} {Q : Claim machine} → s ≡ t → From l machine a b t k Q → From l machine a b s k Q
+  pub from : {a b : Bool} {s t : CountedBench} {k : Bus} {Q : Claim machine} → s ≡ t → From l machine a b t k Q → From l machine a b s k Q
   from {a} {b} {k = k} {Q} e h = subst⁻¹ (λ s. From l machine a b s k Q) e h
 
   -- bits are sent, the highest first, to a receiver with c bits; SCL's last fall ends the byte
-  pub out-bits : (S : ℕ → Stage) → Taking S → (r : Receiver) (m : Met) (n c bits byte : ℕ) {a : Bool} {k : Bus} {Q : Claim machine} → c + suc n ≡ 8
+  pub out-bits : (S : ℕ → Stage) → Taking S → (r : Receiver) (m : CountedBench) (n c bits byte : ℕ) {a : Bool} {k : Bus} {Q : Claim machine} → c + suc n ≡ 8
       → ((z : Bool) → From l machine z true (machine .takes Fall (with (taking S 8 (tookBits (suc n) byte bits) r) m)) k Q)
       → From l machine a true (with (taking S c bits r) m) (outBits l byte (suc n) k) Q
   unfolding outBits tookBits
@@ -42,7 +42,7 @@ module _ (l : Layout) (g : Distinct l) where
       (out-bits S t r m n (suc c) (taken bits (bitOf byte (suc n))) byte (omega arith) h))
 
   -- a byte is acknowledged: SDA is low at the first sample, and SCL's fall goes on
-  acked : {a : Bool} (s : Met) (device : ℕ) {k : Bus} {Q : Claim machine} → Acks (s .bench .receiver .stage)
+  acked : {a : Bool} (s : CountedBench) (device : ℕ) {k : Bus} {Q : Claim machine} → Acks (s .bench .receiver .stage)
       → From l machine false true (machine .takes Fall s) k Q
       → From l machine a true s (releaseSda l (sclHigh l (wait 4 (ackTries l 10 (λ high. sclLow l (wait 5 (pick high (fail (I2c device)) k))))))) Q
   unfolding pick
@@ -50,14 +50,14 @@ module _ (l : Layout) (g : Distinct l) where
       Commands.ack l g machine (λ s. refl) 9 (λ high. pick high (fail (I2c device)) k) (rise-pulls _ s ∙ acks-pull s e) (from (ap (machine .takes Fall) (acks-rise _ s e)) h)
 
   -- a byte sent to a receiver with no bits, which then acknowledges
-  pub sent : (S : ℕ → Stage) → Taking S → (r : Receiver) (m s : Met) (device byte : ℕ) {a : Bool} {k : Bus} {Q : Claim machine}
+  pub sent : (S : ℕ → Stage) → Taking S → (r : Receiver) (m s : CountedBench) (device byte : ℕ) {a : Bool} {k : Bus} {Q : Claim machine}
       → machine .takes Fall (with (taking S 8 (tookBits 8 byte 0) r) m) ≡ s → Acks (s .bench .receiver .stage)
       → From l machine false true (machine .takes Fall s) k Q → From l machine a true (with (taking S 0 0 r) m) (send l device byte k) Q
   unfolding send
   sent S t r m s device byte e f h = out-bits S t r m 7 0 0 byte refl (λ z. from e (acked s device f h))
 
   -- A start takes every receiver that does not pull SDA to Address with 0 bits
-  pub started-at : (a b : Bool) (m : Met) {k : Bus} {Q : Claim machine} → machine .pulls m .sda ≡ false
+  pub started-at : (a b : Bool) (m : CountedBench) {k : Bus} {Q : Claim machine} → machine .pulls m .sda ≡ false
       → ((r : Receiver) → From l machine true true (with (taking Address 0 0 r) m) k Q) → FromRest l machine a b m (start l k) Q
   started-at a true m free h = Commands.start-low l g machine (λ s. refl) free (rise-pulls true m ∙ free) (from (ap (λ s. machine .takes Fall (machine .takes START s)) (rise-takes true m) ∙ begun (rise true (m .bench .receiver)) m) (h (rise true (m .bench .receiver))))
   started-at false false m free h = Commands.start-free l g machine (λ s. refl) free (from (begun (m .bench .receiver) m) (h (m .bench .receiver)))
@@ -65,7 +65,7 @@ module _ (l : Layout) (g : Distinct l) where
       Commands.start-after l g machine (λ s. refl) free (stop-free m) (from (ap (λ s. machine .takes Fall (machine .takes START s)) (stop-takes m) ∙ begun (stopped (m .bench .receiver)) m) (h (stopped (m .bench .receiver))))
 
   -- SDA was read while bit c was on it, and SCL falls
-  in-bit : (r : Receiver) (m : Met) (n c byte : ℕ) {a : Bool} (k : ℕ → Bus) {Q : Claim machine} → c + suc n ≡ 8
+  in-bit : (r : Receiver) (m : CountedBench) (n c byte : ℕ) {a : Bool} (k : ℕ → Bus) {Q : Claim machine} → c + suc n ≡ 8
       → From l machine false true (machine .takes Fall (with (sending c r) m)) (k (taken byte (bitOf (under (m .bench .a0)) n))) Q
       → From l machine a true (with (sending c r) m) (inBit l (λ bit. k (shifted byte bit))) Q
   in-bit r m n c byte k {Q} e h =
@@ -86,8 +86,8 @@ module _ (l : Layout) (g : Distinct l) where
           (ap not (ap (λ s. machine .pulls s .sda) (send-rise c _ r m) ∙ send-bit c r m) ∙ twice (bitOf (under (m .bench .a0)) (7 - c)) ∙ ap (bitOf (under (m .bench .a0))) place)
 
   -- a byte of page A0 is read, from its bit c on; the offset moves on
-  pub in-bits : (r : Receiver) (m : Met) (n c byte : ℕ) {a : Bool} (k : ℕ → Bus) {Q : Claim machine} → c + suc n ≡ 8
-      → From l machine false true (with (listening r) (aimed (onward (m .bench .a0 .offset)) m)) (k (tookBits (suc n) (under (m .bench .a0)) byte)) Q
+  pub in-bits : (r : Receiver) (m : CountedBench) (n c byte : ℕ) {a : Bool} (k : ℕ → Bus) {Q : Claim machine} → c + suc n ≡ 8
+      → From l machine false true (with (listening r) (aimed (nextOffset (m .bench .a0 .offset)) m)) (k (tookBits (suc n) (under (m .bench .a0)) byte)) Q
       → From l machine a true (with (sending c r) m) (inBits l (suc n) byte k) Q
   unfolding inBits tookBits
   in-bits r m zero c byte k e h = in-bit r m 0 c byte (λ d. inBits l 0 d k) e (from (send-last c r m (omega arith)) h)

@@ -8,33 +8,36 @@ use mathlib.Core.Logic.{_⊎_, ⊎-elim}
 use native.Mathlib.Omega.{arith}
 use lib.Dec.{eqb}
 use lib.ListN.{length}
+use Rattle.i2c.specs.I2c.{standard}
 use Rattle.hardware.specs.declared.Answer.{Answer}
 use Rattle.hardware.specs.declared.Port.{Port}
-use Rattle.hardware.specs.Prog.{R, Ok, Err, pick, Counted}
+use Rattle.hardware.specs.Prog.{R, Ok, Err, pick, Counted, blank}
 use Rattle.bus.specs.Layout.{layoutOf}
-use Rattle.wire.specs.Lines.{drawn, Rests}
-use Rattle.wire.specs.Always.{World, Always}
+use Rattle.wire.specs.Lines.{drawn, Rests, Each}
+use Rattle.wire.specs.Machine.{World}
+use Rattle.wire.specs.Always.{Always}
+use Rattle.wire.specs.Run.{listed, Outcome, ended, short, stopped, Finished}
 use Rattle.wire.proofs.Edges.{rests}
 use Rattle.bench.specs.declared.Bench.{Bench}
 use Rattle.bench.specs.Receiver.{fall, fallAt}
 use Rattle.bench.specs.Bench.{pullsLow}
 use Rattle.sfp.specs.declared.Kind.{Kind}
 use Rattle.sfp.specs.declared.Kind.the-variants.{Unknown}
-use Rattle.sfp.specs.declared.Module.{Module}
+use Rattle.sfp.specs.declared.Identity.{Identity}
 use Rattle.sfp.specs.Classes.{Bytes, SFP, kindOf, multispeedOf, Class, classOf, requests}
 use Rattle.sfp.specs.Identify.{absent, other, identify}
 use Rattle.sfp.specs.Kinds.{is}
 use Rattle.sfp.specs.Module.{isPresent}
-use Rattle.sfp.specs.Finds.{moduleOf}
+use Rattle.sfp.specs.Finds.{identityOf}
 use Rattle.sfp.proofs.Finds.{module-class}
 use Rattle.sfp.proofs.Ends.{IDENTIFY-STEPS, identify-ends}
-use Rattle.demand.specs.Claim.{Met, machine, Outcome, ended, short, benched, Each, atStart, byteOf, Says, extra, Facts, Absent, InAckWrite, Claimed, Holds, Claim, Starts, Premises}
+use Rattle.demand.specs.Claim.{CountedBench, machine, benchRun, atStart, byteOf, Says, extra, Facts, Absent, InAckWrite, Claimed, Holds, Claim, Starts, Premises}
 use Rattle.demand.proofs.Receiver.{idle-free}
 use Rattle.demand.proofs.Clearing.{ack-pulls}
 use Rattle.demand.proofs.Attempts.{Stuck, stuck}
 use Rattle.demand.proofs.Requests.{world, After}
 use Rattle.demand.proofs.Identify as Identify
-use Rattle.demand.proofs.Benched.{Ending, Steady, always-benched, Over, ends-benched, told, tally-benched}
+use Rattle.demand.proofs.Runs.{Ending, Steady, always-run, ends-run, Sees, told, tally-run}
 
 -- no class is NotPresent
 pick-present : (b : Bool) (x y : Kind) → isPresent x ≡ true → isPresent y ≡ true → isPresent (pick b x y) ≡ true
@@ -57,12 +60,12 @@ class-present at = by (eqb (at 0) SFP)
     by false = refl
 
 -- so the four facts and NotPresent shut each other out
-never-both : (at : Bytes) (r : R Module) → Says r (classOf at) → Absent r → ⊥
+never-both : (at : Bytes) (r : R Identity) → Says r (classOf at) → Absent r → ⊥
 unfolding Says Absent is
 never-both at (Ok m) s a = false≢true (ap isPresent (sym a) ∙ ap isPresent (s .0) ∙ class-present at)
 never-both at (Err e) s a = s
 
-found-says : (at : Bytes) → Says (Ok (moduleOf at)) (classOf at)
+found-says : (at : Bytes) → Says (Ok (identityOf at)) (classOf at)
 unfolding Says
 found-says at = (ap (λ c. c .kind) (module-class at), ap (λ c. c .multispeed) (module-class at))
 
@@ -72,19 +75,26 @@ unfolding fall fallAt
 stuck-not b s e = rw e at (s .sends)
 
 free-not : (b : Bench) → pullsLow b ≡ false → InAckWrite b → ⊥
-free-not b e i = false≢true (sym e ∙ ack-pulls (record { bench = b; made = 0 }) i)
+free-not b e i = false≢true (sym e ∙ ack-pulls (record { bench = b; meter = blank }) i)
+
+-- the count of the result beside a machine that counts none
+abbrev recount : CountedBench → CountedBench
+recount m = record { bench = m .bench; meter = blank }
+
+recount-sees : Sees machine recount
+recount-sees = record { pulls = λ m. refl; takes = λ e m. refl; notes = λ n m. refl }
 
 module _ (port : Port) (b : Bench) (small : (n : ℕ) → byteOf (b .a0) n < 256) where
-  abbrev pub start : Met
-  start = record { bench = b; made = 0 }
+  abbrev pub start : CountedBench
+  start = record { bench = b; meter = blank }
 
   -- the end of the call, by the start
-  pub record End (r : R Module) (w : World machine) : Type 0 where
+  pub record End (r : R Identity) (w : World machine) : Type 0 where
     pub facts : (InAckWrite b → ⊥) → Facts (layoutOf (port .family)) b r w
-    pub absent : InAckWrite b → Absent r × (w .other .made ≡ 11)
+    pub absent : InAckWrite b → Absent r × (w .other .meter .transfers ≡ 11)
 
-  well : (e j : ℕ) → extra b ≡ e → (n : Met) (w : ℕ) → After (layoutOf (port .family)) start j n w → j ≡ requests (byteOf (b .a0)) + e
-      → Facts (layoutOf (port .family)) b (Ok (moduleOf (byteOf (b .a0)))) (world w n)
+  well : (e j : ℕ) → extra b ≡ e → (n : CountedBench) (w : ℕ) → After (layoutOf (port .family)) start j n w → j ≡ requests (byteOf (b .a0)) + e
+      → Facts (layoutOf (port .family)) b (Ok (identityOf (byteOf (b .a0)))) (world w n)
   well e j x n w a c =
       record {
         class = found-says (byteOf (b .a0));
@@ -98,16 +108,16 @@ module _ (port : Port) (b : Bench) (small : (n : ℕ) → byteOf (b .a0) n < 256
 
   -- it holds of the call, whatever the other answers are
   pub always-identified : (word : ℕ) (x y : Bool) → Rests (layoutOf (port .family)) (drawn x y) word
-      → Always (layoutOf (port .family)) machine (identify port) (atStart word b) End
+      → Always (layoutOf (port .family)) machine (identify standard port) (atStart word b) End
   unfolding Always Absent pick
   always-identified word x y r = by (pullsLow b) refl
     where
-      free : pullsLow b ≡ false → Always (layoutOf (port .family)) machine (identify port) (atStart word b) End
+      free : pullsLow b ≡ false → Always (layoutOf (port .family)) machine (identify standard port) (atStart word b) End
       free e =
           Identify.identify-reads port start small End word x y r e
           (λ n w a. record { facts = λ _. well 0 _ (rw e) n w a (omega arith); absent = λ i. absurd (free-not b e i) })
 
-      held : pullsLow b ≡ true → Always (layoutOf (port .family)) machine (identify port) (atStart word b) End
+      held : pullsLow b ≡ true → Always (layoutOf (port .family)) machine (identify standard port) (atStart word b) End
       held e =
           ⊎-elim
           (λ i. Identify.identify-fails port start small End word x y r i (λ n v made. record { facts = λ no. absurd (no i); absent = λ _. (refl, omega (arith, made)) }))
@@ -116,19 +126,21 @@ module _ (port : Port) (b : Bench) (small : (n : ℕ) → byteOf (b .a0) n < 256
           (λ n w a. record { facts = λ _. well 1 _ (rw e) n w a refl; absent = λ i. absurd (stuck-not b s i) }))
           (stuck start e)
 
-      by : (t : Bool) → pullsLow b ≡ t → Always (layoutOf (port .family)) machine (identify port) (atStart word b) End
+      by : (t : Bool) → pullsLow b ≡ t → Always (layoutOf (port .family)) machine (identify standard port) (atStart word b) End
       by true e = held e
       by false e = free e
 
-  pub claimed : (r : R Module) (w : World machine) → End r w → Claimed (layoutOf (port .family)) b (record { transfers = w .other .made; result = r }) w
+  pub claimed : (r : R Identity) (w : World machine) → End r w → Claimed (layoutOf (port .family)) b (record { meter = w .other .meter; result = r }) w
   claimed r w h =
       record { count = refl; facts = h .facts; only = λ f i. never-both (byteOf (b .a0)) r (f .class) (h .absent i .0); absent = h .absent }
 
   -- from both outcomes to the claim
-  both : (o : Outcome (R Module)) (p : Outcome (Counted (R Module))) → Ending End o → Over o → p ≡ told 0 o → Holds (layoutOf (port .family)) b o p
-  unfolding Holds Ending Over told
+  both : (o : Outcome machine (R Identity)) (p : Outcome machine (Counted (R Identity))) → Ending End o → Finished o → p ≡ told machine recount recount-sees o
+      → Holds (layoutOf (port .family)) b o p
+  unfolding Holds Ending Finished told
   both (ended r w) p h k e = rw e (refl, claimed r w h)
-  both short p h k e = absurd k
+  both (short w) p h k e = absurd k
+  both (stopped n w) p h k e = absurd k
 
 -- Demand 3, of the definition of `identify`
 pub identified : (port : Port) (b : Bench) (word : ℕ) (answers : List Answer) → Starts port b word → Premises port b word answers
@@ -136,24 +148,24 @@ pub identified : (port : Port) (b : Bench) (word : ℕ) (answers : List Answer) 
 unfolding Starts Premises Claim
 identified port b word answers s m n =
     both port b (s .0) _ _
-    (always-benched (layoutOf (port .family)) (End port b (s .0)) (identify port) (atStart word b) answers (always-identified port b (s .0) word _ _ (rests (layoutOf (port .family)) word (s .1))) m .ending)
-    (ends-benched (layoutOf (port .family)) (identify port) (IDENTIFY-STEPS (port .family)) (identify-ends port) (atStart word b) answers n m)
-    (tally-benched (layoutOf (port .family)) 0 (identify port) (atStart word b) answers)
+    (always-run (layoutOf (port .family)) listed (End port b (s .0)) (identify standard port) (atStart word b) answers (always-identified port b (s .0) word _ _ (rests (layoutOf (port .family)) word (s .1))) m .ending)
+    (ends-run (layoutOf (port .family)) (identify standard port) (IDENTIFY-STEPS (port .family)) (identify-ends standard port) (atStart word b) answers n m)
+    (tally-run machine recount recount-sees (layoutOf (port .family)) listed (identify standard port) (atStart word b) answers)
 
 -- The same for a list of any length: whenever the call has come to its end
 pub identified-ended : (port : Port) (b : Bench) (word : ℕ) (answers : List Answer) → Starts port b word → Premises port b word answers
-    → (r : R Module) (w : World machine) → benched (layoutOf (port .family)) (identify port) (atStart word b) answers .outcome ≡ ended r w
-    → Claimed (layoutOf (port .family)) b (record { transfers = w .other .made; result = r }) w
+    → (r : R Identity) (w : World machine) → benchRun port (identify standard port) b word answers .outcome ≡ ended r w
+    → Claimed (layoutOf (port .family)) b (record { meter = w .other .meter; result = r }) w
 unfolding Starts Premises Ending
 identified-ended port b word answers s m r w e =
     claimed port b (s .0) r w
     (subst (Ending (End port b (s .0))) e
-    (always-benched (layoutOf (port .family)) (End port b (s .0)) (identify port) (atStart word b) answers (always-identified port b (s .0) word _ _ (rests (layoutOf (port .family)) word (s .1))) m .ending))
+    (always-run (layoutOf (port .family)) listed (End port b (s .0)) (identify standard port) (atStart word b) answers (always-identified port b (s .0) word _ _ (rests (layoutOf (port .family)) word (s .1))) m .ending))
 
 -- `identify` never moves both lines by one write
 pub never-both-lines : (port : Port) (b : Bench) (word : ℕ) (answers : List Answer) → Starts port b word → Premises port b word answers
-    → Each (Steady (layoutOf (port .family))) (benched (layoutOf (port .family)) (identify port) (atStart word b) answers .events)
+    → Each (Steady (layoutOf (port .family))) (benchRun port (identify standard port) b word answers .trace)
 unfolding Starts Premises
 never-both-lines port b word answers s m =
-    always-benched (layoutOf (port .family)) (End port b (s .0)) (identify port) (atStart word b) answers
+    always-run (layoutOf (port .family)) listed (End port b (s .0)) (identify standard port) (atStart word b) answers
     (always-identified port b (s .0) word _ _ (rests (layoutOf (port .family)) word (s .1))) m .steady

@@ -23,7 +23,7 @@ use Rattle.bench.specs.declared.receiver.Stage.{Stage}
 use Rattle.bench.specs.declared.receiver.Stage.the-variants.{Idle, Address, Receive, AckRead, AckWrite, Send, Listen}
 use Rattle.bench.specs.Receiver.{at, stopped, taken, takes, riseAt, rise, addressed, fallAt, fall, asksAt, asks, edged, asksOn, pullsAt, pulls}
 use Rattle.bench.specs.Bench.{under, acted, pageOf, withPage, takesEdge, pullsLow}
-use Rattle.demand.specs.Claim.{Met, machine}
+use Rattle.demand.specs.Claim.{CountedBench, machine}
 use Rattle.demand.proofs.Receiver.{with, rise-takes, fall-takes, rise-pulls, idle-free, stop-takes, stop-free, taking, taking-rises, taking-stays, taking-free, address-taking}
 use Rattle.demand.proofs.Bits.{tookBits, byte-taken}
 use Rattle.demand.proofs.Bytes as Bytes
@@ -58,26 +58,26 @@ acted-bytes2 (Store v) h A2 r b = absurd h
 acted-bytes2 Next h A2 r b = refl
 
 -- the receiver goes its way, and the pages keep their bytes where nothing is stored
-pub edge-receiver : (e : Edge) (m : Met) → machine .takes e m .bench .receiver ≡ edged e (m .bench .receiver)
+pub edge-receiver : (e : Edge) (m : CountedBench) → machine .takes e m .bench .receiver ≡ edged e (m .bench .receiver)
 unfolding takesEdge
 edge-receiver e m = with-receiver (m .bench .receiver .page) _ _ (m .bench)
 
-pub edge-kept : (e : Edge) (m : Met) → Keeps (asksOn e (m .bench .receiver)) → Kept m (machine .takes e m)
+pub edge-kept : (e : Edge) (m : CountedBench) → Keeps (asksOn e (m .bench .receiver)) → Kept m (machine .takes e m)
 unfolding takesEdge
 edge-kept e m h = record { a0 = acted-bytes _ h (m .bench .receiver .page) _ (m .bench); a2 = acted-bytes2 _ h (m .bench .receiver .page) _ (m .bench); made = refl }
 
-pub kept-then : {m n o : Met} → Kept m n → Kept n o → Kept m o
+pub kept-then : {m n o : CountedBench} → Kept m n → Kept n o → Kept m o
 kept-then h k = record { a0 = k .a0 ∙ h .a0; a2 = k .a2 ∙ h .a2; made = k .made ∙ h .made }
 
 -- SCL rises and falls with SDA released by the master
-abbrev pub pulsed : Met → Met
+abbrev pub pulsed : CountedBench → CountedBench
 pulsed m = machine .takes Fall (machine .takes (Bit (not (machine .pulls m .sda))) m)
 
 -- the same of the receiver alone; byte: the one at the offset of the page chosen
 abbrev pub pulsedBy : ℕ → Receiver → Receiver
 pulsedBy byte r = fall (rise (not (pulls r byte)) r)
 
-pub pulsed-receiver : (m : Met) → pulsed m .bench .receiver ≡ pulsedBy (under (pageOf (m .bench .receiver .page) (m .bench))) (m .bench .receiver)
+pub pulsed-receiver : (m : CountedBench) → pulsed m .bench .receiver ≡ pulsedBy (under (pageOf (m .bench .receiver .page) (m .bench))) (m .bench .receiver)
 unfolding edged pullsLow
 pulsed-receiver m = edge-receiver Fall (machine .takes (Bit (not (machine .pulls m .sda))) m) ∙ ap fall (edge-receiver (Bit (not (machine .pulls m .sda))) m)
 
@@ -114,12 +114,12 @@ pulse k bits byte page first noted (Send n) h = send-pulse k n bits byte page fi
 pulse k bits byte page first noted Listen h = record { stage = tt; keeps = tt }
 
 -- a module whose receiver sends, after one pulse
-sends-pulsed : (k : ℕ) (m : Met) → Sends (suc k) (m .bench .receiver .stage) → Sends k (pulsed m .bench .receiver .stage)
+sends-pulsed : (k : ℕ) (m : CountedBench) → Sends (suc k) (m .bench .receiver .stage) → Sends k (pulsed m .bench .receiver .stage)
 sends-pulsed k m h =
     subst⁻¹ (λ (r : Receiver). Sends k (r .stage)) (pulsed-receiver m)
     (pulse k (m .bench .receiver .bits) _ (m .bench .receiver .page) (m .bench .receiver .first) (m .bench .receiver .noted) (m .bench .receiver .stage) h .stage)
 
-kept-pulsed : (k : ℕ) (m : Met) → Sends (suc k) (m .bench .receiver .stage) → Kept m (pulsed m)
+kept-pulsed : (k : ℕ) (m : CountedBench) → Sends (suc k) (m .bench .receiver .stage) → Kept m (pulsed m)
 unfolding asksOn edged pullsLow
 kept-pulsed k m h =
     kept-then (edge-kept (Bit (not (machine .pulls m .sda))) m tt)
@@ -153,7 +153,7 @@ writes-pulse k bits byte page first noted AckWrite h = absurd (omega (arith, h))
 writes-pulse k bits byte page first noted (Send n) h = absurd h
 writes-pulse k bits byte page first noted Listen h = absurd h
 
-writes-pulsed : (k : ℕ) (m : Met) → Writes (suc k) (m .bench .receiver .stage) → Writes k (pulsed m .bench .receiver .stage)
+writes-pulsed : (k : ℕ) (m : CountedBench) → Writes (suc k) (m .bench .receiver .stage) → Writes k (pulsed m .bench .receiver .stage)
 writes-pulsed k m h =
     subst⁻¹ (λ (r : Receiver). Writes k (r .stage)) (pulsed-receiver m)
     (writes-pulse k (m .bench .receiver .bits) _ (m .bench .receiver .page) (m .bench .receiver .first) (m .bench .receiver .noted) (m .bench .receiver .stage) h)
@@ -178,7 +178,7 @@ still-at AckWrite sda r h = refl
 still-at (Send n) sda r h = refl
 still-at Listen sda r h = absurd h
 
-pub still : (sda : Bool) (m : Met) → Still (m .bench .receiver .stage) → machine .takes (Bit sda) m ≡ m
+pub still : (sda : Bool) (m : CountedBench) → Still (m .bench .receiver .stage) → machine .takes (Bit sda) m ≡ m
 unfolding rise
 still sda m h = rise-takes sda m ∙ ap (λ r. with r m) (still-at (m .bench .receiver .stage) sda (m .bench .receiver) h)
 
@@ -192,7 +192,7 @@ sends-free-at AckWrite byte h = absurd h
 sends-free-at (Send n) byte h = absurd (omega (arith, h .0))
 sends-free-at Listen byte h = refl
 
-sends-free : (m : Met) → Sends 0 (m .bench .receiver .stage) → machine .pulls m .sda ≡ false
+sends-free : (m : CountedBench) → Sends 0 (m .bench .receiver .stage) → machine .pulls m .sda ≡ false
 unfolding pullsLow pulls
 sends-free m h = sends-free-at (m .bench .receiver .stage) _ h
 
@@ -205,10 +205,10 @@ writes-ack-at AckWrite h = refl
 writes-ack-at (Send n) h = absurd h
 writes-ack-at Listen h = absurd h
 
-writes-ack : (m : Met) → Writes 0 (m .bench .receiver .stage) → m .bench .receiver .stage ≡ AckWrite
+writes-ack : (m : CountedBench) → Writes 0 (m .bench .receiver .stage) → m .bench .receiver .stage ≡ AckWrite
 writes-ack m h = writes-ack-at (m .bench .receiver .stage) h
 
-pub ack-pulls : (m : Met) → m .bench .receiver .stage ≡ AckWrite → machine .pulls m .sda ≡ true
+pub ack-pulls : (m : CountedBench) → m .bench .receiver .stage ≡ AckWrite → machine .pulls m .sda ≡ true
 unfolding pullsLow pulls pullsAt
 ack-pulls m e = rw e
 
@@ -225,15 +225,15 @@ all-ones (suc (suc (suc (suc (suc (suc zero)))))) h = refl
 all-ones (suc (suc (suc (suc (suc (suc (suc zero))))))) h = refl
 all-ones (suc (suc (suc (suc (suc (suc (suc (suc n)))))))) h = absurd (omega (arith, h))
 
-not-addressed : (r : Receiver) (m : Met) → machine .takes Fall (with (taking Address 8 0xff r) m) ≡ with (at Idle (taking Address 8 0xff r)) m
+not-addressed : (r : Receiver) (m : CountedBench) → machine .takes Fall (with (taking Address 8 0xff r) m) ≡ with (at Idle (taking Address 8 0xff r)) m
 unfolding asks asksAt fall fallAt addressed pick
 not-addressed r m = fall-takes (with (taking Address 8 0xff r) m) refl
 
-idle-falls : (r : Receiver) (m : Met) → machine .takes Fall (with (at Idle r) m) ≡ with (at Idle r) m
+idle-falls : (r : Receiver) (m : CountedBench) → machine .takes Fall (with (at Idle r) m) ≡ with (at Idle r) m
 unfolding asks asksAt fall fallAt
 idle-falls r m = fall-takes (with (at Idle r) m) refl
 
-one : (r : Receiver) (m : Met) (c bits n : ℕ) → c < 8 → n < 8
+one : (r : Receiver) (m : CountedBench) (c bits n : ℕ) → c < 8 → n < 8
     → pulsed (with (taking Address c bits r) m) ≡ machine .takes Fall (with (taking Address (suc c) (taken bits (bitOf 0xff n)) r) m)
 one r m c bits n h k =
     ap (λ sda. machine .takes Fall (machine .takes (Bit (not sda)) (with (taking Address c bits r) m))) (taking-free Address address-taking r m c bits)
@@ -242,7 +242,7 @@ one r m c bits n h k =
 
 module _ (l : Layout) (g : Distinct l) where
   -- a pulse, where SCL is low at its beginning or high, of a receiver that keeps still
-  first-pulse : (b : Bool) (m : Met) {k : Bus} {Q : Claim machine} → Still (m .bench .receiver .stage)
+  first-pulse : (b : Bool) (m : CountedBench) {k : Bus} {Q : Claim machine} → Still (m .bench .receiver .stage)
       → From l machine false true (machine .takes Fall m) k Q → From l machine false b m (sclHigh l (wait 4 (sclLow l (wait 5 k)))) Q
   first-pulse true m e h = Commands.pulse l g machine (λ s. refl) (Bytes.from l g (ap (machine .takes Fall) (still _ m e)) h)
   first-pulse false m e h =
@@ -250,23 +250,23 @@ module _ (l : Layout) (g : Distinct l) where
       (Lines.pause l g machine 4 (Commands.down l g machine (λ s. refl) (Lines.pause l g machine 5 h))))
 
   -- pulses over a receiver that sends, and over one that takes a byte
-  sends-pulses : (n : ℕ) (m : Met) {k : Bus} {Q : Claim machine} → Sends n (m .bench .receiver .stage)
-      → ((o : Met) → Sends 0 (o .bench .receiver .stage) → Kept m o → From l machine false true o k Q) → From l machine false true m (pulses l n k) Q
+  sends-pulses : (n : ℕ) (m : CountedBench) {k : Bus} {Q : Claim machine} → Sends n (m .bench .receiver .stage)
+      → ((o : CountedBench) → Sends 0 (o .bench .receiver .stage) → Kept m o → From l machine false true o k Q) → From l machine false true m (pulses l n k) Q
   unfolding pulses
   sends-pulses zero m e h = h m e (record { a0 = refl; a2 = refl; made = refl })
   sends-pulses (suc n) m e h =
       Commands.pulse l g machine (λ s. refl) (sends-pulses n (pulsed m) (sends-pulsed n m e) (λ o f kept. h o f (kept-then (kept-pulsed n m e) kept)))
 
-  writes-pulses : (n : ℕ) (m : Met) {k : Bus} {Q : Claim machine} → Writes n (m .bench .receiver .stage)
-      → ((o : Met) → Writes 0 (o .bench .receiver .stage) → o .made ≡ m .made → From l machine false true o k Q)
+  writes-pulses : (n : ℕ) (m : CountedBench) {k : Bus} {Q : Claim machine} → Writes n (m .bench .receiver .stage)
+      → ((o : CountedBench) → Writes 0 (o .bench .receiver .stage) → o .meter .transfers ≡ m .meter .transfers → From l machine false true o k Q)
       → From l machine false true m (pulses l n k) Q
   unfolding pulses
   writes-pulses zero m e h = h m e refl
   writes-pulses (suc n) m e h = Commands.pulse l g machine (λ s. refl) (writes-pulses n (pulsed m) (writes-pulsed n m e) h)
 
   -- the start and the stop at the end
-  freed : (m : Met) {Q : Claim machine} → machine .pulls m .sda ≡ false
-      → ((n : Met) → n .bench .receiver .stage ≡ Idle → Kept m n → FromRest l machine false false n (done none) Q)
+  freed : (m : CountedBench) {Q : Claim machine} → machine .pulls m .sda ≡ false
+      → ((n : CountedBench) → n .bench .receiver .stage ≡ Idle → Kept m n → FromRest l machine false false n (done none) Q)
       → From l machine false true m (clearAgain l) Q
   unfolding clearAgain clearStop Always quieted orQuiet stopped
   freed m {Q} free h =
@@ -280,7 +280,7 @@ module _ (l : Layout) (g : Distinct l) where
       ended r = ap (machine .takes STOP) (rise-takes false (with (taking Address 0 0 r) m)) ∙ stop-takes (with (rise false (taking Address 0 0 r)) m)
 
   -- the first start of the clearing finds SDA held, and the master releases it
-  clear-begins : (b : Bool) (m : Met) {Q : Claim machine} → machine .pulls m .sda ≡ true → From l machine false b m (pulses l 9 (clearAgain l)) Q
+  clear-begins : (b : Bool) (m : CountedBench) {Q : Claim machine} → machine .pulls m .sda ≡ true → From l machine false b m (pulses l 9 (clearAgain l)) Q
       → From l machine false b m (clear l) Q
   unfolding clear clearFree
   clear-begins b m held h =
@@ -288,15 +288,15 @@ module _ (l : Layout) (g : Distinct l) where
       (Commands.at-rest l g machine (λ s. refl) (Commands.start-stuck l g machine (λ s. refl) (done none) held (Commands.failed-quietly l g machine (λ s. refl) 0
       (Lines.sda-released l g machine (Bytes.from l g (Lines.turn-none machine (drawn false b) m) h)))))
 
-  nine : (b : Bool) (m : Met) (k : Bus) {Q : Claim machine} → Still (m .bench .receiver .stage)
+  nine : (b : Bool) (m : CountedBench) (k : Bus) {Q : Claim machine} → Still (m .bench .receiver .stage)
       → From l machine false true (machine .takes Fall m) (pulses l 8 k) Q → From l machine false b m (pulses l 9 k) Q
   unfolding pulses
   nine b m k e h = first-pulse b m e h
 
   -- The clearing sequence takes a receiver that sends, SDA pulled low, to Idle with the bytes as they were
-  pub clears : (b : Bool) (m : Met) {Q : Claim machine} → Still (m .bench .receiver .stage) → machine .pulls m .sda ≡ true
+  pub clears : (b : Bool) (m : CountedBench) {Q : Claim machine} → Still (m .bench .receiver .stage) → machine .pulls m .sda ≡ true
       → Sends 8 (fall (m .bench .receiver) .stage) → Keeps (asks (m .bench .receiver))
-      → ((n : Met) → n .bench .receiver .stage ≡ Idle → Kept m n → FromRest l machine false false n (done none) Q)
+      → ((n : CountedBench) → n .bench .receiver .stage ≡ Idle → Kept m n → FromRest l machine false false n (done none) Q)
       → From l machine false b m (clear l) Q
   unfolding edged asksOn
   clears b m e held sends keeps h =
@@ -305,8 +305,8 @@ module _ (l : Layout) (g : Distinct l) where
       freed o (sends-free o f) (λ n idle kept′. h n idle (kept-then (edge-kept Fall m keeps) (kept-then kept kept′))))))
 
   -- and AckWrite to AckWrite
-  pub clears-not : (b : Bool) (m : Met) {Q : Claim machine} → m .bench .receiver .stage ≡ AckWrite
-      → ((n : Met) → n .bench .receiver .stage ≡ AckWrite → n .made ≡ m .made → From l machine false false n (done none) Q)
+  pub clears-not : (b : Bool) (m : CountedBench) {Q : Claim machine} → m .bench .receiver .stage ≡ AckWrite
+      → ((n : CountedBench) → n .bench .receiver .stage ≡ AckWrite → n .meter .transfers ≡ m .meter .transfers → From l machine false false n (done none) Q)
       → From l machine false b m (clear l) Q
   unfolding edged clearAgain clearStop fall fallAt
   clears-not b m e h =
@@ -319,7 +319,7 @@ module _ (l : Layout) (g : Distinct l) where
       (Bytes.from l g (still false o (subst⁻¹ Still (writes-ack o f) tt)) (Commands.failed-quietly l g machine (λ s. refl) 0 (h o (writes-ack o f) made)))))))))))
 
   -- pulses with SDA released are eight bits 1 to a receiver that takes an address; one more pulse is left
-  ones : (r : Receiver) (m : Met) (n c bits : ℕ) (k : Bus) {Q : Claim machine} → c + suc n ≡ 8
+  ones : (r : Receiver) (m : CountedBench) (n c bits : ℕ) (k : Bus) {Q : Claim machine} → c + suc n ≡ 8
       → From l machine false true (machine .takes Fall (with (taking Address 8 (tookBits (suc n) 0xff bits) r) m)) (pulses l 1 k) Q
       → From l machine false true (with (taking Address c bits r) m) (pulses l (suc (suc n)) k) Q
   unfolding pulses tookBits
@@ -334,14 +334,14 @@ module _ (l : Layout) (g : Distinct l) where
       (Bytes.from l g (one r m c bits (suc n) (omega arith) (omega arith) ∙ taking-stays Address address-taking r m (suc c) (taken bits (bitOf 0xff (suc n))) (omega arith))
       (ones r m n (suc c) (taken bits (bitOf 0xff (suc n))) k (omega arith) h))
 
-  idle-pulse : (r : Receiver) (m : Met) (k : Bus) {Q : Claim machine} → From l machine false true (with (at Idle r) m) k Q
+  idle-pulse : (r : Receiver) (m : CountedBench) (k : Bus) {Q : Claim machine} → From l machine false true (with (at Idle r) m) k Q
       → From l machine false true (with (at Idle r) m) (pulses l 1 k) Q
   unfolding pulses
   idle-pulse r m k h = first-pulse true (with (at Idle r) m) tt (Bytes.from l g (idle-falls r m) h)
 
   -- The clearing takes a receiver that does not pull SDA to Idle too: it takes FF for an address, which is nobody's
-  pub clears-free : (a b : Bool) (m : Met) {Q : Claim machine} → machine .pulls m .sda ≡ false
-      → ((n : Met) → n .bench .receiver .stage ≡ Idle → Kept m n → FromRest l machine false false n (done none) Q)
+  pub clears-free : (a b : Bool) (m : CountedBench) {Q : Claim machine} → machine .pulls m .sda ≡ false
+      → ((n : CountedBench) → n .bench .receiver .stage ≡ Idle → Kept m n → FromRest l machine false false n (done none) Q)
       → From l machine a b m (clear l) Q
   unfolding clear clearFree
   clears-free a b m free h =

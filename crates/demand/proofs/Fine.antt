@@ -3,8 +3,7 @@ use Prim.Native.Nat.{ℕ, suc, zero}
 use mathlib.Core.Path.{_≡_, refl, sym, subst}
 use mathlib.Core.Bool.{Bool, true, false}
 use lib.Dec.{eqb}
-use Rattle.hardware.specs.declared.Access.{Access}
-use Rattle.hardware.specs.declared.Access.the-variants.{Read, Write, Wait}
+use Rattle.hardware.specs.declared.Access.the-variants.{Wait}
 use Rattle.hardware.specs.declared.Answer.{Answer}
 use Rattle.hardware.specs.declared.change.Change.{Change}
 use Rattle.hardware.specs.declared.poll.Watch.{Watch}
@@ -13,9 +12,10 @@ use Rattle.hardware.specs.Registers.{STATUS, checked, written, flushed, read, w
 use Rattle.hardware.specs.Change.{settled, stored, change}
 use Rattle.hardware.specs.Poll.{polled, poll}
 use Rattle.bus.specs.declared.Layout.{Layout}
-use Rattle.wire.specs.Always.{Side, World, Answered, noted, Always}
-use Rattle.wire.proofs.Always.{always-bind}
-use Rattle.demand.specs.Fine.{Elsewhere, Apart, Fine}
+use Rattle.wire.specs.Machine.{Side, World, models, modelled, noted}
+use Rattle.wire.specs.Always.{ByKind, Answered, Always}
+use Rattle.wire.proofs.Always.{by-kind-map, always-bind}
+use Rattle.demand.specs.Fine.{Apart, Fine}
 
 -- a success, of whose value P holds
 unfoldable pub Good : {A : Type 0} → (A → Type 0) → R A → Type 0
@@ -32,8 +32,8 @@ fair-is (Ok u) g = refl
 fair-is (Err e) g = absurd g
 
 -- a register other than I2CCTL whose checked reads don't say that the card is gone
-pub record Beside (reg : ℕ) (may : ℕ → ℕ → Type 0) (r : ℕ) : Type 0 where
-  pub other : eqb r reg ≡ false
+pub record Beside (l : Layout) (may : ℕ → ℕ → Type 0) (r : ℕ) : Type 0 where
+  pub other : models l r ≡ false
   pub present : (v : ℕ) → may r v → eqb v 0xffffffff ≡ false
 
 apart-map : (n : Note) (X Y : Type 0) → (X → Y) → Apart n X → Apart n Y
@@ -43,106 +43,100 @@ apart-map Acquired X Y f h = f h
 apart-map Released X Y f h = f h
 apart-map Lapsed X Y f h = tt
 
-module _ (reg : ℕ) (may : ℕ → ℕ → Type 0) where
-  elsewhere-map : (x : Access) (K L : Answer → Type 0) → ((a : Answer) → K a → L a) → Elsewhere reg may x K → Elsewhere reg may x L
-  unfolding Elsewhere
-  elsewhere-map (Read r) K L f h = (h .0, λ v m. f _ (h .1 v m))
-  elsewhere-map (Write r v) K L f h = (h .0, f _ (h .1))
-  elsewhere-map (Wait n) K L f h = f _ h
-
+module _ (l : Layout) (may : ℕ → ℕ → Type 0) where
   -- what follows from Q holds too
-  pub fine-map : {A : Type 0} (p : Prog A) (Q S : A → Type 0) → ((a : A) → Q a → S a) → Fine reg may p Q → Fine reg may p S
+  pub fine-map : {A : Type 0} (p : Prog A) (Q S : A → Type 0) → ((a : A) → Q a → S a) → Fine l may p Q → Fine l may p S
   unfolding Fine
   fine-map (ret a) Q S f h = f a h
-  fine-map (ask x k) Q S f h = elsewhere-map x _ _ (λ a. fine-map (k a) Q S f) h
+  fine-map (ask x k) Q S f h = (h .0, by-kind-map may x _ _ (λ a. fine-map (k a) Q S f) (h .1))
   fine-map (note n p) Q S f h = apart-map n _ _ (fine-map p Q S f) h
   fine-map (give b p) Q S f h = fine-map p Q S f h
 
   -- one call after another
-  pub fine-bind : {A B : Type 0} (p : Prog A) (k : A → Prog B) (Q : B → Type 0) → Fine reg may p (λ a. Fine reg may (k a) Q) → Fine reg may (p >>= k) Q
+  pub fine-bind : {A B : Type 0} (p : Prog A) (k : A → Prog B) (Q : B → Type 0) → Fine l may p (λ a. Fine l may (k a) Q) → Fine l may (p >>= k) Q
   unfolding Fine _>>=_
   fine-bind (ret a) k Q h = h
-  fine-bind (ask x f) k Q h = elsewhere-map x _ _ (λ a. fine-bind (f a) k Q) h
+  fine-bind (ask x f) k Q h = (h .0, by-kind-map may x _ _ (λ a. fine-bind (f a) k Q) (h .1))
   fine-bind (note n p) k Q h = apart-map n _ _ (fine-bind p k Q) h
   fine-bind (give b p) k Q h = fine-bind p k Q h
 
-  pub fine-then : {A B : Type 0} (p : Prog A) (k : A → Prog B) (P : A → Type 0) (Q : B → Type 0) → Fine reg may p P → ((a : A) → P a → Fine reg may (k a) Q)
-      → Fine reg may (p >>= k) Q
+  pub fine-then : {A B : Type 0} (p : Prog A) (k : A → Prog B) (P : A → Type 0) (Q : B → Type 0) → Fine l may p P → ((a : A) → P a → Fine l may (k a) Q)
+      → Fine l may (p >>= k) Q
   fine-then p k P Q h f = fine-bind p k Q (fine-map p P _ f h)
 
   -- the same where a failure would end the call, and none does
-  pub fine-or : {A B : Type 0} (k : A → Prog (R B)) (P : A → Type 0) (Q : R B → Type 0) → ((a : A) → P a → Fine reg may (k a) Q) → (r : R A) → Good P r
-      → Fine reg may (orErr k r) Q
+  pub fine-or : {A B : Type 0} (k : A → Prog (R B)) (P : A → Type 0) (Q : R B → Type 0) → ((a : A) → P a → Fine l may (k a) Q) → (r : R A) → Good P r
+      → Fine l may (orErr k r) Q
   unfolding Good orErr
   fine-or k P Q f (Ok a) g = f a g
   fine-or k P Q f (Err e) g = absurd g
 
-  pub fine-try : {A B : Type 0} (p : Prog (R A)) (k : A → Prog (R B)) (P : A → Type 0) (Q : R B → Type 0) → Fine reg may p (Good P)
-      → ((a : A) → P a → Fine reg may (k a) Q) → Fine reg may (p >>? k) Q
+  pub fine-try : {A B : Type 0} (p : Prog (R A)) (k : A → Prog (R B)) (P : A → Type 0) (Q : R B → Type 0) → Fine l may p (Good P)
+      → ((a : A) → P a → Fine l may (k a) Q) → Fine l may (p >>? k) Q
   fine-try p k P Q h f = fine-then p (orErr k) (Good P) Q h (fine-or k P Q f)
 
-  pub fine-pick : {A : Type 0} (b : Bool) (p q : Prog A) (Q : A → Type 0) → Fine reg may p Q → Fine reg may q Q → Fine reg may (pick b p q) Q
+  pub fine-pick : {A : Type 0} (b : Bool) (p q : Prog A) (Q : A → Type 0) → Fine l may p Q → Fine l may q Q → Fine l may (pick b p q) Q
   unfolding pick
   fine-pick true p q Q h g = h
   fine-pick false p q Q h g = g
 
-  pub fine-ret : {A : Type 0} (a : A) (Q : A → Type 0) → Q a → Fine reg may (ret a) Q
+  pub fine-ret : {A : Type 0} (a : A) (Q : A → Type 0) → Q a → Fine l may (ret a) Q
   unfolding Fine
   fine-ret a Q h = h
 
-  pub fine-ok : {A : Type 0} (a : A) → Fine reg may (ret (Ok a)) Fair
+  pub fine-ok : {A : Type 0} (a : A) → Fine l may (ret (Ok a)) Fair
   unfolding Fine Good
   fine-ok a = tt
 
-  pub fine-lapsed : {A : Type 0} (p : Prog A) (Q : A → Type 0) → Fine reg may (note Lapsed p) Q
+  pub fine-lapsed : {A : Type 0} (p : Prog A) (Q : A → Type 0) → Fine l may (note Lapsed p) Q
   unfolding Fine
   fine-lapsed p Q = tt
 
-  pub fine-acquires : {A : Type 0} (p : Prog A) (Q : A → Type 0) → Fine reg may p Q → Fine reg may (note Acquires p) Q
+  pub fine-acquires : {A : Type 0} (p : Prog A) (Q : A → Type 0) → Fine l may p Q → Fine l may (note Acquires p) Q
   unfolding Fine
   fine-acquires p Q h = h
 
-  pub fine-acquired : {A : Type 0} (p : Prog A) (Q : A → Type 0) → Fine reg may p Q → Fine reg may (note Acquired p) Q
+  pub fine-acquired : {A : Type 0} (p : Prog A) (Q : A → Type 0) → Fine l may p Q → Fine l may (note Acquired p) Q
   unfolding Fine
   fine-acquired p Q h = h
 
-  pub fine-released : {A : Type 0} (p : Prog A) (Q : A → Type 0) → Fine reg may p Q → Fine reg may (note Released p) Q
+  pub fine-released : {A : Type 0} (p : Prog A) (Q : A → Type 0) → Fine l may p Q → Fine l may (note Released p) Q
   unfolding Fine
   fine-released p Q h = h
 
-  pub fine-read : (r : ℕ) → Beside reg may r → Fine reg may (read r) Fair
-  unfolding Fine Elsewhere Good checked pick
+  pub fine-read : (r : ℕ) → Beside l may r → Fine l may (read r) Fair
+  unfolding Fine ByKind modelled Good checked pick
   fine-read r b = (b .other, λ v m. rw (b .present v m) tt)
 
-  pub fine-write : (r v : ℕ) → eqb r reg ≡ false → Fine reg may (write r v) Fair
-  unfolding Fine Elsewhere Good written
+  pub fine-write : (r v : ℕ) → models l r ≡ false → Fine l may (write r v) Fair
+  unfolding Fine ByKind modelled Good written
   fine-write r v e = (e, tt)
 
-  pub fine-wait : {A : Type 0} (us : ℕ) (k : Answer → Prog A) (Q : A → Type 0) → ((a : Answer) → Fine reg may (k a) Q)
-      → Fine reg may (ask (Wait (micros us)) k) Q
-  unfolding Fine Elsewhere
-  fine-wait us k Q h = h _
+  pub fine-wait : {A : Type 0} (us : ℕ) (k : Answer → Prog A) (Q : A → Type 0) → ((a : Answer) → Fine l may (k a) Q)
+      → Fine l may (ask (Wait (micros us)) k) Q
+  unfolding Fine ByKind modelled
+  fine-wait us k Q h = (refl, h _)
 
-  pub fine-delay : (us : ℕ) → Fine reg may (delay us) Fair
+  pub fine-delay : (us : ℕ) → Fine l may (delay us) Fair
   fine-delay us = fine-wait us _ _ (λ a. fine-ok tt)
 
   -- STATUS is not I2CCTL
-  module _ (status : eqb STATUS reg ≡ false) where
-    pub fine-flush : Fine reg may flush Fair
-    unfolding Fine Elsewhere Good flushed
+  module _ (status : models l STATUS ≡ false) where
+    pub fine-flush : Fine l may flush Fair
+    unfolding Fine ByKind modelled Good flushed
     fine-flush = (status, λ v m. tt)
 
-    fine-settled : (b : Bool) → Fine reg may (settled b) Fair
+    fine-settled : (b : Bool) → Fine l may (settled b) Fair
     unfolding settled
     fine-settled true = fine-flush
     fine-settled false = fine-ok tt
 
-    pub fine-change : (c : Change) → Beside reg may (c .register) → Fine reg may (change c) Fair
+    pub fine-change : (c : Change) → Beside l may (c .register) → Fine l may (change c) Fair
     unfolding change stored
     fine-change c b =
         fine-try _ _ _ _ (fine-read _ b) (λ v _. fine-try _ _ _ _ (fine-write _ _ (b .other)) (λ _ _. fine-settled (c .flushed)))
 
-  pub fine-poll : (w : Watch) → Beside reg may (w .register) → (n last : ℕ) → Fine reg may (poll w n last) Fair
+  pub fine-poll : (w : Watch) → Beside l may (w .register) → (n last : ℕ) → Fine l may (poll w n last) Fair
   unfolding poll polled
   fine-poll w b zero last = fine-ok last
   fine-poll w b (suc n) last =
@@ -160,12 +154,10 @@ module _ (l : Layout) (o : Side) (still : Unmoved o) where
       → Always l o p (noted o n w) Q
   noted-alone n p w Q e h = subst (λ s. Always l o p (record { word = w .word; other = s }) Q) (sym (e (w .other))) h
 
-  pub fine-alone : {A : Type 0} (p : Prog A) (w : World o) (Q : A → World o → Type 0) → Fine (l .reg) (o .may) p (λ a. Q a w) → Always l o p w Q
-  unfolding Fine Elsewhere Always Answered
+  pub fine-alone : {A : Type 0} (p : Prog A) (w : World o) (Q : A → World o → Type 0) → Fine l (o .may) p (λ a. Q a w) → Always l o p w Q
+  unfolding Fine Always Answered
   fine-alone (ret a) w Q h = h
-  fine-alone (ask (Read r) f) w Q h = rw (h .0) (λ v m. fine-alone (f _) w Q (h .1 v m))
-  fine-alone (ask (Write r v) f) w Q h = rw (h .0) (fine-alone (f _) w Q (h .1))
-  fine-alone (ask (Wait n) f) w Q h = fine-alone (f _) w Q h
+  fine-alone (ask x f) w Q h = rw (h .0) (by-kind-map (o .may) x _ _ (λ a. fine-alone (f a) w Q) (h .1))
   fine-alone (note Attempt p) w Q h = absurd h
   fine-alone (note Acquires p) w Q h = noted-alone Acquires p w Q (still .acquires) (fine-alone p w Q h)
   fine-alone (note Acquired p) w Q h = noted-alone Acquired p w Q (still .acquired) (fine-alone p w Q h)
@@ -175,14 +167,14 @@ module _ (l : Layout) (o : Side) (still : Unmoved o) where
 
   -- and what comes after it begins where it began
   pub fine-always : {A B : Type 0} (p : Prog A) (k : A → Prog B) (w : World o) (Q : B → World o → Type 0)
-      → Fine (l .reg) (o .may) p (λ a. Always l o (k a) w Q) → Always l o (p >>= k) w Q
+      → Fine l (o .may) p (λ a. Always l o (k a) w Q) → Always l o (p >>= k) w Q
   fine-always p k w Q h = always-bind l o p k w Q (fine-alone p w _ h)
 
   pub alone-then : {A B : Type 0} (p : Prog (R A)) (k : A → Prog (R B)) (a : A) (w : World o) (Q : R B → World o → Type 0)
-      → Fine (l .reg) (o .may) p (λ r. r ≡ Ok a) → Always l o (k a) w Q → Always l o (p >>? k) w Q
+      → Fine l (o .may) p (λ r. r ≡ Ok a) → Always l o (k a) w Q → Always l o (p >>? k) w Q
   unfolding orErr
-  alone-then p k a w Q h g = fine-always p (orErr k) w Q (fine-map (l .reg) (o .may) p _ _ (λ r e. rw e g) h)
+  alone-then p k a w Q h g = fine-always p (orErr k) w Q (fine-map l (o .may) p _ _ (λ r e. rw e g) h)
 
   -- A call that names I2CCTL nowhere and begins no transfer leaves I2CCTL and the other side as they were
-  pub leaves-alone : {A : Type 0} (p : Prog A) (w : World o) (Q : A → Type 0) → Fine (l .reg) (o .may) p Q → Always l o p w (λ a w′. Q a × (w′ ≡ w))
-  leaves-alone p w Q h = fine-alone p w _ (fine-map (l .reg) (o .may) p Q _ (λ a q. (q, refl)) h)
+  pub leaves-alone : {A : Type 0} (p : Prog A) (w : World o) (Q : A → Type 0) → Fine l (o .may) p Q → Always l o p w (λ a w′. Q a × (w′ ≡ w))
+  leaves-alone p w Q h = fine-alone p w _ (fine-map l (o .may) p Q _ (λ a q. (q, refl)) h)

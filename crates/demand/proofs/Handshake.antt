@@ -10,7 +10,8 @@ use Rattle.hardware.specs.Change.{change}
 use Rattle.hostif.specs.Acquire.{acquire, release}
 use Rattle.bus.specs.declared.Taken.{Taken}
 use Rattle.bus.specs.Layout.{layoutOf}
-use Rattle.wire.specs.Always.{World, Always}
+use Rattle.wire.specs.Machine.{World}
+use Rattle.wire.specs.Always.{Always}
 use Rattle.wire.proofs.Always.{always-map, always-bind}
 use Rattle.i2c.specs.I2c.{mask, askBus, giveBus, granting, granted, givenBus, onGrant, withBus, whenLock}
 use Rattle.i2c.proofs.Masks.{mask-plain}
@@ -20,27 +21,27 @@ use Rattle.demand.proofs.Fine.{fair-is, fine-map, fine-try, fine-pick, 
 use Rattle.demand.proofs.Locks.{aside, acquire-fine, release-fine, machine-unmoved}
 
 module _ (port : Port) where
-  pub mask-acquire-fine : Fine (layoutOf (port .family) .reg) staysIn (acquire port (mask port)) (λ r. r ≡ Ok tt)
+  pub mask-acquire-fine : Fine (layoutOf (port .family)) staysIn (acquire port (mask port)) (λ r. r ≡ Ok tt)
   mask-acquire-fine = acquire-fine port (mask port) (mask-plain port)
 
-  pub mask-release-fine : Fine (layoutOf (port .family) .reg) staysIn (release port (mask port)) (λ r. r ≡ Ok tt)
+  pub mask-release-fine : Fine (layoutOf (port .family)) staysIn (release port (mask port)) (λ r. r ≡ Ok tt)
   mask-release-fine = release-fine port (mask port) (mask-plain port)
 
   -- ESDP: a bit is set or cleared
-  pub esdp-fine : (c : Change) → c .register ≡ ESDP → Fine (layoutOf (port .family) .reg) staysIn (change c) (λ r. r ≡ Ok tt)
+  pub esdp-fine : (c : Change) → c .register ≡ ESDP → Fine (layoutOf (port .family)) staysIn (change c) (λ r. r ≡ Ok tt)
   esdp-fine c e =
       let s = aside (port .family) in
       fine-map _ _ _ _ _ fair-is (fine-change _ _ (s .status) c (rw e (s .esdp)))
 
   -- a grant that does not come is a lapse
-  pub granted-fine : (n : ℕ) → Fine (layoutOf (port .family) .reg) staysIn (granted n) (λ r. r ≡ Ok true)
+  pub granted-fine : (n : ℕ) → Fine (layoutOf (port .family)) staysIn (granted n) (λ r. r ≡ Ok true)
   unfolding granted granting
   granted-fine zero = fine-lapsed _ _ _ _
   granted-fine (suc n) =
       fine-try _ _ _ _ _ _ (fine-read _ _ _ (aside (port .family) .esdp))
       (λ v _. fine-pick _ _ _ _ _ _ (fine-try _ _ _ _ _ _ (fine-delay _ _ _) (λ _ _. granted-fine n)) (fine-ret _ _ _ _ refl))
 
-  pub pause-fine : (ms : ℕ) → Fine (layoutOf (port .family) .reg) staysIn (delayMs ms) (λ r. r ≡ Ok tt)
+  pub pause-fine : (ms : ℕ) → Fine (layoutOf (port .family)) staysIn (delayMs ms) (λ r. r ≡ Ok tt)
   pause-fine ms = fine-map _ _ _ _ _ fair-is (fine-delay _ _ _)
 
   module _ (w : World machine) (Q : R Taken → World machine → Type 0) where

@@ -11,8 +11,7 @@ pub mod Requests
 pub mod AtOnce
 pub mod AtOnceCalls
 pub mod Identify
-pub mod Benched
+pub mod Runs
 pub mod Claim
 pub mod Possible
-pub mod Ran
-pub mod Granted
+pub mod Library

@@ -1,69 +1,59 @@
 -- The premises of the claim can be met: for every port and every start there is a list of answers, as long as one likes.
-use Prim.Native.Nat.{ℕ, _+_, _≤_, suc, zero}
-use mathlib.Core.Path.{_≡_, refl, ap}
+use Prim.Native.Nat.{ℕ, _≤_, suc, zero}
+use mathlib.Core.Path.{_≡_, refl, ap, subst⁻¹}
 use mathlib.Core.Bool.{Bool, true, false}
 use mathlib.Core.List.{List, [], _∷_, _++_}
 use native.Mathlib.Omega.{arith}
-use lib.Dec.{eqb}
 use lib.ListN.{length, length-append}
+use Rattle.i2c.specs.I2c.{standard}
 use Rattle.hardware.specs.declared.Access.{Access}
 use Rattle.hardware.specs.declared.Access.the-variants.{Read, Write, Wait}
 use Rattle.hardware.specs.declared.Answer.{Answer}
-use Rattle.hardware.specs.declared.Answer.the-variants.{Value, Done}
+use Rattle.hardware.specs.declared.Answer.the-variants.{Done}
 use Rattle.hardware.specs.declared.Port.{Port}
-use Rattle.hardware.specs.Prog.{Prog, ret, ask, note, give, Attempt, Acquires, Acquired, Released, Lapsed, pick}
+use Rattle.hardware.specs.Prog.{Prog, ret, ask, note, give, Attempt, Acquires, Acquired, Released, Lapsed, R, pick}
 use Rattle.bus.specs.declared.Layout.{Layout}
 use Rattle.bus.specs.Layout.{layoutOf}
-use Rattle.wire.specs.Always.{World, wrote, reading, noted}
+use Rattle.wire.specs.Lines.{Each}
+use Rattle.wire.specs.Machine.{Side, World, modelled, reply, noted}
+use Rattle.wire.specs.Run.{fixed, Run, fed, run, answersIn}
+use Rattle.wire.proofs.Run.{replayed, fixed-finishes}
 use Rattle.bench.specs.declared.Bench.{Bench}
+use Rattle.bench.specs.AtOnce.{atOnce}
+use Rattle.sfp.specs.declared.Identity.{Identity}
 use Rattle.sfp.specs.Identify.{identify}
 use Rattle.sfp.proofs.Ends.{IDENTIFY-STEPS}
-use Rattle.demand.specs.Fine.{names, AtOnce}
-use Rattle.bench.specs.AtOnce.{atOnce}
-use Rattle.demand.specs.Claim.{machine, elsewhere, visit, benched, Each, Works, Premise, atStart, Premises}
+use Rattle.demand.specs.Fine.{AtOnce}
+use Rattle.demand.specs.Claim.{machine, benchRun, Works, Premise, atStart, Premises}
 use Rattle.demand.proofs.AtOnce.{at-once-stays}
 use Rattle.demand.proofs.AtOnceCalls.{identify-at-once}
 
--- the atOnce answers to all accesses but I2CCTL's, which are the machine's
-unfoldable pub playedAt : Layout → Access → (Answer → World machine → List Answer) → World machine → List Answer
-playedAt l (Read r) k w = pick (eqb r (l .reg)) (k (Value (reading l machine w)) w) (atOnce (Read r) ∷ k (atOnce (Read r)) w)
-playedAt l (Write r v) k w = pick (eqb r (l .reg)) (k Done (wrote l machine v w)) (atOnce (Write r v) ∷ k (atOnce (Write r v)) w)
-playedAt l (Wait n) k w = atOnce (Wait n) ∷ k (atOnce (Wait n)) w
-
-unfoldable pub played : {A : Type 0} → Layout → Prog A → World machine → List Answer
-played l (ret a) w = []
-played l (ask x f) w = playedAt l x (λ a w′. played l (f a) w′) w
-played l (note n p) w = played l p (noted machine n w)
-played l (give b p) w = played l p w
-
--- each of them works
+-- each of the atOnce answers works
 at-once-works : (x : Access) → Works x (atOnce x)
 unfolding atOnce
 at-once-works (Read r) = at-once-stays r _ refl
 at-once-works (Write r v) = tt
 at-once-works (Wait n) = tt
 
-module _ (l : Layout) {A : Type 0} (Q : A → Type 0) (rest : List Answer) where
-  at-once-at : (x : Access) (b : Bool) (f : Answer → Prog A) (w : World machine) → names (l .reg) x ≡ b
-      → ((a : Answer) (w′ : World machine) → AtOnce (l .reg) atOnce (f a) Q → Each Premise (benched l (f a) w′ (played l (f a) w′ ++ rest) .events))
-      → AtOnce (l .reg) atOnce (ask x f) Q → Each Premise (benched l (ask x f) w (played l (ask x f) w ++ rest) .events)
-  unfolding benched visit played playedAt names pick AtOnce elsewhere Each Premise
-  at-once-at (Read r) true f w e h k = rw e (h (Value (reading l machine w)) w ((rw e at k) (Value (reading l machine w))))
-  at-once-at (Read r) false f w e h k = rw e (at-once-works (Read r), h (atOnce (Read r)) w (rw e at k))
-  at-once-at (Write r v) true f w e h k = rw e (tt, h Done (wrote l machine v w) ((rw e at k) Done))
-  at-once-at (Write r v) false f w e h k = rw e (at-once-works (Write r v), h (atOnce (Write r v)) w (rw e at k))
-  at-once-at (Wait n) b f w e h k = (at-once-works (Wait n), h (atOnce (Wait n)) w k)
+-- a run with them meets the premises
+module _ (l : Layout) (o : Side) {A : Type 0} (Q : A → Type 0) where
+  premises-at : (x : Access) (b : Bool) (f : Answer → Prog A) (w : World o) (answers : List Answer) → modelled l x ≡ b
+      → ((a : Answer) (w′ : World o) (rest : List Answer) → AtOnce l atOnce (f a) Q → Each Premise (run l o (fixed atOnce) (f a) w′ rest .trace))
+      → AtOnce l atOnce (ask x f) Q → Each Premise (run l o (fixed atOnce) (ask x f) w answers .trace)
+  unfolding run pick fixed fed AtOnce Premise
+  premises-at x true f w answers e h k = rw e (tt, h _ _ _ ((rw e at k) (reply l o x w)))
+  premises-at x false f w answers e h k = rw e (at-once-works x, h _ _ _ (rw e at k))
 
-  pub at-once-premises : (p : Prog A) (w : World machine) → AtOnce (l .reg) atOnce p Q → Each Premise (benched l p w (played l p w ++ rest) .events)
-  unfolding benched played AtOnce Each Premise
-  at-once-premises (ret a) w k = tt
-  at-once-premises (ask x f) w k = at-once-at x (names (l .reg) x) f w refl (λ a w′. at-once-premises (f a) w′) k
-  at-once-premises (note Attempt p) w k = (tt, at-once-premises p (noted machine Attempt w) k)
-  at-once-premises (note Acquires p) w k = (tt, at-once-premises p (noted machine Acquires w) k)
-  at-once-premises (note Acquired p) w k = (tt, at-once-premises p (noted machine Acquired w) k)
-  at-once-premises (note Released p) w k = (tt, at-once-premises p (noted machine Released w) k)
-  at-once-premises (note Lapsed p) w k = absurd k
-  at-once-premises (give b p) w k = at-once-premises p w k
+  pub at-once-premises : (p : Prog A) (w : World o) (answers : List Answer) → AtOnce l atOnce p Q → Each Premise (run l o (fixed atOnce) p w answers .trace)
+  unfolding run AtOnce Premise
+  at-once-premises (ret a) w answers k = tt
+  at-once-premises (ask x f) w answers k = premises-at x (modelled l x) f w answers refl (λ a w′ rest. at-once-premises (f a) w′ rest) k
+  at-once-premises (note Attempt p) w answers k = (tt, at-once-premises p (noted o Attempt w) answers k)
+  at-once-premises (note Acquires p) w answers k = (tt, at-once-premises p (noted o Acquires w) answers k)
+  at-once-premises (note Acquired p) w answers k = (tt, at-once-premises p (noted o Acquired w) answers k)
+  at-once-premises (note Released p) w answers k = (tt, at-once-premises p (noted o Released w) answers k)
+  at-once-premises (note Lapsed p) w answers k = absurd k
+  at-once-premises (give b p) w answers k = at-once-premises p w answers k
 
 -- so many more answers, which no run looks at
 abbrev pub dones : ℕ → List Answer
@@ -74,21 +64,32 @@ dones-length : (n : ℕ) → length (dones n) ≡ n
 dones-length zero = refl
 dones-length (suc n) = ap suc (dones-length n)
 
--- the atOnce answers to a whole identification, and more
-abbrev pub promptAnswers : Port → Bench → ℕ → List Answer
-promptAnswers port b word = played (layoutOf (port .family)) (identify port) (atStart word b) ++ dones (IDENTIFY-STEPS (port .family))
+module _ (port : Port) (b : Bench) (word : ℕ) where
+  -- a whole identification with the atOnce answers
+  abbrev pub prompt : Run machine (R Identity)
+  prompt = run (layoutOf (port .family)) machine (fixed atOnce) (identify standard port) (atStart word b) []
 
-pub at-once-meets : (port : Port) (b : Bench) (word : ℕ) → Premises port b word (promptAnswers port b word)
-unfolding Premises
-at-once-meets port b word =
-    at-once-premises (layoutOf (port .family)) (λ _. Unit {0}) (dones (IDENTIFY-STEPS (port .family))) (identify port) (atStart word b) (identify-at-once port)
+  -- the answers in it, and more
+  abbrev pub promptAnswers : List Answer
+  promptAnswers = answersIn (prompt .trace) ++ dones (IDENTIFY-STEPS (port .family))
 
-pub at-once-long : (port : Port) (b : Bench) (word : ℕ) → IDENTIFY-STEPS (port .family) ≤ length (promptAnswers port b word)
-at-once-long port b word = long (played (layoutOf (port .family)) (identify port) (atStart word b)) (IDENTIFY-STEPS (port .family))
-  where
-    long : (s : List Answer) (n : ℕ) → n ≤ length (s ++ dones n)
-    long s n = omega (arith, length-append s (dones n), dones-length n)
+  pub prompt-replayed : benchRun port (identify standard port) b word promptAnswers ≡ prompt
+  prompt-replayed =
+      replayed (layoutOf (port .family)) machine (fixed atOnce) (dones (IDENTIFY-STEPS (port .family))) (identify standard port) (atStart word b) []
+      (fixed-finishes (layoutOf (port .family)) machine atOnce (identify standard port) (atStart word b) [])
 
--- For every port and every start, AckWrite included, a list of answers that meets the premises and is long enough
-pub possible : (port : Port) (b : Bench) (word : ℕ) → (answers : List Answer) × Premises port b word answers × (IDENTIFY-STEPS (port .family) ≤ length answers)
-possible port b word = (promptAnswers port b word, at-once-meets port b word, at-once-long port b word)
+  pub at-once-meets : Premises port b word promptAnswers
+  unfolding Premises
+  at-once-meets =
+      subst⁻¹ (λ r. Each Premise (r .trace)) prompt-replayed
+      (at-once-premises (layoutOf (port .family)) machine (λ _. Unit {0}) (identify standard port) (atStart word b) [] (identify-at-once port))
+
+  pub at-once-long : IDENTIFY-STEPS (port .family) ≤ length promptAnswers
+  at-once-long = long (answersIn (prompt .trace)) (IDENTIFY-STEPS (port .family))
+    where
+      long : (s : List Answer) (n : ℕ) → n ≤ length (s ++ dones n)
+      long s n = omega (arith, length-append s (dones n), dones-length n)
+
+  -- For every port and every start, AckWrite included, a list of answers that meets the premises and is long enough
+  pub possible : (answers : List Answer) × Premises port b word answers × (IDENTIFY-STEPS (port .family) ≤ length answers)
+  possible = (promptAnswers, at-once-meets, at-once-long)

@@ -13,29 +13,29 @@ use Rattle.bench.specs.declared.receiver.Chosen.the-variants.{A0}
 use Rattle.bench.specs.declared.receiver.Receiver.{Receiver}
 use Rattle.bench.specs.declared.receiver.Stage.the-variants.{Idle, Address, Receive, AckRead, AckWrite}
 use Rattle.bench.specs.Receiver.{at, stopped, chose, byteTaken}
-use Rattle.bench.specs.Bench.{onward, under}
-use Rattle.demand.specs.Claim.{Met, machine}
+use Rattle.bench.specs.Bench.{nextOffset, under}
+use Rattle.demand.specs.Claim.{CountedBench, machine}
 use Rattle.demand.proofs.Bits.{tookBits, byte-taken}
 use Rattle.demand.proofs.Receiver.{with, stop-takes, rise-pulls, address-taking, receive-taking, taking, taking-free, stop-free, idle-free, idle-rise, listen-ends, listen-free, listening, aimed, expecting, addressed-write, addressed-read, offset-taken, ack-write-ends, ack-read-ends}
 use Rattle.demand.proofs.Bytes as Bytes
 
 -- every byte is as it was, and no transfer began
-pub record Kept (m n : Met) : Type 0 where
+pub record Kept (m n : CountedBench) : Type 0 where
   pub a0 : n .bench .a0 .bytes ≡ m .bench .a0 .bytes
   pub a2 : n .bench .a2 .bytes ≡ m .bench .a2 .bytes
-  pub made : n .made ≡ m .made
+  pub made : n .meter .transfers ≡ m .meter .transfers
 
 -- an offset is no byte
-aimed-kept : {i : ℕ} {m n : Met} → Kept (aimed i m) n → Kept m n
+aimed-kept : {i : ℕ} {m n : CountedBench} → Kept (aimed i m) n → Kept m n
 aimed-kept h = record { a0 = h .a0; a2 = h .a2; made = h .made }
 
 module _ (l : Layout) (g : Distinct l) where
-  pub from-rest : {a b : Bool} {s t : Met} {k : Bus} {Q : Claim machine} → s ≡ t → FromRest l machine a b t k Q → FromRest l machine a b s k Q
+  pub from-rest : {a b : Bool} {s t : CountedBench} {k : Bus} {Q : Claim machine} → s ≡ t → FromRest l machine a b t k Q → FromRest l machine a b s k Q
   from-rest {a} {b} {k = k} {Q} e h = subst⁻¹ (λ s. FromRest l machine a b s k Q) e h
 
   -- the byte is not acknowledged, and the stop leaves the receiver idle
-  finished : (r : Receiver) (m : Met) {a : Bool} {k : Bus} {Q : Claim machine}
-      → ((n : Met) → n .bench .receiver .stage ≡ Idle → Kept m n → FromRest l machine false false n k Q)
+  finished : (r : Receiver) (m : CountedBench) {a : Bool} {k : Bus} {Q : Claim machine}
+      → ((n : CountedBench) → n .bench .receiver .stage ≡ Idle → Kept m n → FromRest l machine false false n k Q)
       → From l machine a true (with (listening r) m) (outBit l true (stop l k)) Q
   unfolding stopped
   finished r m h =
@@ -48,8 +48,8 @@ module _ (l : Layout) (g : Distinct l) where
       q = record { stage = Idle; bits = r .bits; page = A0; first = r .first; noted = true }
 
   -- the offset was taken: the second start, the address, and the byte
-  read-back : (r : Receiver) (m : Met) (device : ℕ) (k : ℕ → Bus) {a : Bool} {Q : Claim machine}
-      → ((n : Met) → n .bench .receiver .stage ≡ Idle → Kept m n → FromRest l machine false false n (k (tookBits 8 (under (m .bench .a0)) 0)) Q)
+  read-back : (r : Receiver) (m : CountedBench) (device : ℕ) (k : ℕ → Bus) {a : Bool} {Q : Claim machine}
+      → ((n : CountedBench) → n .bench .receiver .stage ≡ Idle → Kept m n → FromRest l machine false false n (k (tookBits 8 (under (m .bench .a0)) 0)) Q)
       → From l machine a true (with (taking Receive 0 0 r) m) (start l (send l device 0xa1 (inByte l (λ value. outBit l true (stop l (k value)))))) Q
   unfolding inByte
   read-back r m device k {a} h =
@@ -59,12 +59,12 @@ module _ (l : Layout) (g : Distinct l) where
       (ap (λ v. machine .takes Fall (with (taking Address 8 v q) m)) (byte-taken 0xa1 (lit< tt)) ∙ addressed-read q m) tt
       (Bytes.from l g (ack-read-ends (taking Address 8 0xa1 q) m)
       (Bytes.in-bits l g (chose AckRead A0 (taking Address 8 0xa1 q)) m 7 0 0 (λ value. outBit l true (stop l (k value))) refl
-      (finished (chose AckRead A0 (taking Address 8 0xa1 q)) (aimed (onward (m .bench .a0 .offset)) m) (λ n idle kept. h n idle (aimed-kept kept)))))))
+      (finished (chose AckRead A0 (taking Address 8 0xa1 q)) (aimed (nextOffset (m .bench .a0 .offset)) m) (λ n idle kept. h n idle (aimed-kept kept)))))))
 
   -- `read_byte`'s commands: the byte at the offset is handed on, the receiver is idle and both lines are released
-  pub read-byte : (a b : Bool) (m : Met) (device offset : ℕ) (k : ℕ → Bus) {Q : Claim machine} → offset < 256
+  pub read-byte : (a b : Bool) (m : CountedBench) (device offset : ℕ) (k : ℕ → Bus) {Q : Claim machine} → offset < 256
       → getD (m .bench .a0 .bytes) offset 0 < 256 → machine .pulls m .sda ≡ false
-      → ((n : Met) → n .bench .receiver .stage ≡ Idle → Kept m n → FromRest l machine false false n (k (getD (m .bench .a0 .bytes) offset 0)) Q)
+      → ((n : CountedBench) → n .bench .receiver .stage ≡ Idle → Kept m n → FromRest l machine false false n (k (getD (m .bench .a0 .bytes) offset 0)) Q)
       → FromRest l machine a b m
       (start l (send l device 0xa0 (send l device offset (start l (send l device 0xa1 (inByte l (λ value. outBit l true (stop l (k value)))))))))
       Q

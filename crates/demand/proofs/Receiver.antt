@@ -16,12 +16,12 @@ use Rattle.bench.specs.declared.receiver.Receiver.{Receiver}
 use Rattle.bench.specs.declared.receiver.Stage.{Stage}
 use Rattle.bench.specs.declared.receiver.Stage.the-variants.{Idle, Address, Receive, AckRead, AckWrite, Send, Listen}
 use Rattle.bench.specs.Receiver.{at, started, stopped, taken, takes, riseAt, rise, chose, addressed, byteTaken, fallAt, fall, asksAt, asks, edged, asksOn, pullsAt, pulls}
-use Rattle.bench.specs.Bench.{onward, under, acted, pageOf, withPage, takesEdge, pullsLow}
-use Rattle.demand.specs.Claim.{Met, machine}
+use Rattle.bench.specs.Bench.{nextOffset, under, acted, pageOf, withPage, takesEdge, pullsLow}
+use Rattle.demand.specs.Claim.{CountedBench, machine}
 
 -- the same pages and count with another receiver
-abbrev pub with : Receiver → Met → Met
-with r m = record { bench = record { receiver = r; a0 = m .bench .a0; a2 = m .bench .a2 }; made = m .made }
+abbrev pub with : Receiver → CountedBench → CountedBench
+with r m = record { bench = record { receiver = r; a0 = m .bench .a0; a2 = m .bench .a2 }; meter = m .meter }
 
 with-none : (page : Chosen) (r : Receiver) (b : Bench) → withPage page Nothing r b ≡ record { receiver = r; a0 = b .a0; a2 = b .a2 }
 unfolding withPage acted
@@ -29,31 +29,31 @@ with-none A0 r b = refl
 with-none A2 r b = refl
 
 -- an edge that asks nothing of the page
-pub plain : (e : Edge) (m : Met) → asksOn e (m .bench .receiver) ≡ Nothing → machine .takes e m ≡ with (edged e (m .bench .receiver)) m
+pub plain : (e : Edge) (m : CountedBench) → asksOn e (m .bench .receiver) ≡ Nothing → machine .takes e m ≡ with (edged e (m .bench .receiver)) m
 unfolding takesEdge
 plain e m h =
-    ap (λ act. record { bench = withPage (m .bench .receiver .page) act (edged e (m .bench .receiver)) (m .bench); made = m .made }) h
-    ∙ ap (λ b. record { bench = b; made = m .made }) (with-none (m .bench .receiver .page) _ (m .bench))
+    ap (λ act. record { bench = withPage (m .bench .receiver .page) act (edged e (m .bench .receiver)) (m .bench); meter = m .meter }) h
+    ∙ ap (λ b. record { bench = b; meter = m .meter }) (with-none (m .bench .receiver .page) _ (m .bench))
 
 -- START takes every receiver to Address with 0 bits, and SCL's fall leaves it there
-pub start-takes : (m : Met) → machine .takes START m ≡ with (started (m .bench .receiver)) m
+pub start-takes : (m : CountedBench) → machine .takes START m ≡ with (started (m .bench .receiver)) m
 unfolding asksOn edged
 start-takes m = plain START m refl
 
-pub stop-takes : (m : Met) → machine .takes STOP m ≡ with (stopped (m .bench .receiver)) m
+pub stop-takes : (m : CountedBench) → machine .takes STOP m ≡ with (stopped (m .bench .receiver)) m
 unfolding asksOn edged
 stop-takes m = plain STOP m refl
 
-pub rise-takes : (sda : Bool) (m : Met) → machine .takes (Bit sda) m ≡ with (rise sda (m .bench .receiver)) m
+pub rise-takes : (sda : Bool) (m : CountedBench) → machine .takes (Bit sda) m ≡ with (rise sda (m .bench .receiver)) m
 unfolding asksOn edged
 rise-takes sda m = plain (Bit sda) m refl
 
-pub fall-takes : (m : Met) → asks (m .bench .receiver) ≡ Nothing → machine .takes Fall m ≡ with (fall (m .bench .receiver)) m
+pub fall-takes : (m : CountedBench) → asks (m .bench .receiver) ≡ Nothing → machine .takes Fall m ≡ with (fall (m .bench .receiver)) m
 unfolding asksOn edged
 fall-takes m h = plain Fall m h
 
 -- where the receiver does not ask the page for anything, the module's pull is the stage's
-pub pulls-at : (r : Receiver) (m : Met) → machine .pulls (with r m) .sda ≡ pullsAt (r .stage) (under (pageOf (r .page) (with r m .bench)))
+pub pulls-at : (r : Receiver) (m : CountedBench) → machine .pulls (with r m) .sda ≡ pullsAt (r .stage) (under (pageOf (r .page) (with r m .bench)))
 unfolding pullsLow pulls
 pulls-at r m = refl
 
@@ -95,12 +95,12 @@ rise-page-at (Send n) sda r = refl
 rise-page-at Listen sda r = refl
 
 -- the pages are the same with any receiver
-pub page-with : (page : Chosen) (r : Receiver) (m : Met) → pageOf page (with r m .bench) ≡ pageOf page (m .bench)
+pub page-with : (page : Chosen) (r : Receiver) (m : CountedBench) → pageOf page (with r m .bench) ≡ pageOf page (m .bench)
 unfolding pageOf
 page-with A0 r m = refl
 page-with A2 r m = refl
 
-pub rise-pulls : (sda : Bool) (m : Met) → machine .pulls (machine .takes (Bit sda) m) .sda ≡ machine .pulls m .sda
+pub rise-pulls : (sda : Bool) (m : CountedBench) → machine .pulls (machine .takes (Bit sda) m) .sda ≡ machine .pulls m .sda
 unfolding pullsLow pulls rise
 rise-pulls sda m =
     ap (λ n. machine .pulls n .sda) (rise-takes sda m)
@@ -139,7 +139,7 @@ receive-taking =
 abbrev pub taking : (ℕ → Stage) → ℕ → ℕ → Receiver → Receiver
 taking S n bits r = record { stage = S n; bits = bits; page = r .page; first = r .first; noted = r .noted }
 
-module _ (S : ℕ → Stage) (t : Taking S) (r : Receiver) (m : Met) where
+module _ (S : ℕ → Stage) (t : Taking S) (r : Receiver) (m : CountedBench) where
   pub taking-rises : (n bits : ℕ) (sda : Bool) → n < 8 → machine .takes (Bit sda) (with (taking S n bits r) m) ≡ with (taking S (suc n) (taken bits sda) r) m
   unfolding rise
   taking-rises n bits sda h = rise-takes sda (with (taking S n bits r) m) ∙ ap (λ q. with q m) (t .rises n sda (taking S n bits r) h)
@@ -182,20 +182,20 @@ acks-rise-at AckWrite sda r h = refl
 acks-rise-at (Send n) sda r h = refl
 acks-rise-at Listen sda r h = absurd h
 
-pub acks-pull : (m : Met) → Acks (m .bench .receiver .stage) → machine .pulls m .sda ≡ true
+pub acks-pull : (m : CountedBench) → Acks (m .bench .receiver .stage) → machine .pulls m .sda ≡ true
 unfolding pullsLow pulls
 acks-pull m h = acks-pull-at (m .bench .receiver .stage) _ h
 
-pub acks-rise : (sda : Bool) (m : Met) → Acks (m .bench .receiver .stage) → machine .takes (Bit sda) m ≡ m
+pub acks-rise : (sda : Bool) (m : CountedBench) → Acks (m .bench .receiver .stage) → machine .takes (Bit sda) m ≡ m
 unfolding rise
 acks-rise sda m h = rise-takes sda m ∙ ap (λ r. with r m) (acks-rise-at (m .bench .receiver .stage) sda (m .bench .receiver) h)
 
 -- after START, SCL's fall leaves Address with 0 bits
-pub begun : (r : Receiver) (m : Met) → machine .takes Fall (machine .takes START (with r m)) ≡ with (taking Address 0 0 r) m
+pub begun : (r : Receiver) (m : CountedBench) → machine .takes Fall (machine .takes START (with r m)) ≡ with (taking Address 0 0 r) m
 unfolding started
 begun r m = ap (machine .takes Fall) (start-takes (with r m)) ∙ taking-stays Address address-taking r m 0 0 (omega arith)
 
-pub idle-free : (r : Receiver) (m : Met) → r .stage ≡ Idle → machine .pulls (with r m) .sda ≡ false
+pub idle-free : (r : Receiver) (m : CountedBench) → r .stage ≡ Idle → machine .pulls (with r m) .sda ≡ false
 unfolding pullsLow pulls pullsAt
 idle-free r m e = rw e
 
@@ -207,45 +207,45 @@ abbrev pub listening : Receiver → Receiver
 listening r = record { stage = Listen; bits = r .bits; page = A0; first = r .first; noted = r .noted }
 
 -- the offset of page A0 is set, or moves on
-abbrev pub aimed : ℕ → Met → Met
-aimed n m = record { bench = record { receiver = m .bench .receiver; a0 = record { offset = n; bytes = m .bench .a0 .bytes }; a2 = m .bench .a2 }; made = m .made }
+abbrev pub aimed : ℕ → CountedBench → CountedBench
+aimed n m = record { bench = record { receiver = m .bench .receiver; a0 = record { offset = n; bytes = m .bench .a0 .bytes }; a2 = m .bench .a2 }; meter = m .meter }
 
-pub send-bit : (n : ℕ) (r : Receiver) (m : Met) → machine .pulls (with (sending n r) m) .sda ≡ not (bitOf (under (m .bench .a0)) (7 - n))
+pub send-bit : (n : ℕ) (r : Receiver) (m : CountedBench) → machine .pulls (with (sending n r) m) .sda ≡ not (bitOf (under (m .bench .a0)) (7 - n))
 unfolding pullsLow pulls pullsAt pageOf
 send-bit n r m = refl
 
-pub send-rise : (n : ℕ) (sda : Bool) (r : Receiver) (m : Met) → machine .takes (Bit sda) (with (sending n r) m) ≡ with (sending n r) m
+pub send-rise : (n : ℕ) (sda : Bool) (r : Receiver) (m : CountedBench) → machine .takes (Bit sda) (with (sending n r) m) ≡ with (sending n r) m
 unfolding rise riseAt
 send-rise n sda r m = rise-takes sda (with (sending n r) m)
 
-pub send-next : (n : ℕ) (r : Receiver) (m : Met) → n < 7 → machine .takes Fall (with (sending n r) m) ≡ with (sending (suc n) r) m
+pub send-next : (n : ℕ) (r : Receiver) (m : CountedBench) → n < 7 → machine .takes Fall (with (sending n r) m) ≡ with (sending (suc n) r) m
 unfolding asks asksAt fall fallAt pick
 send-next n r m h = fall-takes (with (sending n r) m) (rw (lt-ltb n 7 h)) ∙ ap (λ q. with q m) (rw (lt-ltb n 7 h))
 
-pub send-last : (n : ℕ) (r : Receiver) (m : Met) → 7 ≤ n → machine .takes Fall (with (sending n r) m) ≡ with (listening r) (aimed (onward (m .bench .a0 .offset)) m)
+pub send-last : (n : ℕ) (r : Receiver) (m : CountedBench) → 7 ≤ n → machine .takes Fall (with (sending n r) m) ≡ with (listening r) (aimed (nextOffset (m .bench .a0 .offset)) m)
 unfolding takesEdge edged asksOn asks asksAt fall fallAt pick withPage acted
 send-last n r m h = rw (le-ltb n 7 h)
 
 -- STOP leaves an idle receiver, which pulls nothing
-pub stop-free : (m : Met) → machine .pulls (machine .takes STOP m) .sda ≡ false
+pub stop-free : (m : CountedBench) → machine .pulls (machine .takes STOP m) .sda ≡ false
 unfolding stopped
 stop-free m = ap (λ s. machine .pulls s .sda) (stop-takes m) ∙ idle-free (stopped (m .bench .receiver)) m refl
 
 -- a receiver that listens hears a bit that is not acknowledged, and is idle
-pub listen-ends : (r : Receiver) (m : Met) → machine .takes Fall (machine .takes (Bit true) (with (listening r) m)) ≡ with (at Idle (record { stage = Idle; bits = r .bits; page = A0; first = r .first; noted = true })) m
+pub listen-ends : (r : Receiver) (m : CountedBench) → machine .takes Fall (machine .takes (Bit true) (with (listening r) m)) ≡ with (at Idle (record { stage = Idle; bits = r .bits; page = A0; first = r .first; noted = true })) m
 unfolding rise riseAt asks asksAt fall fallAt pick
 listen-ends r m = ap (machine .takes Fall) (rise-takes true (with (listening r) m)) ∙ fall-takes _ refl
 
-pub listen-free : (r : Receiver) (m : Met) → machine .pulls (with (listening r) m) .sda ≡ false
+pub listen-free : (r : Receiver) (m : CountedBench) → machine .pulls (with (listening r) m) .sda ≡ false
 unfolding pullsLow pulls pullsAt
 listen-free r m = refl
 
 -- the address of page A0, to write or to read, and the offset, taken whole
-pub addressed-write : (r : Receiver) (m : Met) → machine .takes Fall (with (taking Address 8 0xa0 r) m) ≡ with (chose AckWrite A0 (taking Address 8 0xa0 r)) m
+pub addressed-write : (r : Receiver) (m : CountedBench) → machine .takes Fall (with (taking Address 8 0xa0 r) m) ≡ with (chose AckWrite A0 (taking Address 8 0xa0 r)) m
 unfolding asks asksAt fall fallAt addressed pick
 addressed-write r m = fall-takes (with (taking Address 8 0xa0 r) m) refl
 
-pub addressed-read : (r : Receiver) (m : Met) → machine .takes Fall (with (taking Address 8 0xa1 r) m) ≡ with (chose AckRead A0 (taking Address 8 0xa1 r)) m
+pub addressed-read : (r : Receiver) (m : CountedBench) → machine .takes Fall (with (taking Address 8 0xa1 r) m) ≡ with (chose AckRead A0 (taking Address 8 0xa1 r)) m
 unfolding asks asksAt fall fallAt addressed pick
 addressed-read r m = fall-takes (with (taking Address 8 0xa1 r) m) refl
 
@@ -253,20 +253,20 @@ addressed-read r m = fall-takes (with (taking Address 8 0xa1 r) m) refl
 abbrev pub expecting : Receiver → Receiver
 expecting r = record { stage = r .stage; bits = r .bits; page = A0; first = true; noted = r .noted }
 
-pub offset-taken : (n : ℕ) (r : Receiver) (m : Met) → machine .takes Fall (with (taking Receive 8 n (expecting r)) m) ≡ with (byteTaken (taking Receive 8 n (expecting r))) (aimed n m)
+pub offset-taken : (n : ℕ) (r : Receiver) (m : CountedBench) → machine .takes Fall (with (taking Receive 8 n (expecting r)) m) ≡ with (byteTaken (taking Receive 8 n (expecting r))) (aimed n m)
 unfolding takesEdge edged asksOn asks asksAt fall fallAt pick withPage acted
 offset-taken n r m = refl
 
 -- SCL's fall after an acknowledgement
-pub ack-write-ends : (r : Receiver) (m : Met) → r .stage ≡ AckWrite → machine .takes Fall (with r m) ≡ with (taking Receive 0 0 r) m
+pub ack-write-ends : (r : Receiver) (m : CountedBench) → r .stage ≡ AckWrite → machine .takes Fall (with r m) ≡ with (taking Receive 0 0 r) m
 unfolding asks asksAt fall fallAt
 ack-write-ends r m e = fall-takes (with r m) (rw e) ∙ ap (λ q. with q m) (rw e)
 
-pub ack-read-ends : (r : Receiver) (m : Met) → machine .takes Fall (with (chose AckRead A0 r) m) ≡ with (sending 0 (chose AckRead A0 r)) m
+pub ack-read-ends : (r : Receiver) (m : CountedBench) → machine .takes Fall (with (chose AckRead A0 r) m) ≡ with (sending 0 (chose AckRead A0 r)) m
 unfolding asks asksAt fall fallAt
 ack-read-ends r m = fall-takes (with (chose AckRead A0 r) m) refl
 
 -- in an idle receiver nothing happens but START
-pub idle-rise : (sda : Bool) (r : Receiver) (m : Met) → machine .takes (Bit sda) (with (at Idle r) m) ≡ with (at Idle r) m
+pub idle-rise : (sda : Bool) (r : Receiver) (m : CountedBench) → machine .takes (Bit sda) (with (at Idle r) m) ≡ with (at Idle r) m
 unfolding rise riseAt
 idle-rise sda r m = rise-takes sda (with (at Idle r) m)

@@ -12,14 +12,15 @@ use Rattle.bus.specs.declared.Taken.{Taken}
 use Rattle.bus.specs.Layout.{layoutOf}
 use Rattle.bus.specs.Bus.{none, took, isI2c}
 use Rattle.wire.specs.Lines.{drawn, Rests, distinct}
-use Rattle.wire.specs.Always.{World, Always}
+use Rattle.wire.specs.Machine.{World}
+use Rattle.wire.specs.Always.{Always}
 use Rattle.wire.proofs.Always.{always-bind}
 use Rattle.bench.specs.declared.receiver.Stage.the-variants.{Idle, AckWrite}
 use Rattle.i2c.specs.declared.once.Request.the-variants.{ReadByte}
-use Rattle.i2c.specs.I2c.{deviceOf, isWrite, body, read-off, valueOf, givesValue, failedI2c, once, pauses, readJudged, readTries, moves, withBus, handshaken, transferred}
-use Rattle.sfp.specs.declared.Module.{Module}
+use Rattle.i2c.specs.I2c.{standard, locked, deviceOf, isWrite, body, read-off, valueOf, givesValue, failedI2c, once, pauses, readJudged, readTries, retried, withBus, handshaken, transferred}
+use Rattle.sfp.specs.declared.Identity.{Identity}
 use Rattle.sfp.specs.Identify.{EEPROM, absent, orAbsent, byte}
-use Rattle.demand.specs.Claim.{Met, machine}
+use Rattle.demand.specs.Claim.{CountedBench, machine}
 use Rattle.demand.proofs.Receiver.{idle-free}
 use Rattle.demand.proofs.ReadByte.{Kept}
 use Rattle.demand.proofs.Clearing.{ack-pulls}
@@ -27,110 +28,110 @@ use Rattle.demand.proofs.Attempts as Attempts
 use Rattle.demand.proofs.Attempts.{more, Stuck}
 use Rattle.demand.proofs.Handshake as Handshake
 
-abbrev pub world : ℕ → Met → World machine
+abbrev pub world : ℕ → CountedBench → World machine
 world w m = record { word = w; other = m }
 
 -- the bytes of page A0
-abbrev pub bytes : Met → ℕ → ℕ
+abbrev pub bytes : CountedBench → ℕ → ℕ
 bytes m i = getD (m .bench .a0 .bytes) i 0
 
 -- the module at n, when j transfers were made since m and all went well: idle, the bytes as they were, both lines released
-pub record After (l : Layout) (m : Met) (j : ℕ) (n : Met) (w : ℕ) : Type 0 where
+pub record After (l : Layout) (m : CountedBench) (j : ℕ) (n : CountedBench) (w : ℕ) : Type 0 where
   pub idle : n .bench .receiver .stage ≡ Idle
   pub a0 : n .bench .a0 .bytes ≡ m .bench .a0 .bytes
   pub a2 : n .bench .a2 .bytes ≡ m .bench .a2 .bytes
-  pub made : n .made ≡ j + m .made
+  pub made : n .meter .transfers ≡ j + m .meter .transfers
   pub rests : Rests l (drawn false false) w
 
-pub later : {l : Layout} {m n o : Met} {j w v : ℕ} → After l m j n w → After l n 1 o v → After l m (suc j) o v
+pub later : {l : Layout} {m n o : CountedBench} {j w v : ℕ} → After l m j n w → After l n 1 o v → After l m (suc j) o v
 later h k = record { idle = k .idle; a0 = k .a0 ∙ h .a0; a2 = k .a2 ∙ h .a2; made = omega (arith, k .made, h .made); rests = k .rests }
 
-kept-after : {l : Layout} {m n : Met} {v : ℕ} → n .bench .receiver .stage ≡ Idle → Kept (more m) n → Rests l (drawn false false) v → After l m 1 n v
+kept-after : {l : Layout} {m n : CountedBench} {v : ℕ} → n .bench .receiver .stage ≡ Idle → Kept (more m) n → Rests l (drawn false false) v → After l m 1 n v
 kept-after idle kept rests = record { idle = idle; a0 = kept .a0; a2 = kept .a2; made = omega (arith, kept .made); rests = rests }
 
 module _ (port : Port) (offset : ℕ) (small : offset < 256) where
   -- with SDA free one attempt does
-  tries-read : (left w : ℕ) (m : Met) (a b : Bool) (Q : R Taken → World machine → Type 0) → Rests (layoutOf (port .family)) (drawn a b) w → bytes m offset < 256
+  tries-read : (left w : ℕ) (m : CountedBench) (a b : Bool) (Q : R Taken → World machine → Type 0) → Rests (layoutOf (port .family)) (drawn a b) w → bytes m offset < 256
       → machine .pulls m .sda ≡ false
-      → ((n : Met) (v : ℕ) → After (layoutOf (port .family)) m 1 n v → Q (Ok (took none (bytes m offset))) (world v n))
-      → Always (layoutOf (port .family)) machine (readTries port (ReadByte EEPROM offset) true (suc left)) (world w m) Q
+      → ((n : CountedBench) (v : ℕ) → After (layoutOf (port .family)) m 1 n v → Q (Ok (took none (bytes m offset))) (world v n))
+      → Always (layoutOf (port .family)) machine (readTries port (ReadByte EEPROM offset) (locked standard) (suc left)) (world w m) Q
   unfolding readTries once body deviceOf readJudged failedI2c pick Always
   tries-read left w m a b Q r v free h =
       Handshake.lock-alone port (world w m) Q true _
-      (always-bind _ machine (once port (ReadByte EEPROM offset)) _ (world w m) Q
+      (always-bind _ machine (once port (ReadByte EEPROM offset) (locked standard)) _ (world w m) Q
       (Attempts.attempt-reads (layoutOf (port .family)) (distinct (port .family)) EEPROM offset w m a b _ r small v free
       (λ n v idle kept rests. Handshake.unlock-alone port (world v n) Q true _ (h n v (kept-after idle kept rests)))))
 
   -- where the module sends a 0, the first attempt clears and the second reads
-  tries-clear : (left w : ℕ) (m : Met) (a b : Bool) (Q : R Taken → World machine → Type 0) → Rests (layoutOf (port .family)) (drawn a b) w
+  tries-clear : (left w : ℕ) (m : CountedBench) (a b : Bool) (Q : R Taken → World machine → Type 0) → Rests (layoutOf (port .family)) (drawn a b) w
       → bytes m offset < 256 → machine .pulls m .sda ≡ true → Stuck (m .bench .receiver)
-      → ((n : Met) (v : ℕ) → After (layoutOf (port .family)) m 2 n v → Q (Ok (took none (bytes m offset))) (world v n))
-      → Always (layoutOf (port .family)) machine (readTries port (ReadByte EEPROM offset) true (suc (suc left))) (world w m) Q
+      → ((n : CountedBench) (v : ℕ) → After (layoutOf (port .family)) m 2 n v → Q (Ok (took none (bytes m offset))) (world v n))
+      → Always (layoutOf (port .family)) machine (readTries port (ReadByte EEPROM offset) (locked standard) (suc (suc left))) (world w m) Q
   unfolding readTries once body deviceOf readJudged failedI2c isI2c pauses pick
   tries-clear left w m a b Q r v held s h =
       Handshake.lock-alone port (world w m) Q true _
-      (always-bind _ machine (once port (ReadByte EEPROM offset)) _ (world w m) Q
+      (always-bind _ machine (once port (ReadByte EEPROM offset) (locked standard)) _ (world w m) Q
       (Attempts.attempt-clears (layoutOf (port .family)) (distinct (port .family)) EEPROM offset w m a b _ r held s
       (λ n u idle kept rests. Handshake.unlock-alone port (world u n) Q true _ (Handshake.pause-alone port (world u n) Q 100 _
       (again n u (kept-after idle kept rests))))))
     where
-      again : (n : Met) (u : ℕ) → After (layoutOf (port .family)) m 1 n u
-          → Always (layoutOf (port .family)) machine (readTries port (ReadByte EEPROM offset) true (suc left)) (world u n) Q
+      again : (n : CountedBench) (u : ℕ) → After (layoutOf (port .family)) m 1 n u
+          → Always (layoutOf (port .family)) machine (readTries port (ReadByte EEPROM offset) (locked standard) (suc left)) (world u n) Q
       again n u k =
           tries-read left u n false false Q (k .rests) (rw (k .a0) v) (idle-free (n .bench .receiver) n (k .idle))
           (λ o y f. rw (k .a0) (h o y (later k f)))
 
   -- where it is in AckWrite, every attempt fails
-  tries-fail : (tries w : ℕ) (m : Met) (a b : Bool) (Q : R Taken → World machine → Type 0) → Rests (layoutOf (port .family)) (drawn a b) w
+  tries-fail : (tries w : ℕ) (m : CountedBench) (a b : Bool) (Q : R Taken → World machine → Type 0) → Rests (layoutOf (port .family)) (drawn a b) w
       → m .bench .receiver .stage ≡ AckWrite
-      → ((n : Met) (v : ℕ) → n .made ≡ tries + m .made → Q (Err (I2c EEPROM)) (world v n))
-      → Always (layoutOf (port .family)) machine (readTries port (ReadByte EEPROM offset) true tries) (world w m) Q
+      → ((n : CountedBench) (v : ℕ) → n .meter .transfers ≡ tries + m .meter .transfers → Q (Err (I2c EEPROM)) (world v n))
+      → Always (layoutOf (port .family)) machine (readTries port (ReadByte EEPROM offset) (locked standard) tries) (world w m) Q
   unfolding readTries once body deviceOf readJudged failedI2c isI2c pauses pick Always
   tries-fail zero w m a b Q r e h = h m w (omega arith)
   tries-fail (suc left) w m a b Q r e h =
       Handshake.lock-alone port (world w m) Q true _
-      (always-bind _ machine (once port (ReadByte EEPROM offset)) _ (world w m) Q
+      (always-bind _ machine (once port (ReadByte EEPROM offset) (locked standard)) _ (world w m) Q
       (Attempts.attempt-stays (layoutOf (port .family)) (distinct (port .family)) EEPROM offset w m a b _ r (ack-pulls m e) e
       (λ n u ack made rests. Handshake.unlock-alone port (world u n) Q true _ (Handshake.pause-alone port (world u n) Q 100 _
       (tries-fail left u n false false Q rests ack (λ o v made′. h o v (omega (arith, made′, made))))))))
 
   -- around the attempts: the handshake, and what the Rust makes of the result
-  around : (tries : ℕ) (w : World machine) (k : ℕ → Prog (R Module)) (Q : R Module → World machine → Type 0)
-      → Always (layoutOf (port .family)) machine (readTries port (ReadByte EEPROM offset) true tries) w
+  around : (tries : ℕ) (w : World machine) (k : ℕ → Prog (R Identity)) (Q : R Identity → World machine → Type 0)
+      → Always (layoutOf (port .family)) machine (readTries port (ReadByte EEPROM offset) (locked standard) tries) w
       (λ r v. Always (layoutOf (port .family)) machine (orAbsent k (valueOf (ReadByte EEPROM offset) r)) v Q)
-      → Always (layoutOf (port .family)) machine (byte port offset tries k) w Q
-  unfolding byte transferred handshaken moves isWrite pick givesValue Always
+      → Always (layoutOf (port .family)) machine (byte standard port offset tries k) w Q
+  unfolding byte transferred handshaken retried isWrite pick givesValue Always
   around tries w k Q h =
-      always-bind _ machine (transferred port (ReadByte EEPROM offset) true tries) (orAbsent k) w Q
-      (always-bind _ machine (withBus port EEPROM (readTries port (ReadByte EEPROM offset) true tries)) (givesValue (ReadByte EEPROM offset)) w _
-      (Handshake.bus-alone port EEPROM (readTries port (ReadByte EEPROM offset) true tries) w _ h))
+      always-bind _ machine (transferred port (ReadByte EEPROM offset) (locked standard) tries) (orAbsent k) w Q
+      (always-bind _ machine (withBus port EEPROM (readTries port (ReadByte EEPROM offset) (locked standard) tries)) (givesValue (ReadByte EEPROM offset)) w _
+      (Handshake.bus-alone port EEPROM (readTries port (ReadByte EEPROM offset) (locked standard) tries) w _ h))
 
   -- a request, by the module's state at its beginning
-  pub request-read : (left w : ℕ) (m : Met) (a b : Bool) (k : ℕ → Prog (R Module)) (Q : R Module → World machine → Type 0)
+  pub request-read : (left w : ℕ) (m : CountedBench) (a b : Bool) (k : ℕ → Prog (R Identity)) (Q : R Identity → World machine → Type 0)
       → Rests (layoutOf (port .family)) (drawn a b) w → bytes m offset < 256 → machine .pulls m .sda ≡ false
-      → ((n : Met) (v : ℕ) → After (layoutOf (port .family)) m 1 n v → Always (layoutOf (port .family)) machine (k (bytes m offset)) (world v n) Q)
-      → Always (layoutOf (port .family)) machine (byte port offset (suc left) k) (world w m) Q
+      → ((n : CountedBench) (v : ℕ) → After (layoutOf (port .family)) m 1 n v → Always (layoutOf (port .family)) machine (k (bytes m offset)) (world v n) Q)
+      → Always (layoutOf (port .family)) machine (byte standard port offset (suc left) k) (world w m) Q
   unfolding valueOf read-off orAbsent
   request-read left w m a b k Q r v free h = around (suc left) (world w m) k Q (tries-read left w m a b _ r v free h)
 
-  pub request-clears : (left w : ℕ) (m : Met) (a b : Bool) (k : ℕ → Prog (R Module)) (Q : R Module → World machine → Type 0)
+  pub request-clears : (left w : ℕ) (m : CountedBench) (a b : Bool) (k : ℕ → Prog (R Identity)) (Q : R Identity → World machine → Type 0)
       → Rests (layoutOf (port .family)) (drawn a b) w → bytes m offset < 256 → machine .pulls m .sda ≡ true → Stuck (m .bench .receiver)
-      → ((n : Met) (v : ℕ) → After (layoutOf (port .family)) m 2 n v → Always (layoutOf (port .family)) machine (k (bytes m offset)) (world v n) Q)
-      → Always (layoutOf (port .family)) machine (byte port offset (suc (suc left)) k) (world w m) Q
+      → ((n : CountedBench) (v : ℕ) → After (layoutOf (port .family)) m 2 n v → Always (layoutOf (port .family)) machine (k (bytes m offset)) (world v n) Q)
+      → Always (layoutOf (port .family)) machine (byte standard port offset (suc (suc left)) k) (world w m) Q
   unfolding valueOf read-off orAbsent
   request-clears left w m a b k Q r v held s h = around (suc (suc left)) (world w m) k Q (tries-clear left w m a b _ r v held s h)
 
-  pub request-fails : (tries w : ℕ) (m : Met) (a b : Bool) (k : ℕ → Prog (R Module)) (Q : R Module → World machine → Type 0)
+  pub request-fails : (tries w : ℕ) (m : CountedBench) (a b : Bool) (k : ℕ → Prog (R Identity)) (Q : R Identity → World machine → Type 0)
       → Rests (layoutOf (port .family)) (drawn a b) w → m .bench .receiver .stage ≡ AckWrite
-      → ((n : Met) (v : ℕ) → n .made ≡ tries + m .made → Q (Ok absent) (world v n))
-      → Always (layoutOf (port .family)) machine (byte port offset tries k) (world w m) Q
+      → ((n : CountedBench) (v : ℕ) → n .meter .transfers ≡ tries + m .meter .transfers → Q (Ok absent) (world v n))
+      → Always (layoutOf (port .family)) machine (byte standard port offset tries k) (world w m) Q
   unfolding valueOf orAbsent isI2c pick Always
   request-fails tries w m a b k Q r e h = around tries (world w m) k Q (tries-fail tries w m a b _ r e h)
 
   -- the next request
-  pub request-next : {m n : Met} (tries left j w : ℕ) (k : ℕ → Prog (R Module)) (Q : R Module → World machine → Type 0) → tries ≡ suc left
+  pub request-next : {m n : CountedBench} (tries left j w : ℕ) (k : ℕ → Prog (R Identity)) (Q : R Identity → World machine → Type 0) → tries ≡ suc left
       → After (layoutOf (port .family)) m j n w → bytes m offset < 256
-      → ((o : Met) (v : ℕ) → After (layoutOf (port .family)) m (suc j) o v → Always (layoutOf (port .family)) machine (k (bytes m offset)) (world v o) Q)
-      → Always (layoutOf (port .family)) machine (byte port offset tries k) (world w n) Q
+      → ((o : CountedBench) (v : ℕ) → After (layoutOf (port .family)) m (suc j) o v → Always (layoutOf (port .family)) machine (k (bytes m offset)) (world v o) Q)
+      → Always (layoutOf (port .family)) machine (byte standard port offset tries k) (world w n) Q
   request-next {m} {n} tries left j w k Q e h v f =
       rw e (request-read left w n false false k Q (h .rests) (rw (h .a0) v) (idle-free (n .bench .receiver) n (h .idle)) (λ o u g. rw (h .a0) (f o u (later h g))))

@@ -1,3 +1,3 @@
 pub mod Claim
 pub mod Fine
-pub mod Ran
+pub mod Library

@@ -40,7 +40,7 @@ fn run(bytes: &[u8], first: u32) -> Ran {
                 host = p.host;
                 told = transfer::calls::script_step(s, bytes, a);
             }
-            ScriptTold::End(o, count) => return Ran::Ended(o, count),
+            ScriptTold::End(o, m) => return Ran::Ended(o, m.transfers),
             ScriptTold::Refused(q) => return Ran::Refused(q),
         }
         left -= 1;

@@ -12,14 +12,15 @@ use Rattle.hardware.specs.declared.Access.{Access}
 use Rattle.hardware.specs.declared.Access.the-variants.{Read, Write, Wait}
 use Rattle.hardware.specs.declared.Answer.{Answer}
 use Rattle.hardware.specs.declared.Answer.the-variants.{Value, Done}
+use Rattle.hardware.specs.declared.Meter.{Meter}
 use Rattle.hardware.specs.declared.change.Change.{Change}
 use Rattle.hardware.specs.declared.poll.Watch.{Watch}
 use Rattle.hardware.specs.Asked.{fits}
-use Rattle.hardware.specs.Prog.{Note, Attempt, Acquires, Acquired, Released, Lapsed, Prog, ret, ask, note, give, stays, erase, begun, tally, R, Ok, Err, orErr, _>>=_, _>>?_, pick}
+use Rattle.hardware.specs.Prog.{Note, told, noteIf, Prog, ret, ask, note, give, stays, erase, metered, tally, R, Ok, Err, orErr, _>>=_, _>>?_, pick}
 use Rattle.hardware.specs.Registers.{read, readRaw, write, flush, delay}
 use Rattle.hardware.specs.Change.{settled, stored, change}
 use Rattle.hardware.specs.Poll.{polled, poll}
-use Rattle.hardware.specs.Runs.{Ends, Awaited, run, onward, ended}
+use Rattle.hardware.specs.Runs.{Ends, Awaited, run, onAnswer, ended}
 
 -- more answers do no harm
 pub ends-more : {A : Type 0} (p : Prog A) (n m : ℕ) → Ends p n → n ≤ m → Ends p m
@@ -57,11 +58,11 @@ ends-pick false p q n e d = d
 -- the notes take no answers
 pub ends-stays : {A : Type 0} (k : Note) (p : Prog A) (n : ℕ) → Ends p n → Ends (stays k p) n
 unfolding Ends
-ends-stays Attempt p n e = e
-ends-stays Acquires p n e = e
-ends-stays Acquired p n e = e
-ends-stays Released p n e = e
-ends-stays Lapsed p n e = e
+ends-stays k p n e = by (told k)
+  where
+    by : (b : Bool) → Ends (noteIf b k p) n
+    by true = e
+    by false = e
 
 pub ends-erase : {A : Type 0} (p : Prog A) (n : ℕ) → Ends p n → Ends (erase p) n
 unfolding Ends erase
@@ -71,13 +72,13 @@ ends-erase (ask x f) (suc n) e = λ a t. ends-erase (f a) n (e a t)
 ends-erase (note k p) n e = ends-stays k (erase p) n (ends-erase p n e)
 ends-erase (give b p) n e = ends-erase p n e
 
--- the count of attempts takes none either
-pub ends-tally : {A : Type 0} (m : ℕ) (p : Prog A) (n : ℕ) → Ends p n → Ends (tally m p) n
+-- nor does the meter
+pub ends-tally : {A : Type 0} (m : Meter) (p : Prog A) (n : ℕ) → Ends p n → Ends (tally m p) n
 unfolding Ends tally
 ends-tally m (ret v) n e = tt
 ends-tally m (ask x f) zero e = absurd e
 ends-tally m (ask x f) (suc n) e = λ a t. ends-tally m (f a) n (e a t)
-ends-tally m (note k p) n e = ends-tally (begun k m) p n e
+ends-tally m (note k p) n e = ends-tally (metered k m) p n e
 ends-tally m (give b p) n e = ends-tally m p n e
 
 -- what has ended needs none
@@ -134,8 +135,8 @@ poll-ends w (suc n) last =
     (omega arith)
 
 -- a run over enough answers of the awaited kinds ends
-pub run-ends : {A : Type 0} (p : Prog A) (n : ℕ) (l : List Answer) → Ends p n → n ≤ length l → Awaited p l → (v : A) × ((run p l) .stand ≡ ended v)
-unfolding Ends Awaited run onward
+pub run-ends : {A : Type 0} (p : Prog A) (n : ℕ) (l : List Answer) → Ends p n → n ≤ length l → Awaited p l → (v : A) × ((run p l) .status ≡ ended v)
+unfolding Ends Awaited run onAnswer
 run-ends (ret v) n l e h w = (v, refl)
 run-ends (ask x f) zero l e h w = absurd e
 run-ends (ask x f) (suc n) [] e h w = absurd (omega arith)
@@ -172,10 +173,10 @@ awaited-list (give b p) n = awaited-list p n
 
 -- after a run that ends with v and uses up its answers, what follows is run over the answers behind
 pub run-then : {A B : Type 0} (p : Prog A) (k : A → Prog B) (v : A) (l m : List Answer)
-    → (run p l) .stand ≡ ended v → length ((run p l) .accesses) ≡ length l
-    → ((run (p >>= k) (l ++ m)) .accesses ≡ (run p l) .accesses ++ (run (k v) m) .accesses) × ((run (p >>= k) (l ++ m)) .stand ≡ (run (k v) m) .stand)
-unfolding run onward _>>=_
-run-then (ret w) k v [] m e h = let z : w ≡ v = cc in (ap (λ u. (run (k u) m) .accesses) z, ap (λ u. (run (k u) m) .stand) z)
+    → (run p l) .status ≡ ended v → length ((run p l) .accesses) ≡ length l
+    → ((run (p >>= k) (l ++ m)) .accesses ≡ (run p l) .accesses ++ (run (k v) m) .accesses) × ((run (p >>= k) (l ++ m)) .status ≡ (run (k v) m) .status)
+unfolding run onAnswer _>>=_
+run-then (ret w) k v [] m e h = let z : w ≡ v = cc in (ap (λ u. (run (k u) m) .accesses) z, ap (λ u. (run (k u) m) .status) z)
 run-then (ret w) k v (a ∷ l) m e h = absurd (omega arith)
 run-then (ask x f) k v [] m e h = let z : _≡_ {A = ℕ} 0 1 = cc in absurd (omega arith)
 run-then (ask x f) k v (a ∷ l) m e h = let r = run-then (f a) k v l m e (omega arith) in (ap (λ t. x ∷ t) (r .0), r .1)

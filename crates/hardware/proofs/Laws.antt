@@ -5,17 +5,22 @@ use mathlib.Core.Bool.{Bool, true, false}
 use mathlib.Core.List.{List, [], _∷_}
 use lib.Dec.{T, ltb}
 use lib.ListN.{getD}
-use native.Mathlib.Nat.{add-zero, zero-add}
+use native.Mathlib.Nat.{add-zero}
 use native.Mathlib.Numerals.{sub-one}
 use native.Mathlib.Omega.{arith}
 use borrow.Author.Tests.{ltb-true}
-use Rattle.hardware.specs.Prog.{Note, Attempt, Acquires, Acquired, Released, Lapsed, Prog, ret, ask, note, give, erase, _>>=_, pick, begun, tally}
-use Rattle.hardware.specs.Asked.{Asked, no, yes, andThen, question, openFamily, openLan, openPort, portOpened, validPort, fits}
-use Rattle.hardware.specs.Runs.{run, onward, ran, run-erase, given, answered, transfersIn, countedStand, counted, led, driven, Awaited, AwaitedIn}
+use Rattle.hardware.specs.Prog.{Note, Attempt, Acquires, Acquired, Released, Lapsed, Prog, ret, ask, note, give, erase, _>>=_, pick, begun, metered, blank, tally}
+use Rattle.hardware.specs.Asked.{Asked, no, yes, andThen, question, openFamily, openLan, openPort, portOpened, validPort, fits, admitting, Admits}
+use Rattle.hardware.specs.Runs.{run, onAnswer, runAsked, run-erase, given, answered, transfersIn, meterIn, countedStatus, counted, led, driven, Awaited, AwaitedIn}
 use Rattle.hardware.specs.declared.Access.{Access}
+use Rattle.hardware.specs.declared.Admitted.{Admitted}
+use Rattle.hardware.specs.declared.Admitted.the-variants.{Yes, No}
 use Rattle.hardware.specs.declared.Answer.{Answer}
 use Rattle.hardware.specs.declared.Family.{Family}
+use Rattle.hardware.specs.declared.Meter.{Meter}
 use Rattle.hardware.specs.declared.Port.{Port}
+use Rattle.hardware.specs.declared.Refusal.{Refusal}
+use Rattle.hardware.specs.Numbers.{refusalNumber}
 use Rattle.hardware.specs.declared.Opening.{Opening}
 use Rattle.hardware.specs.declared.Opening.the-variants.{Port as Opened}
 use Rattle.hardware.specs.Poll.{poll, pollNext, accessPoll, restPoll}
@@ -42,8 +47,8 @@ two-values (suc (suc n)) v w h = refl
 
 -- an opening whose call is the Rust's has the Rust's runs
 pub runs-open : {A B : Type 0} (o : Asked A) (p : A → Prog B) (l : List Answer)
-    → ran (andThen o (λ a. yes (erase (p a)))) l ≡ andThen o (λ a. yes (run (p a) l))
-unfolding ran andThen
+    → runAsked (andThen o (λ a. yes (erase (p a)))) l ≡ andThen o (λ a. yes (run (p a) l))
+unfolding runAsked andThen
 runs-open (no n) p l = refl
 runs-open (yes a) p l = ap (λ r. yes (r l)) (run-erase (p a))
 
@@ -59,6 +64,31 @@ pub both-true : (a b : Bool) → pick a b false ≡ true → (a ≡ true) × (b 
 unfolding pick
 both-true true b h = (refl, h)
 both-true false b h = (h, cc)
+
+-- a step that is admitted goes on, and one that is refused does so whatever would follow
+pub admits-yes : {A : Type 0} {r : Admitted} (valid : Bool) (x : Access) (a : Answer) (k : Asked A) → r ≡ Yes → Admits valid x a r → admitting valid x a k ≡ k
+unfolding Admits admitting question
+admits-yes valid x a k e h = let g : (valid ≡ true) × (fits x a ≡ true) = rw e at h in rw (g .0, g .1)
+
+pub admits-valid : {r : Admitted} (valid : Bool) (x : Access) (a : Answer) → r ≡ Yes → Admits valid x a r → valid ≡ true
+unfolding Admits
+admits-valid valid x a e h = let g : (valid ≡ true) × (fits x a ≡ true) = rw e at h in g .0
+
+pub admits-no : {A : Type 0} {r : Admitted} {q : Refusal} (valid : Bool) (x : Access) (a : Answer) (k : Asked A) → r ≡ No q → Admits valid x a r
+    → admitting valid x a k ≡ no (refusalNumber q)
+unfolding Admits admitting question
+admits-no {q = q} valid x a k e h = by valid (fits x a) (rw e at h)
+  where
+    number : (n : ℕ) → _≡_ {A = Asked (Unit {0})} (no n) (no (refusalNumber q)) → n ≡ refusalNumber q
+    number n g = cc
+
+    never : _≡_ {A = Asked (Unit {0})} (yes tt) (no (refusalNumber q)) → ⊥
+    never g = let z : _≡_ {A = ℕ} 0 1 = cc in omega arith
+
+    by : (b c : Bool) → question b 10 (question c 12 (yes (tt {0}))) ≡ no (refusalNumber q) → question b 10 (question c 12 k) ≡ no (refusalNumber q)
+    by true true g = absurd (never g)
+    by true false g = ap no (number 12 g)
+    by false c g = ap no (number 10 g)
 
 -- a port that an opening gives passes question 10
 lan-valid : (device lan : ℕ) (f : Family) (p : Port) (b : Bool) → ltb lan 2 ≡ b
@@ -76,7 +106,7 @@ pub opened-valid : (family device lan : ℕ) {o : Opening} {p : Port} → o ≡ 
 unfolding openPort portOpened
 opened-valid family device lan {p = p} e h = family-valid device lan p (openFamily family) (rw e at h)
 
--- the count at the end of a run is that of the transfers it begins
+-- the count of a meter is that of the transfers that the run begins
 begun-more : (k : Note) (n m : ℕ) → begun k n + m ≡ n + begun k m
 begun-more Attempt n m = omega arith
 begun-more Acquires n m = refl
@@ -84,33 +114,39 @@ begun-more Acquired n m = refl
 begun-more Released n m = refl
 begun-more Lapsed n m = refl
 
-pub run-tally : {A : Type 0} (n : ℕ) (p : Prog A) (l : List Answer) → run (tally n p) l ≡ counted (n + transfersIn p l) (run p l)
-unfolding run onward tally transfersIn countedStand
-run-tally n (ret v) l = ap (λ m. run (tally m (ret v)) l) (sym (add-zero n))
-run-tally n (ask x f) [] = refl
-run-tally n (ask x f) (a ∷ l) = ap (answered x) (run-tally n (f a) l)
-run-tally n (note k p) l = run-tally (begun k n) p l ∙ ap (λ m. counted m (run p l)) (begun-more k n (transfersIn p l))
-run-tally n (give b p) l = ap (given b) (run-tally n p l)
+pub meter-counts : {A : Type 0} (m : Meter) (p : Prog A) (l : List Answer) → meterIn m p l .transfers ≡ m .transfers + transfersIn p l
+unfolding meterIn transfersIn
+meter-counts m (ret v) l = sym (add-zero (m .transfers))
+meter-counts m (ask x f) [] = sym (add-zero (m .transfers))
+meter-counts m (ask x f) (a ∷ l) = meter-counts m (f a) l
+meter-counts m (note k p) l = meter-counts (metered k m) p l ∙ begun-more k (m .transfers) (transfersIn p l)
+meter-counts m (give b p) l = meter-counts m p l
 
-pub run-counted : {A : Type 0} (p : Prog A) (l : List Answer) → run (tally 0 p) l ≡ counted (transfersIn p l) (run p l)
-run-counted p l = run-tally 0 p l ∙ ap (λ m. counted m (run p l)) (zero-add (transfersIn p l))
+-- a run ends with the meter of what it notes
+pub run-tally : {A : Type 0} (m : Meter) (p : Prog A) (l : List Answer) → run (tally m p) l ≡ counted (meterIn m p l) (run p l)
+unfolding run onAnswer tally meterIn countedStatus
+run-tally m (ret v) l = refl
+run-tally m (ask x f) [] = refl
+run-tally m (ask x f) (a ∷ l) = ap (answered x) (run-tally m (f a) l)
+run-tally m (note k p) l = run-tally (metered k m) p l
+run-tally m (give b p) l = ap (given b) (run-tally m p l)
 
 -- the questions about a port and then the run
 pub asked-runs : {A : Type 0} (o : Asked Port) (p : Port → Prog A) (l : List Answer)
-    → ran (andThen o (λ port. yes (tally 0 (p port)))) l ≡ andThen o (λ port. yes (counted (transfersIn (p port) l) (run (p port) l)))
-unfolding ran andThen
+    → runAsked (andThen o (λ port. yes (tally blank (p port)))) l ≡ andThen o (λ port. yes (counted (meterIn blank (p port) l) (run (p port) l)))
+unfolding runAsked andThen
 asked-runs (no n) p l = refl
-asked-runs (yes port) p l = ap yes (run-counted (p port) l)
+asked-runs (yes port) p l = ap yes (run-tally blank (p port) l)
 
 -- a step after an answer of the awaited kind tells what is left of the call, and can be stepped on from
-abbrev pub Onward : {A Told : Type 0} → (Told → Asked (Prog A)) → (Told → Answer → Told) → (Told → Type 0) → Type 0
-Onward {A} {Told} said go Stands =
+abbrev pub StepsOn : {A Told : Type 0} → (Told → Asked (Prog A)) → (Told → Answer → Told) → (Told → Type 0) → Type 0
+StepsOn {A} {Told} said go Stands =
     (t : Told) (x : Access) (f : Answer → Prog A) (a : Answer) → Stands t → said t ≡ yes (ask x f) → fits x a ≡ true → (said (go t a) ≡ yes (f a)) × Stands (go t a)
 
 -- so driven by its steps a call makes the run of what its opening says
-pub driven-runs : {A Told : Type 0} (said : Told → Asked (Prog A)) (go : Told → Answer → Told) (Stands : Told → Type 0) → Onward said go Stands
-    → (t : Told) (l : List Answer) → Stands t → AwaitedIn (said t) l → driven said go t l ≡ ran (said t) l
-unfolding driven led ran run onward andThen AwaitedIn Awaited
+pub driven-runs : {A Told : Type 0} (said : Told → Asked (Prog A)) (go : Told → Answer → Told) (Stands : Told → Type 0) → StepsOn said go Stands
+    → (t : Told) (l : List Answer) → Stands t → AwaitedIn (said t) l → driven said go t l ≡ runAsked (said t) l
+unfolding driven led runAsked run onAnswer andThen AwaitedIn Awaited
 driven-runs said go Stands on t [] s w = refl
 driven-runs {A} said go Stands on t (a ∷ l) s w = by (said t) refl w (driven-runs said go Stands on (go t a) l)
   where
@@ -118,12 +154,12 @@ driven-runs {A} said go Stands on t (a ∷ l) s w = by (said t) refl w (driven-r
     is-true true h = refl
     is-true false h = absurd h
 
-    by : (q : Asked (Prog A)) → said t ≡ q → AwaitedIn q (a ∷ l) → (Stands (go t a) → AwaitedIn (said (go t a)) l → driven said go (go t a) l ≡ ran (said (go t a)) l)
-        → led q (a ∷ l) (driven said go (go t a) l) ≡ ran q (a ∷ l)
+    by : (q : Asked (Prog A)) → said t ≡ q → AwaitedIn q (a ∷ l) → (Stands (go t a) → AwaitedIn (said (go t a)) l → driven said go (go t a) l ≡ runAsked (said (go t a)) l)
+        → led q (a ∷ l) (driven said go (go t a) l) ≡ runAsked q (a ∷ l)
     by (no n) e w h = refl
     by (yes (ret v)) e w h = refl
     by (yes (note n p)) e w h = refl
     by (yes (give b p)) e w h = refl
     by (yes (ask x f)) e w h =
         let n = on t x f a s e (is-true (fits x a) (w .0))
-        in ap (λ r. andThen r (λ r′. yes (answered x r′))) (h (n .1) (subst (λ q. AwaitedIn q l) (sym (n .0)) (w .1)) ∙ ap (λ q. ran q l) (n .0))
+        in ap (λ r. andThen r (λ r′. yes (answered x r′))) (h (n .1) (subst (λ q. AwaitedIn q l) (sym (n .0)) (w .1)) ∙ ap (λ q. runAsked q l) (n .0))

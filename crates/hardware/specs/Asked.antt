@@ -1,6 +1,7 @@
 -- The questions that are put to arguments, to a state and to an answer.
 use Prim.Native.Nat.{ℕ, suc, zero}
 use mathlib.Core.Bool.{Bool, true, false}
+use mathlib.Core.Path.{_≡_}
 use lib.Dec.{eqb, ltb}
 use Rattle.hardware.specs.declared.Family.{Family}
 use Rattle.hardware.specs.declared.Family.the-variants.{F82599, X540, X550, X552, X553}
@@ -9,6 +10,8 @@ use Rattle.hardware.specs.declared.Access.{Access}
 use Rattle.hardware.specs.declared.Access.the-variants.{Read, Write, Wait}
 use Rattle.hardware.specs.declared.Answer.{Answer}
 use Rattle.hardware.specs.declared.Answer.the-variants.{Value, Done, Failed}
+use Rattle.hardware.specs.declared.Admitted.{Admitted}
+use Rattle.hardware.specs.declared.Admitted.the-variants.{Yes, No}
 use Rattle.hardware.specs.declared.FamilyOpening.{FamilyOpening}
 use Rattle.hardware.specs.declared.FamilyOpening.the-variants.{Family as FamilyOpened, Refused as FamilyRefused}
 use Rattle.hardware.specs.declared.Opening.{Opening}
@@ -81,3 +84,12 @@ fits (Write r w) Failed = true
 fits (Wait t) (Value v) = false
 fits (Wait t) Done = true
 fits (Wait t) Failed = false
+
+-- A step goes on with k: 10, is its state within its limits? 12, is the answer of the kind that x awaits?
+unfoldable pub admitting : {A : Type 0} → Bool → Access → Answer → Asked A → Asked A
+admitting valid x a k = question valid 10 (question (fits x a) 12 k)
+
+-- what the questions came to
+unfoldable pub Admits : Bool → Access → Answer → Admitted → Type 0
+Admits valid x a Yes = (valid ≡ true) × (fits x a ≡ true)
+Admits valid x a (No q) = admitting valid x a (yes (tt {0})) ≡ no (refusalNumber q)

@@ -1,4 +1,6 @@
+pub mod Promise
 pub mod Prog
+pub mod Marks
 pub mod Numbers
 pub mod Asked
 pub mod Registers

@@ -6,6 +6,7 @@ use mathlib.Core.Bool.{Bool, true, false}
 use Rattle.hardware.specs.declared.Access.{Access}
 use Rattle.hardware.specs.declared.Answer.{Answer}
 use Rattle.hardware.specs.declared.Error.{Error}
+use Rattle.hardware.specs.declared.Meter.{Meter}
 
 -- Attempt: a transfer begins. Acquires: `acquire` is called. Acquired: it succeeded. Released: `release` is called.
 -- Lapsed: a bounded wait for a lock or a grant ran out.
@@ -25,15 +26,22 @@ ask x f >>= k = ask x (λ r. f r >>= k)
 note n p >>= k = note n (p >>= k)
 give b p >>= k = give b (p >>= k)
 
--- the beginning of an attempt stays, since a result tells how many there were
-abbrev pub stays : {A : Type 0} → Note → Prog A → Prog A
-stays Attempt p = note Attempt p
-stays Acquires p = p
-stays Acquired p = p
-stays Released p = p
-stays Lapsed p = p
+-- the notes that marks tell, since a result goes by them
+abbrev pub told : Note → Bool
+told Attempt = true
+told Acquires = false
+told Acquired = false
+told Released = false
+told Lapsed = false
 
--- what the host sees of it: the same accesses, bytes and end
+abbrev pub noteIf : {A : Type 0} → Bool → Note → Prog A → Prog A
+noteIf true n p = note n p
+noteIf false n p = p
+
+abbrev pub stays : {A : Type 0} → Note → Prog A → Prog A
+stays n p = noteIf (told n) n p
+
+-- what the host sees of it: the same accesses, bytes and end, and the notes that marks tell
 unfoldable pub erase : {A : Type 0} → Prog A → Prog A
 erase (ret a) = ret a
 erase (ask x f) = ask x (λ r. erase (f r))
@@ -42,11 +50,11 @@ erase (give b p) = give b (erase p)
 
 pub stays-bind : {A B : Type 0} (n : Note) (p : Prog A) (k : A → Prog B) → stays n (p >>= k) ≡ stays n p >>= k
 unfolding _>>=_
-stays-bind Attempt p k = refl
-stays-bind Acquires p k = refl
-stays-bind Acquired p k = refl
-stays-bind Released p k = refl
-stays-bind Lapsed p k = refl
+stays-bind n p k = by (told n)
+  where
+    by : (b : Bool) → noteIf b n (p >>= k) ≡ noteIf b n p >>= k
+    by true = refl
+    by false = refl
 
 pub erase-bind : {A B : Type 0} (p : Prog A) (f : A → Prog B) → erase (p >>= f) ≡ erase p >>= (λ a. erase (f a))
 unfolding _>>=_ erase
@@ -108,11 +116,12 @@ pub going : {A B : Type 0} (x : Access) (p : Answer → Prog A) (k : A → Prog 
 unfolding _>>=_ followed
 going x p k = ap (ask x) (fun-ext (λ a. erase-bind (p a) k))
 
--- how many transfers were made, beside what a call gave
+-- What a result tells of the way to it, beside what the call gave
 pub record Counted (A : Type 0) : Type 0 where
-  pub transfers : ℕ
+  pub meter : Meter
   pub result : A
 
+-- one more for each attempt
 abbrev pub begun : Note → ℕ → ℕ
 begun Attempt n = suc n
 begun Acquires n = n
@@ -120,34 +129,42 @@ begun Acquired n = n
 begun Released n = n
 begun Lapsed n = n
 
--- the end carries n and one more for each attempt that was begun on the way
-unfoldable pub tally : {A : Type 0} → ℕ → Prog A → Prog (Counted A)
-tally n (ret a) = ret (record { transfers = n; result = a })
-tally n (ask x f) = ask x (λ r. tally n (f r))
-tally n (note k p) = tally (begun k n) p
-tally n (give b p) = give b (tally n p)
+-- the meter after a note
+abbrev pub metered : Note → Meter → Meter
+metered k m = record { transfers = begun k (m .transfers) }
 
-pub tally-stays : {A : Type 0} (n : ℕ) (k : Note) (p : Prog A) → tally n (stays k p) ≡ tally (begun k n) p
+-- before the first note
+abbrev pub blank : Meter
+blank = record { transfers = 0 }
+
+-- the end carries the meter after all that was noted on the way
+unfoldable pub tally : {A : Type 0} → Meter → Prog A → Prog (Counted A)
+tally m (ret a) = ret (record { meter = m; result = a })
+tally m (ask x f) = ask x (λ r. tally m (f r))
+tally m (note k p) = tally (metered k m) p
+tally m (give b p) = give b (tally m p)
+
+pub tally-stays : {A : Type 0} (m : Meter) (k : Note) (p : Prog A) → tally m (stays k p) ≡ tally (metered k m) p
 unfolding tally
-tally-stays n Attempt p = refl
-tally-stays n Acquires p = refl
-tally-stays n Acquired p = refl
-tally-stays n Released p = refl
-tally-stays n Lapsed p = refl
+tally-stays m Attempt p = refl
+tally-stays m Acquires p = refl
+tally-stays m Acquired p = refl
+tally-stays m Released p = refl
+tally-stays m Lapsed p = refl
 
--- erasing changes nothing of the count
-pub tally-erase : {A : Type 0} (n : ℕ) (p : Prog A) → tally n (erase p) ≡ tally n p
+-- erasing changes nothing of the meter
+pub tally-erase : {A : Type 0} (m : Meter) (p : Prog A) → tally m (erase p) ≡ tally m p
 unfolding tally erase
-tally-erase n (ret a) = refl
-tally-erase n (ask x f) = ap (ask x) (fun-ext (λ r. tally-erase n (f r)))
-tally-erase n (note k p) = tally-stays n k (erase p) ∙ tally-erase (begun k n) p
-tally-erase n (give b p) = ap (give b) (tally-erase n p)
+tally-erase m (ret a) = refl
+tally-erase m (ask x f) = ap (ask x) (fun-ext (λ r. tally-erase m (f r)))
+tally-erase m (note k p) = tally-stays m k (erase p) ∙ tally-erase (metered k m) p
+tally-erase m (give b p) = ap (give b) (tally-erase m p)
 
-pub over-tally : {A B : Type 0} {q : Prog (Counted B)} {r : Prog A} (n : ℕ) (p : Prog A) (k : A → Prog B)
-    → q ≡ tally n (followed r k) → r ≡ erase p → q ≡ tally n (p >>= k)
-over-tally n p k e d = e ∙ ap (tally n) (over p k refl d) ∙ tally-erase n (p >>= k)
+pub over-tally : {A B : Type 0} {q : Prog (Counted B)} {r : Prog A} (m : Meter) (p : Prog A) (k : A → Prog B)
+    → q ≡ tally m (followed r k) → r ≡ erase p → q ≡ tally m (p >>= k)
+over-tally m p k e d = e ∙ ap (tally m) (over p k refl d) ∙ tally-erase m (p >>= k)
 
-pub going-tally : {A B : Type 0} (n : ℕ) (x : Access) (p : Answer → Prog A) (k : A → Prog B)
-    → ask x (λ a. tally n (p a >>= k)) ≡ tally n (followed (ask x (λ a. erase (p a))) k)
+pub going-tally : {A B : Type 0} (m : Meter) (x : Access) (p : Answer → Prog A) (k : A → Prog B)
+    → ask x (λ a. tally m (p a >>= k)) ≡ tally m (followed (ask x (λ a. erase (p a))) k)
 unfolding tally
-going-tally n x p k = ap (ask x) (fun-ext (λ a. sym (tally-erase n (p a >>= k)))) ∙ ap (tally n) (going x p k)
+going-tally m x p k = ap (ask x) (fun-ext (λ a. sym (tally-erase m (p a >>= k)))) ∙ ap (tally m) (going x p k)

@@ -1,54 +1,56 @@
 -- A call run over a list of answers.
 use Prim.Native.Nat.{ℕ, suc, zero}
 use mathlib.Core.Path.{_≡_, refl, ap, fun-ext, _∙_}
+use mathlib.Core.Bool.{Bool, true, false}
 use mathlib.Core.List.{List, [], _∷_}
 use lib.Dec.{T}
 use Rattle.hardware.specs.declared.Access.{Access}
 use Rattle.hardware.specs.declared.Answer.{Answer}
+use Rattle.hardware.specs.declared.Meter.{Meter}
 use Rattle.hardware.specs.Asked.{Asked, no, yes, andThen, fits}
-use Rattle.hardware.specs.Prog.{Prog, ret, ask, note, give, Note, Attempt, Acquires, Acquired, Released, Lapsed, stays, erase, Counted, begun}
+use Rattle.hardware.specs.Prog.{Prog, ret, ask, note, give, Note, told, noteIf, stays, erase, Counted, begun, metered}
 
 -- how a run stands: it has ended, or waits for the answer to one more access
-pub data Stand (A : Type 0) : Type 0 where
-  ended : A → Stand A
-  waiting : Access → Stand A
+pub data Status (A : Type 0) : Type 0 where
+  ended : A → Status A
+  waiting : Access → Status A
 
 -- the accesses that were answered, the bytes given out, and how the run stands when the list is used up or the call
 -- has ended
 pub record Run (A : Type 0) : Type 0 where
   pub accesses : List Access
   pub bytes : List ℕ
-  pub stand : Stand A
+  pub status : Status A
 
 abbrev pub answered : {A : Type 0} → Access → Run A → Run A
-answered x r = record { accesses = x ∷ r .accesses; bytes = r .bytes; stand = r .stand }
+answered x r = record { accesses = x ∷ r .accesses; bytes = r .bytes; status = r .status }
 
 abbrev pub given : {A : Type 0} → ℕ → Run A → Run A
-given b r = record { accesses = r .accesses; bytes = b ∷ r .bytes; stand = r .stand }
+given b r = record { accesses = r .accesses; bytes = b ∷ r .bytes; status = r .status }
 
-unfoldable pub onward : {A : Type 0} → Access → (Answer → List Answer → Run A) → List Answer → Run A
-onward x f [] = record { accesses = []; bytes = []; stand = waiting x }
-onward x f (a ∷ l) = answered x (f a l)
+unfoldable pub onAnswer : {A : Type 0} → Access → (Answer → List Answer → Run A) → List Answer → Run A
+onAnswer x f [] = record { accesses = []; bytes = []; status = waiting x }
+onAnswer x f (a ∷ l) = answered x (f a l)
 
 unfoldable pub run : {A : Type 0} → Prog A → List Answer → Run A
-run (ret v) = λ l. record { accesses = []; bytes = []; stand = ended v }
-run (ask x f) = onward x (λ a. run (f a))
+run (ret v) = λ l. record { accesses = []; bytes = []; status = ended v }
+run (ask x f) = onAnswer x (λ a. run (f a))
 run (note n p) = run p
 run (give b p) = λ l. given b (run p l)
 
 pub run-stays : {A : Type 0} (n : Note) (p : Prog A) → run (stays n p) ≡ run p
 unfolding run
-run-stays Attempt p = refl
-run-stays Acquires p = refl
-run-stays Acquired p = refl
-run-stays Released p = refl
-run-stays Lapsed p = refl
+run-stays n p = by (told n)
+  where
+    by : (b : Bool) → run (noteIf b n p) ≡ run p
+    by true = refl
+    by false = refl
 
 -- a run sees nothing of the notes
 pub run-erase : {A : Type 0} (p : Prog A) → run (erase p) ≡ run p
 unfolding run erase
 run-erase (ret v) = refl
-run-erase (ask x f) = ap (onward x) (fun-ext (λ a. run-erase (f a)))
+run-erase (ask x f) = ap (onAnswer x) (fun-ext (λ a. run-erase (f a)))
 run-erase (note n p) = run-stays n (erase p) ∙ run-erase p
 run-erase (give b p) = fun-ext (λ l. ap (λ r. given b (r l)) (run-erase p))
 
@@ -69,9 +71,9 @@ Awaited (note n p) l = Awaited p l
 Awaited (give b p) l = Awaited p l
 
 -- an opening run over a list of answers: refused, or the call's run
-unfoldable pub ran : {A : Type 0} → Asked (Prog A) → List Answer → Asked (Run A)
-ran (no n) l = no n
-ran (yes p) l = yes (run p l)
+unfoldable pub runAsked : {A : Type 0} → Asked (Prog A) → List Answer → Asked (Run A)
+runAsked (no n) l = no n
+runAsked (yes p) l = yes (run p l)
 
 -- the transfers that a run begins
 unfoldable pub transfersIn : {A : Type 0} → Prog A → List Answer → ℕ
@@ -81,24 +83,32 @@ transfersIn (ask x f) (a ∷ l) = transfersIn (f a) l
 transfersIn (note n p) l = begun n (transfersIn p l)
 transfersIn (give b p) l = transfersIn p l
 
--- a run with a count of transfers beside its result
-unfoldable pub countedStand : {A : Type 0} → ℕ → Stand A → Stand (Counted A)
-countedStand n (ended v) = ended (record { transfers = n; result = v })
-countedStand n (waiting x) = waiting x
+-- the meter after all that a run notes
+unfoldable pub meterIn : {A : Type 0} → Meter → Prog A → List Answer → Meter
+meterIn m (ret v) l = m
+meterIn m (ask x f) [] = m
+meterIn m (ask x f) (a ∷ l) = meterIn m (f a) l
+meterIn m (note n p) l = meterIn (metered n m) p l
+meterIn m (give b p) l = meterIn m p l
 
-abbrev pub counted : {A : Type 0} → ℕ → Run A → Run (Counted A)
-counted n r = record { accesses = r .accesses; bytes = r .bytes; stand = countedStand n (r .stand) }
+-- a run with its meter beside the result
+unfoldable pub countedStatus : {A : Type 0} → Meter → Status A → Status (Counted A)
+countedStatus m (ended v) = ended (record { meter = m; result = v })
+countedStatus m (waiting x) = waiting x
+
+abbrev pub counted : {A : Type 0} → Meter → Run A → Run (Counted A)
+counted m r = record { accesses = r .accesses; bytes = r .bytes; status = countedStatus m (r .status) }
 
 -- A call driven by its steps over a list of answers. said: what a telling says; go: what the next step tells
 unfoldable pub led : {A : Type 0} → Asked (Prog A) → List Answer → Asked (Run A) → Asked (Run A)
 led (no n) l rest = no n
-led (yes (ret v)) l rest = ran (yes (ret v)) l
+led (yes (ret v)) l rest = runAsked (yes (ret v)) l
 led (yes (ask x f)) l rest = andThen rest (λ r. yes (answered x r))
-led (yes (note n p)) l rest = ran (yes (note n p)) l
-led (yes (give b p)) l rest = ran (yes (give b p)) l
+led (yes (note n p)) l rest = runAsked (yes (note n p)) l
+led (yes (give b p)) l rest = runAsked (yes (give b p)) l
 
 unfoldable pub driven : {A Told : Type 0} → (Told → Asked (Prog A)) → (Told → Answer → Told) → Told → List Answer → Asked (Run A)
-driven said go t [] = ran (said t) []
+driven said go t [] = runAsked (said t) []
 driven said go t (a ∷ l) = led (said t) (a ∷ l) (driven said go (go t a) l)
 
 -- each answer is of the awaited kind, where the call was not refused

@@ -3,8 +3,9 @@ ghost use mathlib.Core.Path.{_≡_};
 ghost use Prim.Native.Nat.{_*_};
 ghost use mathlib.Core.List.{[], _∷_};
 ghost use lib.ListN.{getD};
+ghost use Rattle.hardware.specs.Marks.{countOf, meterOn};
 ghost use Rattle.hardware.specs.Numbers.{refusalNumber, errorNumber, errorValues};
-ghost use Rattle.hardware.specs.Asked.{familyNumber, is, openFamily, familyOpened, openPort, openLan, portOpened, validPort, fits};
+ghost use Rattle.hardware.specs.Asked.{familyNumber, is, openFamily, familyOpened, openPort, openLan, portOpened, validPort, fits, Admits};
 ghost use Rattle.hardware.specs.Registers.{noneOf, checked, raw, written, flushed, word, outcome};
 
 pub mod change;
@@ -73,6 +74,22 @@ pub enum Refusal {
     Kind,
 }
 
+// What a machine says with the access that it awaits. attempt: an attempt begins with it.
+pub struct Marks {
+    pub attempt: bool,
+}
+
+pub const UNMARKED: Marks = Marks { attempt: false };
+
+pub const ATTEMPT_BEGINS: Marks = Marks { attempt: true };
+
+// What a result tells of the way to it: the transfers made.
+pub struct Meter {
+    pub transfers: u32,
+}
+
+pub const BLANK: Meter = Meter { transfers: 0 };
+
 // The Rust's `R<u32>`.
 pub enum Word {
     Ok(u32),
@@ -109,6 +126,12 @@ pub enum UpdateNext {
     End(Outcome),
 }
 
+// What the questions about a step come to.
+pub enum Admitted {
+    Yes,
+    No(Refusal),
+}
+
 pub enum FamilyOpening {
     Family(Family),
     Refused(Refusal),
@@ -117,6 +140,27 @@ pub enum FamilyOpening {
 pub enum Opening {
     Port(Port),
     Refused(Refusal),
+}
+
+// A count that goes up by one where begins says so; at the top of its type it stays.
+fn count(begins: bool, n: u32) -> u32
+    ensures { λ r. ⌜ r ≡ countOf begins n ⌝ }
+{
+    if n < 4294967295 {
+        if begins {
+            return n + 1;
+        }
+    }
+    n
+}
+
+// The meter after the marks.
+pub fn meter_on(k: Marks, m: Meter) -> Meter
+    ensures { λ r. ⌜ r ≡ meterOn k m ⌝ }
+{
+    Meter {
+        transfers: count(k.attempt, m.transfers),
+    }
 }
 
 pub fn refusal_number(q: Refusal) -> u8
@@ -262,6 +306,19 @@ pub fn awaited(x: Access, a: Answer) -> bool
             Answer::Failed => false,
         },
     }
+}
+
+// Questions 10 and 12 of a step: whether its state is within its limits, and the answer of the kind that x awaits.
+pub fn admit(valid: bool, x: Access, a: Answer) -> Admitted
+    ensures { λ r. ⌜ Admits valid x a r ⌝ }
+{
+    if valid {
+        if awaited(x, a) {
+            return Admitted::Yes;
+        }
+        return Admitted::No(Refusal::Kind);
+    }
+    Admitted::No(Refusal::State)
 }
 
 // Whether v has none of the bits set.

@@ -7,10 +7,12 @@ use lib.Dec.{leb}
 use lib.ListN.{length}
 use Rattle.hardware.specs.declared.Answer.{Answer}
 use Rattle.hardware.specs.declared.Port.{Port}
-use Rattle.hardware.specs.Asked.{Asked, yes, no, question, andThen, openPort, validPort, fits}
+use Rattle.hardware.specs.Asked.{Asked, yes, no, question, andThen, openPort, validPort, admitting}
 use Rattle.hardware.specs.Numbers.{refusalNumber}
 use Rattle.hardware.specs.Prog.{Prog, ret, ask, erase, R, pick}
 use Rattle.hardware.specs.Registers.{byte, flag}
+use Rattle.hostif.specs.declared.command.Command.{Command}
+use Rattle.hostif.specs.declared.token.Token.{Token}
 use Rattle.hostif.specs.declared.calls.CommandCall.{CommandCall}
 use Rattle.hostif.specs.declared.calls.CommandCall.the-variants.{Going as CommandGoing, Over as CommandOver}
 use Rattle.hostif.specs.declared.calls.CommandTold.{CommandTold}
@@ -26,32 +28,31 @@ pub data Lent : Type 0 where
   refused : ℕ → List ℕ → Lent
   goes : Prog Left → Lent
 
-unfoldable pub asked : Bool → ℕ → List ℕ → Lent → Lent
-asked true n block k = k
-asked false n block k = refused n block
+unfoldable pub lent : List ℕ → Asked (Prog Left) → Lent
+lent block (no n) = refused n block
+lent block (yes p) = goes p
 
 -- Has the block 1 to 64 words?
 unfoldable pub blockFits : List ℕ → Bool
 blockFits block = pick (leb 1 (length block)) (leb (length block) 64) false
 
 -- `command`: 1 and 2, then 8
-unfoldable pub openedBlock : List ℕ → Asked Port → Lent
-openedBlock block (no n) = refused n block
-openedBlock block (yes port) = asked (blockFits block) 8 block (goes (erase (command port block)))
-
 unfoldable pub openCommand : ℕ → ℕ → ℕ → List ℕ → Lent
-openCommand family device lan block = openedBlock block (openPort family device lan)
+openCommand family device lan block =
+    lent block (andThen (openPort family device lan) (λ port. question (blockFits block) 8 (yes (erase (command port block)))))
+
+-- n: the words of the block
+unfoldable pub validCommandCall : Port → ℕ → Command → Bool
+validCommandCall port n t = pick (validPort port) (validCommand port n t) false
 
 -- a step: 8 again, 10, 11, 12. The finished state is well formed
-unfoldable pub stepped : CommandCall → List ℕ → Answer → Lent
+unfoldable pub stepped : CommandCall → List ℕ → Answer → Asked (Prog Left)
 stepped (CommandGoing port t) block a =
-    asked (validPort port) 10 block
-    (asked (validCommand port (length block) t) 10 block
-    (asked (fits (accessCommand port t block) a) 12 block (goes (erase (restCommand port t block a)))))
-stepped CommandOver block a = refused 11 block
+    admitting (validCommandCall port (length block) t) (accessCommand port t block) a (yes (erase (restCommand port t block a)))
+stepped CommandOver block a = no 11
 
 unfoldable pub stepCommand : CommandCall → List ℕ → Answer → Lent
-stepCommand s block a = asked (blockFits block) 8 block (stepped s block a)
+stepCommand s block a = lent block (question (blockFits block) 8 (stepped s block a))
 
 -- what was told, with the block as it is then
 unfoldable pub saidCommand : CommandTold → List ℕ → Lent
@@ -62,8 +63,7 @@ saidCommand (CommandRefused q) block = refused (refusalNumber q) block
 
 -- a state to go on from comes with the access it awaits, and passes question 10 with the block as it is then
 unfoldable pub standsCommand : CommandTold → List ℕ → Type 0
-standsCommand (CommandAsk x (CommandGoing port t)) block =
-    (x ≡ accessCommand port t block) × (validPort port ≡ true) × (validCommand port (length block) t ≡ true)
+standsCommand (CommandAsk x (CommandGoing port t)) block = (x ≡ accessCommand port t block) × (validCommandCall port (length block) t ≡ true)
 standsCommand (CommandAsk x CommandOver) block = ⊥
 standsCommand (CommandEnd b) block = Unit {0}
 standsCommand (CommandRefused q) block = Unit {0}
@@ -72,10 +72,11 @@ standsCommand (CommandRefused q) block = Unit {0}
 unfoldable pub openToken : ℕ → ℕ → ℕ → Bool → Asked (Prog (R Bool))
 openToken family device lan take = andThen (openPort family device lan) (λ port. yes (erase (token port take)))
 
+unfoldable pub validTokenCall : Port → Token → Bool
+validTokenCall port t = pick (validPort port) (validToken port t) false
+
 unfoldable pub stepToken : TokenCall → Answer → Asked (Prog (R Bool))
-stepToken (TokenGoing port take t) a =
-    question (validPort port) 10
-    (question (validToken port t) 10 (question (fits (accessToken port t) a) 12 (yes (erase (restToken port take t a)))))
+stepToken (TokenGoing port take t) a = admitting (validTokenCall port t) (accessToken port t) a (yes (erase (restToken port take t a)))
 stepToken TokenOver a = no 11
 
 unfoldable pub saidToken : TokenTold → Asked (Prog (R Bool))
@@ -85,7 +86,7 @@ saidToken (TokenEnd b) = yes (ret (flag b))
 saidToken (TokenRefused q) = no (refusalNumber q)
 
 unfoldable pub standsToken : TokenTold → Type 0
-standsToken (TokenAsk x (TokenGoing port take t)) = (x ≡ accessToken port t) × (validPort port ≡ true) × (validToken port t ≡ true)
+standsToken (TokenAsk x (TokenGoing port take t)) = (x ≡ accessToken port t) × (validTokenCall port t ≡ true)
 standsToken (TokenAsk x TokenOver) = ⊥
 standsToken (TokenEnd b) = Unit {0}
 standsToken (TokenRefused q) = Unit {0}

@@ -4,6 +4,7 @@ use crate::command::CommandNext;
 use crate::token::Token;
 use crate::token::TokenNext;
 use hardware::Access;
+use hardware::Admitted;
 use hardware::Answer;
 use hardware::Byte;
 use hardware::Flag;
@@ -16,9 +17,10 @@ ghost use mathlib.Core.Bool.{true};
 ghost use mathlib.Core.List.{List};
 ghost use lib.ListN.{length};
 ghost use Rattle.hardware.specs.Asked.{yes, validPort};
+ghost use Rattle.hardware.specs.Promise.{Keeps};
 ghost use Rattle.hardware.specs.Prog.{erase};
 ghost use Rattle.hostif.specs.Hostif.{commandNext, restCommand, validCommand, validCommandNext, tokenNext, validTokenNext};
-ghost use Rattle.hostif.specs.Calls.{goes, blockFits, openCommand, stepped, stepCommand, saidCommand, standsCommand, openToken, stepToken, saidToken, standsToken};
+ghost use Rattle.hostif.specs.Calls.{goes, lent, blockFits, openCommand, validCommandCall, stepped, stepCommand, saidCommand, standsCommand, openToken, validTokenCall, stepToken, saidToken, standsToken};
 
 pub enum CommandCall {
     Going(Port, Command),
@@ -53,8 +55,7 @@ fn fits(n: usize) -> bool
 }
 
 fn command_told(port: Port, block: &[u32], n: CommandNext) -> CommandTold
-    ensures { λ r. ⌜ saidCommand r (now (block .entry)) ≡ goes (commandNext port n (now (block .entry))) ⌝ }
-    ensures { λ r. ⌜ (validPort port ≡ true → validCommandNext port (length (now (block .entry))) n ≡ true → standsCommand r (now (block .entry))) ⌝ }
+    ensures { λ r. ⌜ Keeps (saidCommand r (now (block .entry)) ≡ goes (commandNext port n (now (block .entry)))) (validPort port ≡ true → validCommandNext port (length (now (block .entry))) n ≡ true → standsCommand r (now (block .entry))) ⌝ }
 {
     match n {
         CommandNext::Going(t) => CommandTold::Ask(
@@ -66,8 +67,7 @@ fn command_told(port: Port, block: &[u32], n: CommandNext) -> CommandTold
 }
 
 pub fn command_open(family: u32, device: u16, lan: u32, block: &[u32]) -> CommandTold
-    ensures { λ r. ⌜ saidCommand r (now (block .entry)) ≡ openCommand family device lan (now (block .entry)) ⌝ }
-    ensures { λ r. ⌜ standsCommand r (now (block .entry)) ⌝ }
+    ensures { λ r. ⌜ Keeps (saidCommand r (now (block .entry)) ≡ openCommand family device lan (now (block .entry))) (standsCommand r (now (block .entry))) ⌝ }
 {
     match hardware::open_port(family, device, lan) {
         Opening::Port(p) => {
@@ -82,32 +82,34 @@ pub fn command_open(family: u32, device: u16, lan: u32, block: &[u32]) -> Comman
 
 fn go(port: Port, t: Command, block: &mut [u32], a: Answer) -> CommandTold
     requires { ⌜ length (now block) ≤ 64 ⌝ }
-    ensures { λ r. ⌜ saidCommand r (now (block .exit)) ≡ goes (erase (restCommand port t (now (block .entry)) a)) ⌝ }
-    ensures { λ r. ⌜ (validPort port ≡ true → validCommand port (length (now (block .entry))) t ≡ true → standsCommand r (now (block .exit))) ⌝ }
+    ensures { λ r. ⌜ Keeps (saidCommand r (now (block .exit)) ≡ goes (erase (restCommand port t (now (block .entry)) a))) (validPort port ≡ true → validCommand port (length (now (block .entry))) t ≡ true → standsCommand r (now (block .exit))) ⌝ }
 {
     let n = crate::command::step(port, t, block, a);
     command_told(port, block, n)
 }
 
-fn command_on(port: Port, t: Command, block: &mut [u32], a: Answer) -> CommandTold
-    requires { ⌜ length (now block) ≤ 64 ⌝ }
-    ensures { λ r. ⌜ saidCommand r (now (block .exit)) ≡ stepped (CommandCall.Going port t) (now (block .entry)) a ⌝ }
-    ensures { λ r. ⌜ standsCommand r (now (block .exit)) ⌝ }
+fn valid_command(port: Port, n: usize, t: Command) -> bool
+    ensures { λ r. ⌜ r ≡ validCommandCall port n t ⌝ }
 {
     if hardware::valid_port(port) {
-        if crate::command::valid(port, block.len(), t) {
-            if hardware::awaited(crate::command::access(port, t, block), a) {
-                return go(port, t, block, a);
-            }
-            return CommandTold::Refused(Refusal::Kind);
-        }
+        return crate::command::valid(port, n, t);
     }
-    CommandTold::Refused(Refusal::State)
+    false
+}
+
+fn command_on(port: Port, t: Command, block: &mut [u32], a: Answer) -> CommandTold
+    requires { ⌜ length (now block) ≤ 64 ⌝ }
+    ensures { λ r. ⌜ Keeps (saidCommand r (now (block .exit)) ≡ lent (now (block .entry)) (stepped (CommandCall.Going port t) (now (block .entry)) a)) (standsCommand r (now (block .exit))) ⌝ }
+{
+    let valid = valid_command(port, block.len(), t);
+    match hardware::admit(valid, crate::command::access(port, t, block), a) {
+        Admitted::Yes => go(port, t, block, a),
+        Admitted::No(q) => CommandTold::Refused(q),
+    }
 }
 
 pub fn command_step(s: CommandCall, block: &mut [u32], a: Answer) -> CommandTold
-    ensures { λ r. ⌜ saidCommand r (now (block .exit)) ≡ stepCommand s (now (block .entry)) a ⌝ }
-    ensures { λ r. ⌜ standsCommand r (now (block .exit)) ⌝ }
+    ensures { λ r. ⌜ Keeps (saidCommand r (now (block .exit)) ≡ stepCommand s (now (block .entry)) a) (standsCommand r (now (block .exit))) ⌝ }
 {
     if fits(block.len()) {
         return match s {
@@ -119,8 +121,7 @@ pub fn command_step(s: CommandCall, block: &mut [u32], a: Answer) -> CommandTold
 }
 
 fn token_told(port: Port, take: bool, n: TokenNext) -> TokenTold
-    ensures { λ r. ⌜ saidToken r ≡ yes (tokenNext port take n) ⌝ }
-    ensures { λ r. ⌜ (validPort port ≡ true → validTokenNext port n ≡ true → standsToken r) ⌝ }
+    ensures { λ r. ⌜ Keeps (saidToken r ≡ yes (tokenNext port take n)) (validPort port ≡ true → validTokenNext port n ≡ true → standsToken r) ⌝ }
 {
     match n {
         TokenNext::Going(t) => TokenTold::Ask(
@@ -132,8 +133,7 @@ fn token_told(port: Port, take: bool, n: TokenNext) -> TokenTold
 }
 
 pub fn token_open(family: u32, device: u16, lan: u32, take: bool) -> TokenTold
-    ensures { λ r. ⌜ saidToken r ≡ openToken family device lan take ⌝ }
-    ensures { λ r. ⌜ standsToken r ⌝ }
+    ensures { λ r. ⌜ Keeps (saidToken r ≡ openToken family device lan take) (standsToken r) ⌝ }
 {
     match hardware::open_port(family, device, lan) {
         Opening::Port(p) => token_told(p, take, crate::token::open(p, take)),
@@ -141,21 +141,24 @@ pub fn token_open(family: u32, device: u16, lan: u32, take: bool) -> TokenTold
     }
 }
 
+fn valid_token(port: Port, t: Token) -> bool
+    ensures { λ r. ⌜ r ≡ validTokenCall port t ⌝ }
+{
+    if hardware::valid_port(port) {
+        return crate::token::valid(port, t);
+    }
+    false
+}
+
 pub fn token_step(s: TokenCall, a: Answer) -> TokenTold
-    ensures { λ r. ⌜ saidToken r ≡ stepToken s a ⌝ }
-    ensures { λ r. ⌜ standsToken r ⌝ }
+    ensures { λ r. ⌜ Keeps (saidToken r ≡ stepToken s a) (standsToken r) ⌝ }
 {
     match s {
         TokenCall::Going(port, take, t) => {
-            if hardware::valid_port(port) {
-                if crate::token::valid(port, t) {
-                    if hardware::awaited(crate::token::access(port, t), a) {
-                        return token_told(port, take, crate::token::step(port, take, t, a));
-                    }
-                    return TokenTold::Refused(Refusal::Kind);
-                }
+            match hardware::admit(valid_token(port, t), crate::token::access(port, t), a) {
+                Admitted::Yes => token_told(port, take, crate::token::step(port, take, t, a)),
+                Admitted::No(q) => TokenTold::Refused(q),
             }
-            TokenTold::Refused(Refusal::State)
         }
         TokenCall::Over => TokenTold::Refused(Refusal::Finished),
     }

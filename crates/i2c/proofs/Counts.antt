@@ -13,13 +13,13 @@ use Rattle.hardware.specs.Runs.{transfersIn}
 use Rattle.hostif.specs.Acquire.{hwOf, withBits, acquiredAll, acquire, giveBits, release}
 use Rattle.bus.specs.declared.Taken.{Taken}
 use Rattle.bus.specs.Layout.{layoutOf}
-use Rattle.transfer.specs.declared.attempt.Sequence.the-variants.{Pulses}
 use Rattle.transfer.specs.Attempt.{attempt}
 use Rattle.transfer.proofs.Noteless.{attempting-noteless}
+use Rattle.i2c.specs.declared.How.{How}
 use Rattle.i2c.specs.declared.once.Request.{Request}
 use Rattle.i2c.specs.declared.once.Request.the-variants.{ReadByte, WriteByte, ReadCombined, WriteCombined}
-use Rattle.i2c.specs.I2c.{mask, qsfp, deviceOf, isWrite, valueOf, givesValue, once, whenLock, readJudged, readTries, writeTries, givenUp, writes, moves, givenBus, onGrant, withBus, handshaken, transferred}
-use Rattle.i2c.specs.Tries.{wanted}
+use Rattle.i2c.specs.I2c.{mask, qsfp, deviceOf, isWrite, valueOf, givesValue, once, whenLock, readJudged, readTries, writeTries, givenUp, writes, retried, givenBus, onGrant, withBus, handshaken, transferred}
+use Rattle.i2c.specs.Retry.{wanted}
 use Rattle.i2c.proofs.Masks.{mask-plain}
 use Rattle.i2c.proofs.Quiet.{Quiet, quiet-noteless, quiet-pick, quiet-ret, quiet-try, delay-quiet, change-quiet, acquire-bits-quiet, release-bits-quiet}
 use Rattle.i2c.proofs.Paired.{body-noteless, granted-quiet}
@@ -106,10 +106,10 @@ most-counts n (note Released p) l e = most-counts n p l e
 most-counts n (note Lapsed p) l e = most-counts n p l e
 most-counts n (give b p) l e = most-counts n p l e
 
-once-most : (port : Port) (r : Request) → AtMost 1 (once port r)
+once-most : (port : Port) (r : Request) (how : How) → AtMost 1 (once port r how)
 unfolding once attempt AtMost
-once-most port r =
-    most-quiet _ (quiet-noteless _ (attempting-noteless Pulses (layoutOf (port .family)) (deviceOf r) _ (body-noteless (layoutOf (port .family)) r)))
+once-most port r how =
+    most-quiet _ (quiet-noteless _ (attempting-noteless (how .sequence) (layoutOf (port .family)) (deviceOf r) _ (body-noteless (layoutOf (port .family)) r)))
 
 all-most : AtMost 0 acquiredAll
 unfolding acquiredAll AtMost
@@ -137,36 +137,36 @@ unfolding readJudged
 judged-most r lock again n e result =
     most-pick _ _ _ n (most-pick _ _ _ n (most-try _ _ n (most-quiet _ (delay-quiet _)) (λ _. e)) e) (most-ret _ n)
 
-read-tries-most : (port : Port) (r : Request) (lock : Bool) (n : ℕ) → AtMost n (readTries port r lock n)
+read-tries-most : (port : Port) (r : Request) (how : How) (n : ℕ) → AtMost n (readTries port r how n)
 unfolding readTries
-read-tries-most port r lock zero = most-ret _ 0
-read-tries-most port r lock (suc n) =
-    when-most lock _ _ (suc n) (acquire-most port)
+read-tries-most port r how zero = most-ret _ 0
+read-tries-most port r how (suc n) =
+    when-most (how .lock) _ _ (suc n) (acquire-most port)
     (most-more _ (1 + n) (suc n)
-    (most-bind _ _ 1 n (once-most port r)
-    (λ result. when-most lock _ _ n (release-most port) (judged-most r lock _ n (read-tries-most port r lock n) result)))
+    (most-bind _ _ 1 n (once-most port r how)
+    (λ result. when-most (how .lock) _ _ n (release-most port) (judged-most r (how .lock) _ n (read-tries-most port r how n) result)))
     (omega arith))
 
-write-tries-most : (port : Port) (r : Request) (n : ℕ) (result : R Taken) → AtMost n (writeTries port r n result)
+write-tries-most : (port : Port) (r : Request) (how : How) (n : ℕ) (result : R Taken) → AtMost n (writeTries port r how n result)
 unfolding writeTries
-write-tries-most port r zero result = most-ret _ 0
-write-tries-most port r (suc n) before =
+write-tries-most port r how zero result = most-ret _ 0
+write-tries-most port r how (suc n) before =
     most-more _ (1 + n) (suc n)
-    (most-bind _ _ 1 n (once-most port r) (λ result. most-pick _ _ _ n (write-tries-most port r n result) (most-ret _ n)))
+    (most-bind _ _ 1 n (once-most port r how) (λ result. most-pick _ _ _ n (write-tries-most port r how n result) (most-ret _ n)))
     (omega arith)
 
-writes-most : (port : Port) (r : Request) (lock : Bool) → AtMost 2 (writes port r lock)
+writes-most : (port : Port) (r : Request) (how : How) → AtMost 2 (writes port r how)
 unfolding writes givenUp
-writes-most port r lock =
-    when-most lock _ _ 2 (acquire-most port)
-    (most-bind _ _ 2 0 (write-tries-most port r 2 _) (λ result. when-most lock _ _ 0 (release-most port) (most-ret _ 0)))
+writes-most port r how =
+    when-most (how .lock) _ _ 2 (acquire-most port)
+    (most-bind _ _ 2 0 (write-tries-most port r how 2 _) (λ result. when-most (how .lock) _ _ 0 (release-most port) (most-ret _ 0)))
 
-moves-most : (port : Port) (r : Request) (lock : Bool) (n : ℕ) → AtMost (wanted r n) (moves port r lock n)
-unfolding moves wanted isWrite pick
-moves-most port (ReadByte d o) lock n = read-tries-most port (ReadByte d o) lock n
-moves-most port (WriteByte d o v) lock n = writes-most port (WriteByte d o v) lock
-moves-most port (ReadCombined d reg) lock n = read-tries-most port (ReadCombined d reg) lock n
-moves-most port (WriteCombined d reg v) lock n = writes-most port (WriteCombined d reg v) lock
+retried-most : (port : Port) (r : Request) (how : How) (n : ℕ) → AtMost (wanted r n) (retried port r how n)
+unfolding retried wanted isWrite pick
+retried-most port (ReadByte d o) how n = read-tries-most port (ReadByte d o) how n
+retried-most port (WriteByte d o v) how n = writes-most port (WriteByte d o v) how
+retried-most port (ReadCombined d reg) how n = read-tries-most port (ReadCombined d reg) how n
+retried-most port (WriteCombined d reg v) how n = writes-most port (WriteCombined d reg v) how
 
 with-bus-most : (port : Port) (device : ℕ) (f : Prog (R Taken)) (n : ℕ) → AtMost n f → AtMost n (withBus port device f)
 unfolding withBus onGrant givenBus
@@ -186,19 +186,19 @@ handshaken-most port (WriteByte d o v) f n e = with-bus-most port d f n e
 handshaken-most port (ReadCombined d reg) f n e = e
 handshaken-most port (WriteCombined d reg v) f n e = e
 
-pub transferred-most : (port : Port) (r : Request) (lock : Bool) (n : ℕ) → AtMost (wanted r n) (transferred port r lock n)
+pub transferred-most : (port : Port) (r : Request) (how : How) (n : ℕ) → AtMost (wanted r n) (transferred port r how n)
 unfolding transferred givesValue
-transferred-most port r lock n =
+transferred-most port r how n =
     most-more _ (wanted r n + 0) (wanted r n)
-    (most-bind _ _ (wanted r n) 0 (handshaken-most port r _ (wanted r n) (moves-most port r lock n)) (λ result. most-ret _ 0))
+    (most-bind _ _ (wanted r n) 0 (handshaken-most port r _ (wanted r n) (retried-most port r how n)) (λ result. most-ret _ 0))
     (omega arith)
 
 -- the attempts of a run, whatever the answers; with 0 attempts a read has none
-pub transfer-count : (port : Port) (r : Request) (lock : Bool) (n : ℕ) (l : List Answer) → transfersIn (transferred port r lock n) l ≤ wanted r n
-transfer-count port r lock n l = most-counts (wanted r n) _ l (transferred-most port r lock n)
+pub transfer-count : (port : Port) (r : Request) (how : How) (n : ℕ) (l : List Answer) → transfersIn (transferred port r how n) l ≤ wanted r n
+transfer-count port r how n l = most-counts (wanted r n) _ l (transferred-most port r how n)
 
 -- with 0 attempts, and no handshake, `read_byte` has ended before its first access
-pub none-allowed : (port : Port) (device offset : ℕ) (lock : Bool) → qsfp port ≡ false
-    → transferred port (ReadByte device offset) lock 0 ≡ ret (Err (I2c device))
-unfolding transferred handshaken withBus moves isWrite readTries deviceOf givesValue valueOf pick _>>=_
-none-allowed port device offset lock h = rw (h)
+pub none-allowed : (port : Port) (device offset : ℕ) (how : How) → qsfp port ≡ false
+    → transferred port (ReadByte device offset) how 0 ≡ ret (Err (I2c device))
+unfolding transferred handshaken withBus retried isWrite readTries deviceOf givesValue valueOf pick _>>=_
+none-allowed port device offset how h = rw (h)

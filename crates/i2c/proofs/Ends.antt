@@ -19,11 +19,11 @@ use Rattle.bus.specs.declared.Layout.{Layout}
 use Rattle.bus.specs.declared.Taken.{Taken}
 use Rattle.bus.specs.Layout.{layoutOf}
 use Rattle.bus.proofs.Ends.{EndsBus, bus-more, done-ends, START-STEPS, SEND-STEPS, IN-BYTE-STEPS, OUT-BIT-STEPS, STOP-STEPS, start-ends, send-ends, in-byte-ends, out-bit-ends, stop-ends}
-use Rattle.transfer.specs.declared.attempt.Sequence.the-variants.{Pulses}
 use Rattle.transfer.proofs.Ends.{ATTEMPT-STEPS, attempt-ends}
+use Rattle.i2c.specs.declared.How.{How}
 use Rattle.i2c.specs.declared.once.Request.{Request}
 use Rattle.i2c.specs.declared.once.Request.the-variants.{ReadByte, WriteByte, ReadCombined, WriteCombined}
-use Rattle.i2c.specs.I2c.{mask, isWrite, deviceOf, body, givesValue, once, whenLock, readJudged, readTries, writeTries, givenUp, writes, moves, granting, granted, givenBus, onGrant, withBus, handshaken, transferred, setupBus}
+use Rattle.i2c.specs.I2c.{mask, isWrite, deviceOf, body, givesValue, once, whenLock, readJudged, readTries, writeTries, givenUp, writes, retried, granting, granted, givenBus, onGrant, withBus, handshaken, transferred, setupBus}
 use Rattle.i2c.specs.Calls.{triesOf}
 use Rattle.i2c.proofs.Masks.{mask-plain}
 
@@ -71,11 +71,11 @@ READ-STEPS family r lock = TAKING-STEPS family lock + (ONCE-STEPS r + (GIVING-ST
 abbrev pub WRITE-STEPS : Family → Request → Bool → ℕ
 WRITE-STEPS family r lock = TAKING-STEPS family lock + (2 * ONCE-STEPS r + GIVING-STEPS lock)
 
-abbrev pub MOVES-STEPS : Family → Request → Bool → ℕ → ℕ
-MOVES-STEPS family (ReadByte device offset) lock tries = tries * READ-STEPS family (ReadByte device offset) lock
-MOVES-STEPS family (WriteByte device offset value) lock tries = WRITE-STEPS family (WriteByte device offset value) lock
-MOVES-STEPS family (ReadCombined device reg) lock tries = tries * READ-STEPS family (ReadCombined device reg) lock
-MOVES-STEPS family (WriteCombined device reg value) lock tries = WRITE-STEPS family (WriteCombined device reg value) lock
+abbrev pub RETRIED-STEPS : Family → Request → Bool → ℕ → ℕ
+RETRIED-STEPS family (ReadByte device offset) lock tries = tries * READ-STEPS family (ReadByte device offset) lock
+RETRIED-STEPS family (WriteByte device offset value) lock tries = WRITE-STEPS family (WriteByte device offset value) lock
+RETRIED-STEPS family (ReadCombined device reg) lock tries = tries * READ-STEPS family (ReadCombined device reg) lock
+RETRIED-STEPS family (WriteCombined device reg value) lock tries = WRITE-STEPS family (WriteCombined device reg value) lock
 
 -- the bus asked for, a read and a wait for each look, and the request taken back
 abbrev pub HANDSHAKE-STEPS : ℕ
@@ -83,7 +83,7 @@ HANDSHAKE-STEPS = 3 + (2 * 200 + 3)
 
 -- the handshake, where there is one, and the attempts
 abbrev pub TRANSFER-STEPS : Family → Request → Bool → ℕ → ℕ
-TRANSFER-STEPS family r lock tries = HANDSHAKE-STEPS + MOVES-STEPS family r lock tries
+TRANSFER-STEPS family r lock tries = HANDSHAKE-STEPS + RETRIED-STEPS family r lock tries
 
 -- in decimals; X550, X552 and X553 have the same numbers, and so have 82599 and X540
 
@@ -169,9 +169,9 @@ body-ends l (WriteCombined d reg v) =
     (send-ends l d _ _ _ (stop-ends l _ 0 (done-ends _ 0)))))))))
     (omega arith)
 
-pub once-ends : (port : Port) (r : Request) → Ends (once port r) (ONCE-STEPS r)
+pub once-ends : (port : Port) (r : Request) (how : How) → Ends (once port r how) (ONCE-STEPS r)
 unfolding once
-once-ends port r = attempt-ends Pulses (layoutOf (port .family)) (deviceOf r) _ (BODY-STEPS r) (body-ends (layoutOf (port .family)) r)
+once-ends port r how = attempt-ends (how .sequence) (layoutOf (port .family)) (deviceOf r) _ (BODY-STEPS r) (body-ends (layoutOf (port .family)) r)
 
 take-ends : (port : Port) → Ends (acquire port (mask port)) (ACQUIRE-BITS-STEPS (tries (port .family)))
 unfolding acquire acquiredAll pick
@@ -215,42 +215,42 @@ judged-ends r lock again n e result =
 one-more : (n t o g s : ℕ) → s ≡ t + (o + (g + 1)) → t + (o + (g + (1 + n * s))) ≤ suc n * s
 one-more n t o g s e = rw suc-mul (omega arith)
 
-pub read-tries-ends : (port : Port) (r : Request) (lock : Bool) (n : ℕ) → Ends (readTries port r lock n) (n * READ-STEPS (port .family) r lock)
+pub read-tries-ends : (port : Port) (r : Request) (how : How) (n : ℕ) → Ends (readTries port r how n) (n * READ-STEPS (port .family) r (how .lock))
 unfolding readTries
-read-tries-ends port r lock zero = ret-ends _ _
-read-tries-ends port r lock (suc n) =
-    let t : ℕ = TAKING-STEPS (port .family) lock in
+read-tries-ends port r how zero = ret-ends _ _
+read-tries-ends port r how (suc n) =
+    let t : ℕ = TAKING-STEPS (port .family) (how .lock) in
     let o : ℕ = ONCE-STEPS r in
-    let g : ℕ = GIVING-STEPS lock in
-    let s : ℕ = READ-STEPS (port .family) r lock in
+    let g : ℕ = GIVING-STEPS (how .lock) in
+    let s : ℕ = READ-STEPS (port .family) r (how .lock) in
     ends-more _ (t + (o + (g + (1 + n * s)))) (suc n * s)
-    (taken-ends port lock _ (o + (g + (1 + n * s)))
-    (ends-bind _ _ o (g + (1 + n * s)) (once-ends port r)
-    (λ result. given-ends port lock _ (1 + n * s) (judged-ends r lock _ (n * s) (read-tries-ends port r lock n) result))))
+    (taken-ends port (how .lock) _ (o + (g + (1 + n * s)))
+    (ends-bind _ _ o (g + (1 + n * s)) (once-ends port r how)
+    (λ result. given-ends port (how .lock) _ (1 + n * s) (judged-ends r (how .lock) _ (n * s) (read-tries-ends port r how n) result))))
     (one-more n t o g s refl)
 
-pub write-tries-ends : (port : Port) (r : Request) (n : ℕ) (result : R Taken) → Ends (writeTries port r n result) (n * ONCE-STEPS r)
+pub write-tries-ends : (port : Port) (r : Request) (how : How) (n : ℕ) (result : R Taken) → Ends (writeTries port r how n result) (n * ONCE-STEPS r)
 unfolding writeTries
-write-tries-ends port r zero result = ret-ends _ _
-write-tries-ends port r (suc n) before =
+write-tries-ends port r how zero result = ret-ends _ _
+write-tries-ends port r how (suc n) before =
     let o : ℕ = ONCE-STEPS r in
     ends-more _ (o + n * o) (suc n * o)
-    (ends-bind _ _ o (n * o) (once-ends port r) (λ result. ends-pick _ _ _ (n * o) (write-tries-ends port r n result) (ret-ends _ _)))
+    (ends-bind _ _ o (n * o) (once-ends port r how) (λ result. ends-pick _ _ _ (n * o) (write-tries-ends port r how n result) (ret-ends _ _)))
     (rw suc-mul (omega arith))
 
-pub writes-ends : (port : Port) (r : Request) (lock : Bool) → Ends (writes port r lock) (WRITE-STEPS (port .family) r lock)
+pub writes-ends : (port : Port) (r : Request) (how : How) → Ends (writes port r how) (WRITE-STEPS (port .family) r (how .lock))
 unfolding writes givenUp
-writes-ends port r lock =
-    taken-ends port lock _ (2 * ONCE-STEPS r + GIVING-STEPS lock)
-    (ends-bind _ _ (2 * ONCE-STEPS r) (GIVING-STEPS lock) (write-tries-ends port r 2 _)
-    (λ result. ends-more _ (GIVING-STEPS lock + 0) (GIVING-STEPS lock) (given-ends port lock _ 0 (ret-ends _ 0)) (omega arith)))
+writes-ends port r how =
+    taken-ends port (how .lock) _ (2 * ONCE-STEPS r + GIVING-STEPS (how .lock))
+    (ends-bind _ _ (2 * ONCE-STEPS r) (GIVING-STEPS (how .lock)) (write-tries-ends port r how 2 _)
+    (λ result. ends-more _ (GIVING-STEPS (how .lock) + 0) (GIVING-STEPS (how .lock)) (given-ends port (how .lock) _ 0 (ret-ends _ 0)) (omega arith)))
 
-pub moves-ends : (port : Port) (r : Request) (lock : Bool) (n : ℕ) → Ends (moves port r lock n) (MOVES-STEPS (port .family) r lock n)
-unfolding moves isWrite pick
-moves-ends port (ReadByte d o) lock n = read-tries-ends port (ReadByte d o) lock n
-moves-ends port (WriteByte d o v) lock n = writes-ends port (WriteByte d o v) lock
-moves-ends port (ReadCombined d reg) lock n = read-tries-ends port (ReadCombined d reg) lock n
-moves-ends port (WriteCombined d reg v) lock n = writes-ends port (WriteCombined d reg v) lock
+pub retried-ends : (port : Port) (r : Request) (how : How) (n : ℕ) → Ends (retried port r how n) (RETRIED-STEPS (port .family) r (how .lock) n)
+unfolding retried isWrite pick
+retried-ends port (ReadByte d o) how n = read-tries-ends port (ReadByte d o) how n
+retried-ends port (WriteByte d o v) how n = writes-ends port (WriteByte d o v) how
+retried-ends port (ReadCombined d reg) how n = read-tries-ends port (ReadCombined d reg) how n
+retried-ends port (WriteCombined d reg v) how n = writes-ends port (WriteCombined d reg v) how
 
 pub granted-ends : (n : ℕ) → Ends (granted n) (2 * n)
 unfolding granted granting
@@ -279,12 +279,12 @@ handshaken-ends port (WriteByte d o v) f n e = with-bus-ends port d f n e
 handshaken-ends port (ReadCombined d reg) f n e = ends-more _ n (HANDSHAKE-STEPS + n) e (omega arith)
 handshaken-ends port (WriteCombined d reg v) f n e = ends-more _ n (HANDSHAKE-STEPS + n) e (omega arith)
 
-pub transferred-ends : (port : Port) (r : Request) (lock : Bool) (n : ℕ) → Ends (transferred port r lock n) (TRANSFER-STEPS (port .family) r lock n)
+pub transferred-ends : (port : Port) (r : Request) (how : How) (n : ℕ) → Ends (transferred port r how n) (TRANSFER-STEPS (port .family) r (how .lock) n)
 unfolding transferred givesValue
-transferred-ends port r lock n =
-    ends-more _ (TRANSFER-STEPS (port .family) r lock n + 0) (TRANSFER-STEPS (port .family) r lock n)
-    (ends-bind _ _ (TRANSFER-STEPS (port .family) r lock n) 0
-    (handshaken-ends port r _ (MOVES-STEPS (port .family) r lock n) (moves-ends port r lock n)) (λ result. ret-ends _ 0))
+transferred-ends port r how n =
+    ends-more _ (TRANSFER-STEPS (port .family) r (how .lock) n + 0) (TRANSFER-STEPS (port .family) r (how .lock) n)
+    (ends-bind _ _ (TRANSFER-STEPS (port .family) r (how .lock) n) 0
+    (handshaken-ends port r _ (RETRIED-STEPS (port .family) r (how .lock) n) (retried-ends port r how n)) (λ result. ret-ends _ 0))
     (omega arith)
 
 -- `qsfp_setup` is one change

@@ -6,47 +6,50 @@ use lib.Dec.{T, leb}
 use borrow.Author.Tests.{leb-true, le-leb, lt-ltb}
 use native.Mathlib.Numerals.{sub-one}
 use native.Mathlib.Omega.{arith}
+use Rattle.hardware.specs.Marks.{FULL, attemptBegins, countOf, marked, meterOn, more, unmarked}
 use Rattle.hardware.specs.declared.Access.{Access}
 use Rattle.hardware.specs.declared.Access.the-variants.{Read}
 use Rattle.hardware.specs.declared.Answer.{Answer}
+use Rattle.hardware.specs.declared.Marks.{Marks}
+use Rattle.hardware.specs.declared.Meter.{Meter}
 use Rattle.hardware.specs.declared.Port.{Port}
 use Rattle.hardware.specs.Prog.{Prog, ret, ask, note, Attempt, R, Err, orErr, erase, followed, going, tally, tally-erase, bind-assoc, bind-ret, pick, _>>=_, _>>?_}
 use Rattle.hardware.specs.Registers.{raw}
 use Rattle.hostif.specs.Acquire.{acquire}
 use Rattle.bus.specs.declared.Layout.{Layout}
 use Rattle.bus.specs.declared.Taken.{Taken}
-use Rattle.bus.specs.Layout.{layoutOf}
+use Rattle.bus.specs.Layout.{layoutOf, x550em}
 use Rattle.bus.specs.Bus.{none}
 use Rattle.bus.proofs.Laws.{picked, picked-first, picked-second}
 use Rattle.script.specs.Script.{commands, starts, onCommand}
 use Rattle.script.specs.Scripts.{readByteScript, writeByteScript, readCombinedScript, writeCombinedScript}
 use Rattle.script.proofs.Scripts.{read-byte-commands, write-byte-commands, read-combined-commands, write-combined-commands}
-use Rattle.transfer.specs.declared.attempt.Sequence.the-variants.{Pulses}
 use Rattle.transfer.specs.declared.attempt.Attempt.the-variants.{New}
-use Rattle.transfer.specs.Transfer.{silent, tells, did, isRead, tookBy, handed, transfer}
+use Rattle.transfer.specs.Transfer.{keeping, tells, did, isRead, tookBy, handed, transfer}
 use Rattle.transfer.specs.Attempt.{begun, attempting, attempt, accessAttempt, restAttempt}
+use Rattle.i2c.specs.declared.How.{How}
 use Rattle.i2c.specs.declared.once.Request.{Request}
 use Rattle.i2c.specs.declared.once.Request.the-variants.{ReadByte, WriteByte, ReadCombined, WriteCombined}
-use Rattle.i2c.specs.declared.tries.Stage.the-variants.{Trying}
-use Rattle.i2c.specs.declared.tries.TriesNext.the-variants.{Going}
-use Rattle.i2c.specs.I2c.{mask, deviceOf, scriptOf, isWrite, body, failedI2c, once, whenLock, readTries, writeTries, givenUp, writes, moves, qsfp, askBus, granted, givenBus, onGrant, withBus, handshaken}
+use Rattle.i2c.specs.declared.retry.Stage.the-variants.{Trying}
+use Rattle.i2c.specs.declared.retry.RetryNext.the-variants.{Going}
+use Rattle.i2c.specs.I2c.{mask, attempts, deviceOf, scriptOf, isWrite, body, failedI2c, once, whenLock, readTries, writeTries, givenUp, writes, retried, qsfp, askBus, granted, givenBus, onGrant, withBus, handshaken}
 use Rattle.hardware.specs.declared.Error.the-variants.{I2c}
 use Rattle.hardware.specs.declared.Update.the-variants.{Reading}
 use Rattle.hardware.specs.Change.{change, accessUpdate, restUpdate}
-use Rattle.i2c.specs.declared.moves.Moves.{Moves}
-use Rattle.i2c.specs.declared.moves.Moves.the-variants.{Asking, Granting}
-use Rattle.i2c.specs.declared.moves.MovesNext.the-variants.{Going as MovesGoing}
-use Rattle.i2c.specs.Moves.{shakes, closing, entered, onGranted, awaitingGrant, lookedAt, accessMoves, restMoves, movesNext, dueMoves, allows, validMoves, validRequest, MOST, countOf}
+use Rattle.i2c.specs.declared.handshake.Handshake.{Handshake}
+use Rattle.i2c.specs.declared.handshake.Handshake.the-variants.{Asking, Granting}
+use Rattle.i2c.specs.declared.handshake.HandshakeNext.the-variants.{Going as HandshakeGoing}
+use Rattle.i2c.specs.Handshake.{hasHandshake, closing, entered, onGranted, awaitingGrant, lookedAt, accessHandshake, restHandshake, handshakeNext, dueHandshake, allows, validHandshake, validRequest}
 use Rattle.i2c.specs.Calls.{limitOf, triesOf}
-use Rattle.i2c.specs.Tries.{wanted, beginning, more, backThen, afterRelease, afterRead, afterWrite, afterTry, tryNow, lockedTry, triesLeft, accessTries, accessStage, restTries, restStage, triesNext}
+use Rattle.i2c.specs.Retry.{wanted, backThen, afterRelease, afterRead, afterWrite, afterTry, tryNow, lockedTry, triesLeft, accessRetry, accessStage, restRetry, restStage, retryNext}
 
 -- a call's script does what the Rust's closure does
-pub body-is : (l : Layout) (r : Request) → transfer silent l (deviceOf r) (commands (scriptOf r)) none ≡ body l r
+pub body-is : (l : Layout) (r : Request) → transfer keeping l (deviceOf r) (commands (scriptOf r)) none ≡ body l r
 unfolding transfer did handed tells tookBy isRead pick body scriptOf deviceOf
-body-is l (ReadByte d o) = ap (λ cs. transfer silent l d cs none) (read-byte-commands d o)
-body-is l (WriteByte d o v) = ap (λ cs. transfer silent l d cs none) (write-byte-commands d o v)
-body-is l (ReadCombined d reg) = ap (λ cs. transfer silent l d cs none) (read-combined-commands d reg)
-body-is l (WriteCombined d reg v) = ap (λ cs. transfer silent l d cs none) (write-combined-commands d reg v)
+body-is l (ReadByte d o) = ap (λ cs. transfer keeping l d cs none) (read-byte-commands d o)
+body-is l (WriteByte d o v) = ap (λ cs. transfer keeping l d cs none) (write-byte-commands d o v)
+body-is l (ReadCombined d reg) = ap (λ cs. transfer keeping l d cs none) (read-combined-commands d reg)
+body-is l (WriteCombined d reg v) = ap (λ cs. transfer keeping l d cs none) (write-combined-commands d reg v)
 
 -- a script begins with a command
 pub on-start : (r : Request) → onCommand (scriptOf r) 0 ≡ true
@@ -57,32 +60,18 @@ on-start (ReadCombined d reg) = refl
 on-start (WriteCombined d reg v) = refl
 
 -- an attempt begins, and is noted
-pub begins : (port : Port) (r : Request) (lock : Bool) (left : ℕ)
-    → triesNext port r lock (Going true (record { left = left; stage = Trying New })) ≡ erase (tryNow port r lock left)
-unfolding triesNext beginning accessTries accessStage accessAttempt restTries restStage restAttempt tryNow once attempt attempting erase pick _>>=_
-begins port r lock left =
-    ap (λ f. note Attempt (ask (Read (layoutOf (port .family) .reg)) (λ a. erase (orErr (begun Pulses (layoutOf (port .family)) (deviceOf r) f) (raw a) >>= afterTry port r lock left))))
+pub begins : (port : Port) (r : Request) (how : How) (left : ℕ)
+    → retryNext port r how (Going attemptBegins (record { left = left; stage = Trying New })) ≡ erase (tryNow port r how left)
+unfolding retryNext marked accessRetry accessStage accessAttempt restRetry restStage restAttempt tryNow once attempt attempting erase _>>=_
+begins port r how left =
+    ap (λ f. note Attempt (ask (Read (layoutOf (port .family) .reg)) (λ a. erase (orErr (begun (how .sequence) (layoutOf (port .family)) (deviceOf r) f) (raw a) >>= afterTry port r how left))))
     (body-is (layoutOf (port .family)) r)
 
--- a smaller machine's next access is the larger's, with the attempt that begins
-pub going-on : {A B : Type 0} (b : Bool) (x : Access) (p : Answer → Prog A) (k : A → Prog B)
-    → beginning b (ask x (λ a. erase (p a >>= k))) ≡ followed (beginning b (ask x (λ a. erase (p a)))) k
-unfolding beginning pick followed _>>=_
-going-on true x p k = ap (note Attempt) (going x p k)
-going-on false x p k = going x p k
-
--- the count that goes on from it
-pub asked-on : {A : Type 0} (b : Bool) (made : ℕ) (x : Access) (p : Answer → Prog A) → made < MOST
-    → ask x (λ a. tally (countOf b made) (p a)) ≡ tally made (beginning b (ask x (λ a. erase (p a))))
-unfolding countOf beginning more pick tally
-asked-on true made x p h = rw (lt-ltb made MOST h) (ap (ask x) (fun-ext (λ a. sym (tally-erase (suc made) (p a)))))
-asked-on false made x p h = rw (lt-ltb made MOST h) (ap (ask x) (fun-ext (λ a. sym (tally-erase made (p a)))))
-
 -- the transfers made and those to come, with the one that begins now among the first or the second
-count-on : (b : Bool) (made due limit : ℕ) → made < MOST → made + more b due ≤ limit → countOf b made + due ≤ limit
+count-on : (b : Bool) (made due limit : ℕ) → made < FULL → made + more b due ≤ limit → countOf b made + due ≤ limit
 unfolding countOf more pick
-count-on true made due limit h g = rw (lt-ltb made MOST h) (omega (arith, g))
-count-on false made due limit h g = rw (lt-ltb made MOST h) (omega (arith, g))
+count-on true made due limit h g = rw (lt-ltb made FULL h) (omega (arith, g))
+count-on false made due limit h g = rw (lt-ltb made FULL h) (omega (arith, g))
 
 pub when-yes : (lock : Bool) (p : Prog (R (Unit {0}))) (k : Prog (R Taken)) → lock ≡ true → (p >>? λ _. k) ≡ whenLock lock p k
 unfolding whenLock pick
@@ -92,89 +81,89 @@ pub when-no : (lock : Bool) (p : Prog (R (Unit {0}))) (k : Prog (R Taken)) → l
 unfolding whenLock pick
 when-no lock p k h = rw (h)
 
-after-reads : (port : Port) (r : Request) (lock : Bool) (left : ℕ) → isWrite r ≡ false → afterTry port r lock left ≡ afterRead port r lock left
+after-reads : (port : Port) (r : Request) (how : How) (left : ℕ) → isWrite r ≡ false → afterTry port r how left ≡ afterRead port r how left
 unfolding afterTry pick
-after-reads port r lock left h = fun-ext (λ result. rw (h))
+after-reads port r how left h = fun-ext (λ result. rw (h))
 
-after-writes : (port : Port) (r : Request) (lock : Bool) (left : ℕ) → isWrite r ≡ true → afterTry port r lock left ≡ afterWrite port r lock left
+after-writes : (port : Port) (r : Request) (how : How) (left : ℕ) → isWrite r ≡ true → afterTry port r how left ≡ afterWrite port r how left
 unfolding afterTry pick
-after-writes port r lock left h = fun-ext (λ result. rw (h))
+after-writes port r how left h = fun-ext (λ result. rw (h))
 
 -- with a try left, it is made
-pub again-more : (port : Port) (r : Request) (lock : Bool) (left : ℕ) → (left ≡ 0 → ⊥) → lockedTry port r lock (left - 1) ≡ triesLeft port r lock left
+pub again-more : (port : Port) (r : Request) (how : How) (left : ℕ) → (left ≡ 0 → ⊥) → lockedTry port r how (left - 1) ≡ triesLeft port r how left
 unfolding triesLeft
-again-more port r lock zero h = absurd (h refl)
-again-more port r lock (suc n) h = ap (λ m. lockedTry port r lock m) (sub-one (suc n))
+again-more port r how zero h = absurd (h refl)
+again-more port r how (suc n) h = ap (λ m. lockedTry port r how m) (sub-one (suc n))
 
 -- a read's tries are the Rust's
-pub tries-reads : (port : Port) (r : Request) (lock : Bool) (left : ℕ) → isWrite r ≡ false → triesLeft port r lock left ≡ readTries port r lock left
+pub tries-reads : (port : Port) (r : Request) (how : How) (left : ℕ) → isWrite r ≡ false → triesLeft port r how left ≡ readTries port r how left
 unfolding triesLeft lockedTry tryNow readTries afterRead backThen
-tries-reads port r lock zero w = refl
-tries-reads port r lock (suc n) w = ap (λ k. whenLock lock (acquire port (mask port)) (once port r >>= k)) (after-reads port r lock n w)
+tries-reads port r how zero w = refl
+tries-reads port r how (suc n) w = ap (λ k. whenLock (how .lock) (acquire port (mask port)) (once port r how >>= k)) (after-reads port r how n w)
 
 -- with a write left, it is made under the lock that is held
-pub write-more : (port : Port) (r : Request) (lock : Bool) (left : ℕ) (result : R Taken) → isWrite r ≡ true
-    → tryNow port r lock left ≡ writeTries port r (suc left) result >>= givenUp port lock
+pub write-more : (port : Port) (r : Request) (how : How) (left : ℕ) (result : R Taken) → isWrite r ≡ true
+    → tryNow port r how left ≡ writeTries port r how (suc left) result >>= givenUp port (how .lock)
 unfolding tryNow writeTries afterWrite
-write-more port r lock left result w =
-    ap (λ k. once port r >>= k) (after-writes port r lock left w) ∙ sym (bind-assoc (once port r) _ (givenUp port lock))
+write-more port r how left result w =
+    ap (λ k. once port r how >>= k) (after-writes port r how left w) ∙ sym (bind-assoc (once port r how) _ (givenUp port (how .lock)))
 
-failed-on : (port : Port) (r : Request) (lock : Bool) (left : ℕ) (result : R Taken) → failedI2c result ≡ true
-    → (writeTries port r left result >>= givenUp port lock) ≡ afterWrite port r lock left result
+failed-on : (port : Port) (r : Request) (how : How) (left : ℕ) (result : R Taken) → failedI2c result ≡ true
+    → (writeTries port r how left result >>= givenUp port (how .lock)) ≡ afterWrite port r how left result
 unfolding afterWrite pick
-failed-on port r lock left result f = rw (f)
+failed-on port r how left result f = rw (f)
 
-pub write-again : (port : Port) (r : Request) (lock : Bool) (left : ℕ) (result : R Taken) → isWrite r ≡ true → failedI2c result ≡ true → (left ≡ 0 → ⊥)
-    → tryNow port r lock (left - 1) ≡ afterTry port r lock left result
-write-again port r lock zero result w f h = absurd (h refl)
-write-again port r lock (suc n) result w f h =
-    ap (λ m. tryNow port r lock m) (sub-one (suc n)) ∙ write-more port r lock n result w
-    ∙ failed-on port r lock (suc n) result f ∙ sym (ap (λ k. k result) (after-writes port r lock (suc n) w))
+pub write-again : (port : Port) (r : Request) (how : How) (left : ℕ) (result : R Taken) → isWrite r ≡ true → failedI2c result ≡ true → (left ≡ 0 → ⊥)
+    → tryNow port r how (left - 1) ≡ afterTry port r how left result
+write-again port r how zero result w f h = absurd (h refl)
+write-again port r how (suc n) result w f h =
+    ap (λ m. tryNow port r how m) (sub-one (suc n)) ∙ write-more port r how n result w
+    ∙ failed-on port r how (suc n) result f ∙ sym (ap (λ k. k result) (after-writes port r how (suc n) w))
 
 -- the last write: what is given back ends the call
-pub write-done : (port : Port) (r : Request) (lock : Bool) (left : ℕ) (result : R Taken) → isWrite r ≡ true → failedI2c result ≡ false
-    → backThen port lock (afterRelease port r lock left result) ≡ afterTry port r lock left result
+pub write-done : (port : Port) (r : Request) (how : How) (left : ℕ) (result : R Taken) → isWrite r ≡ true → failedI2c result ≡ false
+    → backThen port (how .lock) (afterRelease port r how left result) ≡ afterTry port r how left result
 unfolding afterRelease afterTry afterWrite givenUp backThen pick _>>=_
-write-done port r lock left result w f = rw (w, f)
+write-done port r how left result w f = rw (w, f)
 
-pub write-last : (port : Port) (r : Request) (lock : Bool) (left : ℕ) (result : R Taken) → isWrite r ≡ true → failedI2c result ≡ true → left ≡ 0
-    → backThen port lock (afterRelease port r lock left result) ≡ afterTry port r lock left result
+pub write-last : (port : Port) (r : Request) (how : How) (left : ℕ) (result : R Taken) → isWrite r ≡ true → failedI2c result ≡ true → left ≡ 0
+    → backThen port (how .lock) (afterRelease port r how left result) ≡ afterTry port r how left result
 unfolding afterRelease afterTry afterWrite givenUp backThen writeTries pick _>>=_
-write-last port r lock left result w f z = rw (w, f, z)
+write-last port r how left result w f z = rw (w, f, z)
 
-pub read-done : (port : Port) (r : Request) (lock : Bool) (left : ℕ) (result : R Taken) → isWrite r ≡ false
-    → backThen port lock (afterRelease port r lock left result) ≡ afterTry port r lock left result
+pub read-done : (port : Port) (r : Request) (how : How) (left : ℕ) (result : R Taken) → isWrite r ≡ false
+    → backThen port (how .lock) (afterRelease port r how left result) ≡ afterTry port r how left result
 unfolding afterRelease afterTry afterRead pick
-read-done port r lock left result w = rw (w)
+read-done port r how left result w = rw (w)
 
-pub write-open : (port : Port) (r : Request) (lock : Bool) (tries : ℕ) → isWrite r ≡ true → lockedTry port r lock 1 ≡ moves port r lock tries
-unfolding lockedTry moves writes pick
-write-open port r lock tries w = rw (w) (ap (λ k. whenLock lock (acquire port (mask port)) k) (write-more port r lock 1 _ w))
+pub write-open : (port : Port) (r : Request) (how : How) (tries : ℕ) → isWrite r ≡ true → lockedTry port r how 1 ≡ retried port r how tries
+unfolding lockedTry retried writes pick
+write-open port r how tries w = rw (w) (ap (λ k. whenLock (how .lock) (acquire port (mask port)) k) (write-more port r how 1 _ w))
 
-pub read-open : (port : Port) (r : Request) (lock : Bool) (tries : ℕ) → isWrite r ≡ false → readTries port r lock tries ≡ moves port r lock tries
-unfolding moves pick
-read-open port r lock tries w = rw (w)
+pub read-open : (port : Port) (r : Request) (how : How) (tries : ℕ) → isWrite r ≡ false → readTries port r how tries ≡ retried port r how tries
+unfolding retried pick
+read-open port r how tries w = rw (w)
 
 -- with a look left, ESDP is read
-pub granted-more : (port : Port) (r : Request) (lock : Bool) (tries left : ℕ) → (left ≡ 0 → ⊥)
-    → movesNext port r lock (MovesGoing false (Granting tries (left - 1))) ≡ erase (awaitingGrant port r lock tries left)
-unfolding movesNext beginning pick accessMoves restMoves lookedAt awaitingGrant granted erase _>>=_
-granted-more port r lock tries zero h = absurd (h refl)
-granted-more port r lock tries (suc n) h =
-    ap (λ m. movesNext port r lock (MovesGoing false (Granting tries m))) (sub-one (suc n))
+pub granted-more : (port : Port) (r : Request) (how : How) (tries left : ℕ) → (left ≡ 0 → ⊥)
+    → handshakeNext port r how (HandshakeGoing unmarked (Granting tries (left - 1))) ≡ erase (awaitingGrant port r how tries left)
+unfolding handshakeNext marked accessHandshake restHandshake lookedAt awaitingGrant granted erase _>>=_
+granted-more port r how tries zero h = absurd (h refl)
+granted-more port r how tries (suc n) h =
+    ap (λ m. handshakeNext port r how (HandshakeGoing unmarked (Granting tries m))) (sub-one (suc n))
 
-closing-gives : (port : Port) (r : Request) → shakes port r ≡ true → closing port r ≡ givenBus
+closing-gives : (port : Port) (r : Request) → hasHandshake port r ≡ true → closing port r ≡ givenBus
 unfolding closing pick
 closing-gives port r h = fun-ext (λ result. rw (h))
 
-closing-ends : (port : Port) (r : Request) → shakes port r ≡ false → closing port r ≡ ret
+closing-ends : (port : Port) (r : Request) → hasHandshake port r ≡ false → closing port r ≡ ret
 unfolding closing pick
 closing-ends port r h = fun-ext (λ result. rw (h))
 
-asks : (port : Port) (r : Request) (lock : Bool) (tries : ℕ)
-    → movesNext port r lock (MovesGoing false (Asking tries Reading)) ≡ erase (change askBus >>? λ _. awaitingGrant port r lock tries 200)
-unfolding movesNext beginning pick accessMoves restMoves accessUpdate restUpdate change erase _>>=_
-asks port r lock tries = refl
+asks : (port : Port) (r : Request) (how : How) (tries : ℕ)
+    → handshakeNext port r how (HandshakeGoing unmarked (Asking tries Reading)) ≡ erase (change askBus >>? λ _. awaitingGrant port r how tries 200)
+unfolding handshakeNext marked accessHandshake restHandshake accessUpdate restUpdate change erase _>>=_
+asks port r how tries = refl
 
 with-bus : (port : Port) (device : ℕ) (f : Prog (R Taken)) → qsfp port ≡ true → (change askBus >>? λ _. granted 200 >>? onGrant device f) ≡ withBus port device f
 unfolding withBus pick
@@ -185,35 +174,35 @@ unfolding withBus pick
 no-bus port device f h = rw (h)
 
 -- the handshake begins
-pub shake-open : (port : Port) (r : Request) (lock : Bool) (tries : ℕ) → shakes port r ≡ true
-    → movesNext port r lock (MovesGoing false (Asking tries Reading)) ≡ erase (handshaken port r (moves port r lock tries))
-unfolding handshaken shakes awaitingGrant onGranted onGrant deviceOf
-shake-open port (ReadByte d o) lock tries h =
-    asks port (ReadByte d o) lock tries
-    ∙ ap (λ k. erase (change askBus >>? λ _. granted 200 >>? λ came. pick came (moves port (ReadByte d o) lock tries) (ret (Err (I2c d))) >>= k)) (closing-gives port (ReadByte d o) h)
-    ∙ ap erase (with-bus port d (moves port (ReadByte d o) lock tries) h)
-shake-open port (WriteByte d o v) lock tries h =
-    asks port (WriteByte d o v) lock tries
-    ∙ ap (λ k. erase (change askBus >>? λ _. granted 200 >>? λ came. pick came (moves port (WriteByte d o v) lock tries) (ret (Err (I2c d))) >>= k)) (closing-gives port (WriteByte d o v) h)
-    ∙ ap erase (with-bus port d (moves port (WriteByte d o v) lock tries) h)
-shake-open port (ReadCombined d reg) lock tries h = absurd (subst T (sym h) tt)
-shake-open port (WriteCombined d reg v) lock tries h = absurd (subst T (sym h) tt)
+pub shake-open : (port : Port) (r : Request) (how : How) (tries : ℕ) → hasHandshake port r ≡ true
+    → handshakeNext port r how (HandshakeGoing unmarked (Asking tries Reading)) ≡ erase (handshaken port r (retried port r how tries))
+unfolding handshaken hasHandshake awaitingGrant onGranted onGrant deviceOf
+shake-open port (ReadByte d o) how tries h =
+    asks port (ReadByte d o) how tries
+    ∙ ap (λ k. erase (change askBus >>? λ _. granted 200 >>? λ came. pick came (retried port (ReadByte d o) how tries) (ret (Err (I2c d))) >>= k)) (closing-gives port (ReadByte d o) h)
+    ∙ ap erase (with-bus port d (retried port (ReadByte d o) how tries) h)
+shake-open port (WriteByte d o v) how tries h =
+    asks port (WriteByte d o v) how tries
+    ∙ ap (λ k. erase (change askBus >>? λ _. granted 200 >>? λ came. pick came (retried port (WriteByte d o v) how tries) (ret (Err (I2c d))) >>= k)) (closing-gives port (WriteByte d o v) h)
+    ∙ ap erase (with-bus port d (retried port (WriteByte d o v) how tries) h)
+shake-open port (ReadCombined d reg) how tries h = absurd (subst T (sym h) tt)
+shake-open port (WriteCombined d reg v) how tries h = absurd (subst T (sym h) tt)
 
-entered-by : (port : Port) (r : Request) (lock : Bool) (tries : ℕ) → closing port r ≡ ret → entered port r lock tries ≡ moves port r lock tries
+entered-by : (port : Port) (r : Request) (how : How) (tries : ℕ) → closing port r ≡ ret → entered port r how tries ≡ retried port r how tries
 unfolding entered
-entered-by port r lock tries h = ap (λ k. moves port r lock tries >>= k) h ∙ bind-ret (moves port r lock tries)
+entered-by port r how tries h = ap (λ k. retried port r how tries >>= k) h ∙ bind-ret (retried port r how tries)
 
-unshaken : (port : Port) (r : Request) (f : Prog (R Taken)) → shakes port r ≡ false → f ≡ handshaken port r f
-unfolding handshaken shakes
+unshaken : (port : Port) (r : Request) (f : Prog (R Taken)) → hasHandshake port r ≡ false → f ≡ handshaken port r f
+unfolding handshaken hasHandshake
 unshaken port (ReadByte d o) f h = no-bus port d f h
 unshaken port (WriteByte d o v) f h = no-bus port d f h
 unshaken port (ReadCombined d reg) f h = refl
 unshaken port (WriteCombined d reg v) f h = refl
 
 -- no handshake
-pub no-shake : (port : Port) (r : Request) (lock : Bool) (tries : ℕ) → shakes port r ≡ false
-    → entered port r lock tries ≡ handshaken port r (moves port r lock tries)
-no-shake port r lock tries h = entered-by port r lock tries (closing-ends port r h) ∙ unshaken port r (moves port r lock tries) h
+pub no-shake : (port : Port) (r : Request) (how : How) (tries : ℕ) → hasHandshake port r ≡ false
+    → entered port r how tries ≡ handshaken port r (retried port r how tries)
+no-shake port r how tries h = entered-by port r how tries (closing-ends port r h) ∙ unshaken port r (retried port r how tries) h
 
 pub upto : {a b c : ℕ} → a ≤ b → b ≤ c → a ≤ c
 upto h g = omega (arith, h, g)
@@ -244,7 +233,7 @@ pub limit-allows : (r : Request) (attempts : ℕ) → attempts ≤ 255 → allow
 unfolding allows
 limit-allows r attempts h = picked _ _ (le-leb _ _ (limit-tries r attempts h)) (le-leb _ _ (limit-fits r attempts h))
 
-pub limit-most : (r : Request) → limitOf r < MOST
+pub limit-most : (r : Request) → limitOf r < FULL
 unfolding limitOf
 limit-most (ReadByte d o) = omega arith
 limit-most (WriteByte d o v) = omega arith
@@ -256,21 +245,38 @@ pub limit-room : (r : Request) (tries attempts due : ℕ) → tries ≡ triesOf 
 limit-room r tries attempts due e h d = omega (arith, subst (λ n. due ≤ wanted r n) e d, limit-fits r attempts h)
 
 -- what a request within its limits says
-pub record Fits (port : Port) (r : Request) (tries cap made : ℕ) (s : Moves) : Type 0 where
-  pub counters : validMoves tries port r s ≡ true
-  pub all : made + dueMoves r s ≤ cap
+pub record Fits (port : Port) (r : Request) (tries cap : ℕ) (m : Meter) (s : Handshake) : Type 0 where
+  pub counters : validHandshake tries port r s ≡ true
+  pub all : m .transfers + dueHandshake r s ≤ cap
 
-pub valid-fits : (port : Port) (r : Request) (tries cap made : ℕ) (s : Moves) → validRequest port r tries cap made s ≡ true → Fits port r tries cap made s
+pub valid-fits : (port : Port) (r : Request) (tries cap : ℕ) (m : Meter) (s : Handshake) → validRequest port r tries cap m s ≡ true → Fits port r tries cap m s
 unfolding validRequest
-valid-fits port r tries cap made s h =
-    record { counters = picked-first (validMoves tries port r s) _ h; all = leb-true _ _ (picked-second (validMoves tries port r s) _ h) }
+valid-fits port r tries cap m s h =
+    record { counters = picked-first (validHandshake tries port r s) _ h; all = leb-true _ _ (picked-second (validHandshake tries port r s) _ h) }
 
 -- a count within its limit is below the top of its type
-pub fits-below : (port : Port) (r : Request) (tries cap made : ℕ) (s : Moves) → cap < MOST → validRequest port r tries cap made s ≡ true → made < MOST
-fits-below port r tries cap made s h v = omega (arith, h, valid-fits port r tries cap made s v .all)
+pub fits-below : (port : Port) (r : Request) (tries cap : ℕ) (m : Meter) (s : Handshake) → cap < FULL → validRequest port r tries cap m s ≡ true → m .transfers < FULL
+fits-below port r tries cap m s h v = omega (arith, h, valid-fits port r tries cap m s v .all)
 
--- a state within its limits, with the attempt that begins
-pub fits-valid : (b : Bool) (port : Port) (r : Request) (tries cap made : ℕ) (s : Moves) → cap < MOST → validMoves tries port r s ≡ true
-    → made + more b (dueMoves r s) ≤ cap → validRequest port r tries cap (countOf b made) s ≡ true
-unfolding validRequest
-fits-valid b port r tries cap made s h v all = picked _ _ v (le-leb _ _ (count-on b made _ _ (omega (arith, h, all)) all))
+-- a state within its limits, with what its marks tell
+pub fits-valid : (k : Marks) (port : Port) (r : Request) (tries cap : ℕ) (m : Meter) (s : Handshake) → cap < FULL → validHandshake tries port r s ≡ true
+    → m .transfers + more (k .attempt) (dueHandshake r s) ≤ cap → validRequest port r tries cap (meterOn k m) s ≡ true
+unfolding validRequest meterOn
+fits-valid k port r tries cap m s h v all = picked _ _ v (le-leb _ _ (count-on (k .attempt) (m .transfers) _ _ (omega (arith, h, all)) all))
+
+-- a read has between one and eleven attempts
+pub attempts-few : (port : Port) → attempts port ≤ 11
+unfolding attempts pick
+attempts-few port = by (x550em (port .family))
+  where
+    by : (b : Bool) → pick b 4 11 ≤ 11
+    by true = omega arith
+    by false = omega arith
+
+pub attempts-some : (port : Port) → attempts port ≡ suc (attempts port - 1)
+unfolding attempts pick
+attempts-some port = by (x550em (port .family))
+  where
+    by : (b : Bool) → pick b 4 11 ≡ suc (pick b 4 11 - 1)
+    by true = refl
+    by false = refl

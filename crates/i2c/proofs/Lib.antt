@@ -6,3 +6,5 @@ pub mod Pairs
 pub mod Paired
 pub mod Counts
 pub mod Masks
+pub mod Asks
+pub mod Request

@@ -18,13 +18,13 @@ use Rattle.bus.specs.Layout.{layoutOf}
 use Rattle.bus.specs.Bus.{none}
 use Rattle.bus.proofs.Noteless.{NotelessBus}
 use Rattle.script.specs.Script.{commands}
-use Rattle.transfer.specs.declared.attempt.Sequence.the-variants.{Pulses}
-use Rattle.transfer.specs.Transfer.{silent}
+use Rattle.transfer.specs.Transfer.{keeping}
 use Rattle.transfer.specs.Attempt.{attempt}
 use Rattle.transfer.proofs.Noteless.{transfer-noteless, attempting-noteless}
+use Rattle.i2c.specs.declared.How.{How}
 use Rattle.i2c.specs.declared.once.Request.{Request}
 use Rattle.i2c.specs.declared.once.Request.the-variants.{ReadByte, WriteByte, ReadCombined, WriteCombined}
-use Rattle.i2c.specs.I2c.{mask, deviceOf, scriptOf, body, givesValue, once, whenLock, readJudged, readTries, writeTries, givenUp, writes, moves, granting, granted, givenBus, onGrant, withBus, handshaken, transferred}
+use Rattle.i2c.specs.I2c.{mask, deviceOf, scriptOf, body, givesValue, once, whenLock, readJudged, readTries, writeTries, givenUp, writes, retried, granting, granted, givenBus, onGrant, withBus, handshaken, transferred}
 use Rattle.i2c.specs.Paired.{free, held, holdAfter, notesIn, Paired}
 use Rattle.i2c.proofs.Laws.{body-is}
 use Rattle.i2c.proofs.Quiet.{Quiet, quiet-noteless, quiet-pick, quiet-ret, quiet-lapsed, quiet-try, read-quiet, delay-quiet, change-quiet, acquire-bits-quiet, release-bits-quiet, request-quiet, respond-quiet}
@@ -128,24 +128,24 @@ release-pairs port mask =
 
 -- so the notes tell what the two calls did: after an `acquire` that has ended something is held just if it succeeded, and
 -- after a `release` that has ended nothing is
-pub acquire-noted : (port : Port) (mask : ℕ) (l : List Answer) (v : R (Unit {0})) → (run (acquire port mask) l) .stand ≡ ended v
+pub acquire-noted : (port : Port) (mask : ℕ) (l : List Answer) (v : R (Unit {0})) → (run (acquire port mask) l) .status ≡ ended v
     → holdAfter free (notesIn (acquire port mask) l) ≡ holdOf (succeeded v)
 acquire-noted port mask l v e = pairs-holds false _ succeeded l (acquire-pairs port mask) .1 v e
 
-pub release-noted : (port : Port) (mask : ℕ) (l : List Answer) (v : R (Unit {0})) → (run (release port mask) l) .stand ≡ ended v
+pub release-noted : (port : Port) (mask : ℕ) (l : List Answer) (v : R (Unit {0})) → (run (release port mask) l) .status ≡ ended v
     → holdAfter held (notesIn (release port mask) l) ≡ free
 release-noted port mask l v e = pairs-holds true _ (λ _. false) l (release-pairs port mask) .1 v e
 
 -- an attempt leaves the lock as it was
 
 pub body-noteless : (l : Layout) (r : Request) → NotelessBus (body l r)
-body-noteless l r = subst NotelessBus (body-is l r) (transfer-noteless silent l (deviceOf r) (commands (scriptOf r)) none)
+body-noteless l r = subst NotelessBus (body-is l r) (transfer-noteless keeping l (deviceOf r) (commands (scriptOf r)) none)
 
-pub once-pairs : (h : Bool) (port : Port) (r : Request) → Pairs h (once port r) (λ _. h)
+pub once-pairs : (h : Bool) (port : Port) (r : Request) (how : How) → Pairs h (once port r how) (λ _. h)
 unfolding once attempt
-once-pairs h port r =
+once-pairs h port r how =
     pairs-attempt h _ _
-    (pairs-quiet h _ (quiet-noteless _ (attempting-noteless Pulses (layoutOf (port .family)) (deviceOf r) _ (body-noteless (layoutOf (port .family)) r))))
+    (pairs-quiet h _ (quiet-noteless _ (attempting-noteless (how .sequence) (layoutOf (port .family)) (deviceOf r) _ (body-noteless (layoutOf (port .family)) r))))
 
 -- the lock, where it is wanted, is held in k and free at the end
 
@@ -172,29 +172,29 @@ unfolding readJudged
 judged-pairs r lock again e result =
     pairs-pick false _ _ _ _ (pairs-pick false _ _ _ _ (pairs-try false _ _ (pairs-quiet false _ (delay-quiet _)) (λ _. e)) e) (pairs-ret false _)
 
-pub read-tries-pairs : (port : Port) (r : Request) (lock : Bool) (n : ℕ) → Pairs false (readTries port r lock n) (λ _. false)
+pub read-tries-pairs : (port : Port) (r : Request) (how : How) (n : ℕ) → Pairs false (readTries port r how n) (λ _. false)
 unfolding readTries
-read-tries-pairs port r lock zero = pairs-ret false _
-read-tries-pairs port r lock (suc n) =
-    taken-pairs port lock _
-    (pairs-then lock _ _ _ (once-pairs lock port r)
-    (λ result. given-pairs port lock _ (judged-pairs r lock _ (read-tries-pairs port r lock n) result)))
+read-tries-pairs port r how zero = pairs-ret false _
+read-tries-pairs port r how (suc n) =
+    taken-pairs port (how .lock) _
+    (pairs-then (how .lock) _ _ _ (once-pairs (how .lock) port r how)
+    (λ result. given-pairs port (how .lock) _ (judged-pairs r (how .lock) _ (read-tries-pairs port r how n) result)))
 
-write-tries-pairs : (h : Bool) (port : Port) (r : Request) (n : ℕ) (result : R Taken) → Pairs h (writeTries port r n result) (λ _. h)
+write-tries-pairs : (h : Bool) (port : Port) (r : Request) (how : How) (n : ℕ) (result : R Taken) → Pairs h (writeTries port r how n result) (λ _. h)
 unfolding writeTries
-write-tries-pairs h port r zero result = pairs-ret h _
-write-tries-pairs h port r (suc n) before =
-    pairs-then h _ _ _ (once-pairs h port r) (λ result. pairs-pick h _ _ _ _ (write-tries-pairs h port r n result) (pairs-ret h _))
+write-tries-pairs h port r how zero result = pairs-ret h _
+write-tries-pairs h port r how (suc n) before =
+    pairs-then h _ _ _ (once-pairs h port r how) (λ result. pairs-pick h _ _ _ _ (write-tries-pairs h port r how n result) (pairs-ret h _))
 
-pub writes-pairs : (port : Port) (r : Request) (lock : Bool) → Pairs false (writes port r lock) (λ _. false)
+pub writes-pairs : (port : Port) (r : Request) (how : How) → Pairs false (writes port r how) (λ _. false)
 unfolding writes givenUp
-writes-pairs port r lock =
-    taken-pairs port lock _
-    (pairs-then lock _ _ _ (write-tries-pairs lock port r 2 _) (λ result. given-pairs port lock _ (pairs-ret false _)))
+writes-pairs port r how =
+    taken-pairs port (how .lock) _
+    (pairs-then (how .lock) _ _ _ (write-tries-pairs (how .lock) port r how 2 _) (λ result. given-pairs port (how .lock) _ (pairs-ret false _)))
 
-pub moves-pairs : (port : Port) (r : Request) (lock : Bool) (n : ℕ) → Pairs false (moves port r lock n) (λ _. false)
-unfolding moves
-moves-pairs port r lock n = pairs-pick false _ _ _ _ (writes-pairs port r lock) (read-tries-pairs port r lock n)
+pub retried-pairs : (port : Port) (r : Request) (how : How) (n : ℕ) → Pairs false (retried port r how n) (λ _. false)
+unfolding retried
+retried-pairs port r how n = pairs-pick false _ _ _ _ (writes-pairs port r how) (read-tries-pairs port r how n)
 
 pub granted-quiet : (n : ℕ) → Quiet (granted n)
 unfolding granted granting
@@ -219,11 +219,11 @@ handshaken-pairs port (WriteByte d o v) f e = with-bus-pairs port d f e
 handshaken-pairs port (ReadCombined d reg) f e = e
 handshaken-pairs port (WriteCombined d reg v) f e = e
 
-pub transferred-pairs : (port : Port) (r : Request) (lock : Bool) (n : ℕ) → Pairs false (transferred port r lock n) (λ _. false)
+pub transferred-pairs : (port : Port) (r : Request) (how : How) (n : ℕ) → Pairs false (transferred port r how n) (λ _. false)
 unfolding transferred givesValue
-transferred-pairs port r lock n =
-    pairs-then false _ _ _ (handshaken-pairs port r _ (moves-pairs port r lock n)) (λ result. pairs-ret false _)
+transferred-pairs port r how n =
+    pairs-then false _ _ _ (handshaken-pairs port r _ (retried-pairs port r how n)) (λ result. pairs-ret false _)
 
 -- the rule, of every run
-pub transfer-paired : (port : Port) (r : Request) (lock : Bool) (n : ℕ) (l : List Answer) → Paired (transferred port r lock n) l
-transfer-paired port r lock n l = pairs-paired _ l (transferred-pairs port r lock n)
+pub transfer-paired : (port : Port) (r : Request) (how : How) (n : ℕ) (l : List Answer) → Paired (transferred port r how n) l
+transfer-paired port r how n l = pairs-paired _ l (transferred-pairs port r how n)

@@ -7,7 +7,7 @@ use native.Mathlib.Omega.{arith}
 use Rattle.hardware.specs.declared.Access.{Access}
 use Rattle.hardware.specs.declared.Answer.{Answer}
 use Rattle.hardware.specs.Prog.{Attempt, Acquires, Acquired, Released, Lapsed, Prog, ret, ask, note, give, R, Ok, Err, orErr, _>>=_, _>>?_, pick}
-use Rattle.hardware.specs.Runs.{ended, run, onward}
+use Rattle.hardware.specs.Runs.{ended, run, onAnswer}
 use Rattle.i2c.specs.Paired.{Hold, free, held, broken, noted, holdAfter, notesIn, Paired}
 use Rattle.i2c.proofs.Quiet.{Quiet}
 
@@ -103,8 +103,8 @@ not-broken false e = let z : _≡_ {A = ℕ} 0 1 = cc in absurd (omega arith)
 
 -- every run of it keeps the rule
 pub pairs-holds : {A : Type 0} (h : Bool) (p : Prog A) (after : A → Bool) (l : List Answer) → Pairs h p after
-    → (holdAfter (holdOf h) (notesIn p l) ≡ broken → ⊥) × ((v : A) → (run p l) .stand ≡ ended v → holdAfter (holdOf h) (notesIn p l) ≡ holdOf (after v))
-unfolding Pairs run onward notesIn holdAfter noted
+    → (holdAfter (holdOf h) (notesIn p l) ≡ broken → ⊥) × ((v : A) → (run p l) .status ≡ ended v → holdAfter (holdOf h) (notesIn p l) ≡ holdOf (after v))
+unfolding Pairs run onAnswer notesIn holdAfter noted
 pairs-holds h (ret w) after l e = (not-broken h, λ v z. let d : w ≡ v = cc in ap holdOf (e ∙ ap after d))
 pairs-holds h (ask x f) after [] e = (not-broken h, λ v z. cc)
 pairs-holds h (ask x f) after (a ∷ l) e = pairs-holds h (f a) after l (e a)

@@ -1,19 +1,21 @@
 -- What the public calls of the four transfers and of `qsfp_setup` yield: a refusal by its number, or what is left of the
--- call, with the count of transfers beside its result.
+-- call, with the meter beside its result.
 use Prim.Native.Nat.{ℕ, _%_}
 use mathlib.Core.Path.{_≡_}
-use mathlib.Core.Bool.{Bool, true}
+use mathlib.Core.Bool.{Bool, true, false}
 use lib.Dec.{eqb, leb}
 use Rattle.hardware.specs.declared.Answer.{Answer}
+use Rattle.hardware.specs.declared.Meter.{Meter}
 use Rattle.hardware.specs.declared.Port.{Port}
-use Rattle.hardware.specs.Asked.{Asked, yes, no, question, andThen, openPort, validPort, fits}
+use Rattle.hardware.specs.Asked.{Asked, yes, no, question, andThen, openPort, validPort, admitting}
 use Rattle.hardware.specs.Numbers.{refusalNumber}
-use Rattle.hardware.specs.Prog.{Prog, ret, ask, erase, R, Counted, tally, _>>=_}
+use Rattle.hardware.specs.Prog.{Prog, ret, ask, erase, R, Counted, blank, tally, pick, _>>=_}
 use Rattle.hardware.specs.Registers.{word, outcome}
 use Rattle.hardware.specs.Change.{accessUpdate, restUpdate}
+use Rattle.i2c.specs.declared.How.{How}
 use Rattle.i2c.specs.declared.once.Request.{Request}
 use Rattle.i2c.specs.declared.once.Request.the-variants.{ReadByte, WriteByte, ReadCombined, WriteCombined}
-use Rattle.i2c.specs.declared.moves.Moves.{Moves}
+use Rattle.i2c.specs.declared.handshake.Handshake.{Handshake}
 use Rattle.i2c.specs.declared.calls.TransferCall.{TransferCall}
 use Rattle.i2c.specs.declared.calls.TransferCall.the-variants.{Going, Over}
 use Rattle.i2c.specs.declared.calls.TransferTold.{TransferTold}
@@ -23,7 +25,7 @@ use Rattle.i2c.specs.declared.calls.SetupCall.the-variants.{Going as Set
 use Rattle.i2c.specs.declared.calls.SetupTold.{SetupTold}
 use Rattle.i2c.specs.declared.calls.SetupTold.the-variants.{Ask as SetupAsk, End as SetupEnd, Refused as SetupRefused}
 use Rattle.i2c.specs.I2c.{deviceOf, givesValue, transferred, setupBus}
-use Rattle.i2c.specs.Moves.{accessMoves, restMoves, validRequest}
+use Rattle.i2c.specs.Handshake.{accessHandshake, restHandshake, validRequest}
 
 -- the most attempts of a call
 unfoldable pub limitOf : Request → ℕ
@@ -44,38 +46,38 @@ unfoldable pub evenDevice : Request → Bool
 evenDevice r = eqb (deviceOf r % 2) 0
 
 -- 1 and 2, then 3, then 4
-unfoldable pub openTransfer : ℕ → ℕ → ℕ → Request → ℕ → Bool → Asked (Prog (Counted (R ℕ)))
-openTransfer family device lan r attempts lock =
+unfoldable pub openTransfer : ℕ → ℕ → ℕ → Request → ℕ → How → Asked (Prog (Counted (R ℕ)))
+openTransfer family device lan r attempts how =
     andThen (openPort family device lan) (λ port.
-    question (evenDevice r) 3 (question (leb attempts 255) 4 (yes (tally 0 (transferred port r lock (triesOf r attempts))))))
+    question (evenDevice r) 3 (question (leb attempts 255) 4 (yes (tally blank (transferred port r how (triesOf r attempts))))))
 
-unfoldable pub restCall : Port → Request → Bool → Moves → Answer → Prog (R ℕ)
-restCall port r lock s a = restMoves port r lock s a >>= givesValue r
+unfoldable pub restCall : Port → Request → How → Handshake → Answer → Prog (R ℕ)
+restCall port r how s a = restHandshake port r how s a >>= givesValue r
+
+unfoldable pub validCall : Port → Request → Meter → Handshake → Bool
+validCall port r m s = pick (validPort port) (validRequest port r (limitOf r) (limitOf r) m s) false
 
 -- a step: 10, 11, 12
 unfoldable pub stepTransfer : TransferCall → Answer → Asked (Prog (Counted (R ℕ)))
-stepTransfer (Going port r lock made s) a =
-    question (validPort port) 10
-    (question (validRequest port r (limitOf r) (limitOf r) made s) 10
-    (question (fits (accessMoves port s) a) 12 (yes (tally made (restCall port r lock s a)))))
+stepTransfer (Going port r how m s) a = admitting (validCall port r m s) (accessHandshake port s) a (yes (tally m (restCall port r how s a)))
 stepTransfer Over a = no 11
 
 unfoldable pub saidTransfer : TransferTold → Asked (Prog (Counted (R ℕ)))
-saidTransfer (Ask x (Going port r lock made s)) = yes (ask x (λ a. tally made (restCall port r lock s a)))
+saidTransfer (Ask x (Going port r how m s)) = yes (ask x (λ a. tally m (restCall port r how s a)))
 saidTransfer (Ask x Over) = no 0
-saidTransfer (End w made) = yes (ret (record { transfers = made; result = word w }))
+saidTransfer (End w m) = yes (ret (record { meter = m; result = word w }))
 saidTransfer (Refused q) = no (refusalNumber q)
 
 -- a state to go on from comes with the access it awaits, and passes question 10
 unfoldable pub standsTransfer : TransferTold → Type 0
-standsTransfer (Ask x (Going port r lock made s)) = (x ≡ accessMoves port s) × (validPort port ≡ true) × (validRequest port r (limitOf r) (limitOf r) made s ≡ true)
+standsTransfer (Ask x (Going port r how m s)) = (x ≡ accessHandshake port s) × (validCall port r m s ≡ true)
 standsTransfer (Ask x Over) = ⊥
-standsTransfer (End w made) = Unit {0}
+standsTransfer (End w m) = Unit {0}
 standsTransfer (Refused q) = Unit {0}
 
 -- `qsfp_setup` takes no port and asks nothing; its state has no counter
 unfoldable pub stepSetup : SetupCall → Answer → Asked (Prog (R (Unit {0})))
-stepSetup (SetupGoing u) a = question (fits (accessUpdate setupBus u) a) 12 (yes (erase (restUpdate setupBus u a)))
+stepSetup (SetupGoing u) a = admitting true (accessUpdate setupBus u) a (yes (erase (restUpdate setupBus u a)))
 stepSetup SetupOver a = no 11
 
 unfoldable pub saidSetup : SetupTold → Asked (Prog (R (Unit {0})))

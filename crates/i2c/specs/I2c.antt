@@ -21,8 +21,10 @@ use Rattle.bus.specs.Layout.{x550em, layoutOf}
 use Rattle.bus.specs.Bus.{Bus, done, none, took, isI2c, start, stop, send, inByte, outBit}
 use Rattle.script.specs.Sum.{low, high, highRead, highWrite, readCheck, writeCheck}
 use Rattle.script.specs.Scripts.{readByteScript, writeByteScript, readCombinedScript, writeCombinedScript}
+use Rattle.transfer.specs.declared.attempt.Sequence.{Sequence}
 use Rattle.transfer.specs.declared.attempt.Sequence.the-variants.{Pulses}
 use Rattle.transfer.specs.Attempt.{attempt}
+use Rattle.i2c.specs.declared.How.{How}
 use Rattle.i2c.specs.declared.once.Request.{Request}
 use Rattle.i2c.specs.declared.once.Request.the-variants.{ReadByte, WriteByte, ReadCombined, WriteCombined}
 
@@ -37,6 +39,17 @@ attempts port = pick (x550em (port .family)) 4 11
 
 unfoldable pub qsfp : Port → Bool
 qsfp port = pick (is (port .family) F82599) (eqb (port .device) 0x1558) false
+
+-- the clearing sequence of a call that names none
+abbrev pub standard : Sequence
+standard = Pulses
+
+abbrev pub byDefault : Bool → How
+byDefault lock = record { lock = lock; sequence = standard }
+
+-- the calls of `sfp.rs` always lock
+abbrev pub locked : Sequence → How
+locked q = record { lock = true; sequence = q }
 
 unfoldable pub deviceOf : Request → ℕ
 deviceOf (ReadByte device offset) = device
@@ -90,8 +103,8 @@ unfoldable pub failedI2c : R Taken → Bool
 failedI2c (Ok t) = false
 failedI2c (Err e) = isI2c e
 
-unfoldable pub once : Port → Request → Prog (R Taken)
-once port r = attempt Pulses (layoutOf (port .family)) (deviceOf r) (body (layoutOf (port .family)) r)
+unfoldable pub once : Port → Request → How → Prog (R Taken)
+once port r how = attempt (how .sequence) (layoutOf (port .family)) (deviceOf r) (body (layoutOf (port .family)) r)
 
 -- the Rust's `if lock { ...?; }`
 unfoldable pub whenLock : Bool → Prog (R (Unit {0})) → Prog (R Taken) → Prog (R Taken)
@@ -110,28 +123,28 @@ readJudged r lock again result =
     pick (failedI2c result) (pick (pauses r lock) (delayMs 100 >>? λ _. again tt) (again tt)) (ret result)
 
 -- `read_byte` and `read_combined`: the lock is taken for each attempt
-unfoldable pub readTries : Port → Request → Bool → ℕ → Prog (R Taken)
-readTries port r lock zero = ret (Err (I2c (deviceOf r)))
-readTries port r lock (suc left) =
-    whenLock lock (acquire port (mask port))
-    (once port r >>= λ result.
-    whenLock lock (release port (mask port)) (readJudged r lock (λ _. readTries port r lock left) result))
+unfoldable pub readTries : Port → Request → How → ℕ → Prog (R Taken)
+readTries port r how zero = ret (Err (I2c (deviceOf r)))
+readTries port r how (suc left) =
+    whenLock (how .lock) (acquire port (mask port))
+    (once port r how >>= λ result.
+    whenLock (how .lock) (release port (mask port)) (readJudged r (how .lock) (λ _. readTries port r how left) result))
 
 -- `write_byte` and `write_combined`: the lock is held across the attempts
-unfoldable pub writeTries : Port → Request → ℕ → R Taken → Prog (R Taken)
-writeTries port r zero result = ret result
-writeTries port r (suc left) before =
-    once port r >>= λ result. pick (failedI2c result) (writeTries port r left result) (ret result)
+unfoldable pub writeTries : Port → Request → How → ℕ → R Taken → Prog (R Taken)
+writeTries port r how zero result = ret result
+writeTries port r how (suc left) before =
+    once port r how >>= λ result. pick (failedI2c result) (writeTries port r how left result) (ret result)
 
 unfoldable pub givenUp : Port → Bool → R Taken → Prog (R Taken)
 givenUp port lock result = whenLock lock (release port (mask port)) (ret result)
 
-unfoldable pub writes : Port → Request → Bool → Prog (R Taken)
-writes port r lock = whenLock lock (acquire port (mask port)) (writeTries port r 2 (Err (I2c (deviceOf r))) >>= givenUp port lock)
+unfoldable pub writes : Port → Request → How → Prog (R Taken)
+writes port r how = whenLock (how .lock) (acquire port (mask port)) (writeTries port r how 2 (Err (I2c (deviceOf r))) >>= givenUp port (how .lock))
 
 -- the attempts of a call; a write has two
-unfoldable pub moves : Port → Request → Bool → ℕ → Prog (R Taken)
-moves port r lock tries = pick (isWrite r) (writes port r lock) (readTries port r lock tries)
+unfoldable pub retried : Port → Request → How → ℕ → Prog (R Taken)
+retried port r how tries = pick (isWrite r) (writes port r how) (readTries port r how tries)
 
 -- the handshake: the bus is asked for on SDP0, and the grant awaited on SDP1, 200 looks 5 ms apart
 abbrev pub askBus : Change
@@ -165,8 +178,8 @@ handshaken port (ReadCombined device reg) f = f
 handshaken port (WriteCombined device reg value) f = f
 
 -- a whole call, with `tries` attempts for a read
-unfoldable pub transferred : Port → Request → Bool → ℕ → Prog (R ℕ)
-transferred port r lock tries = handshaken port r (moves port r lock tries) >>= givesValue r
+unfoldable pub transferred : Port → Request → How → ℕ → Prog (R ℕ)
+transferred port r how tries = handshaken port r (retried port r how tries) >>= givesValue r
 
 -- `qsfp_setup`
 abbrev pub setupBus : Change

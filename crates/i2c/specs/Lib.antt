@@ -1,5 +1,5 @@
 pub mod I2c
-pub mod Tries
-pub mod Moves
+pub mod Retry
+pub mod Handshake
 pub mod Calls
 pub mod Paired

@@ -37,4 +37,4 @@ holdAfter h (n ∷ ns) = holdAfter (noted n h) ns
 -- a run keeps the rule, and has left nothing held where it has ended
 unfoldable pub Paired : {A : Type 0} → Prog A → List Answer → Type 0
 Paired {A} p l =
-    (holdAfter free (notesIn p l) ≡ broken → ⊥) × ((v : A) → (run p l) .stand ≡ ended v → holdAfter free (notesIn p l) ≡ free)
+    (holdAfter free (notesIn p l) ≡ broken → ⊥) × ((v : A) → (run p l) .status ≡ ended v → holdAfter free (notesIn p l) ≡ free)

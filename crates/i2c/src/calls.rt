@@ -1,10 +1,14 @@
 // The stepwise calls of `read_byte`, `write_byte`, `read_combined` and `write_combined`, and of `qsfp_setup`.
-use crate::moves::Moves;
-use crate::moves::MovesNext;
+use crate::How;
+use crate::handshake::Handshake;
+use crate::handshake::HandshakeNext;
 use crate::once::Request;
 use hardware::Access;
+use hardware::Admitted;
 use hardware::Answer;
+use hardware::BLANK;
 use hardware::ESDP;
+use hardware::Meter;
 use hardware::Opening;
 use hardware::Outcome;
 use hardware::Port;
@@ -18,22 +22,24 @@ ghost use Prim.Native.Nat.{_+_, _<_, _≤_};
 ghost use mathlib.Core.Path.{_≡_};
 ghost use mathlib.Core.Bool.{true};
 ghost use Rattle.hardware.specs.Asked.{yes, validPort};
+ghost use Rattle.hardware.specs.Promise.{Keeps};
 ghost use Rattle.hardware.specs.Prog.{erase, followed, tally};
+ghost use Rattle.hardware.specs.Marks.{FULL};
 ghost use Rattle.hardware.specs.Change.{updateNext, change};
-ghost use Rattle.i2c.specs.I2c.{givesValue, setupBus};
-ghost use Rattle.i2c.specs.Moves.{MOST, movesNext, dueMovesNext, validMovesNext};
-ghost use Rattle.i2c.specs.Calls.{limitOf, triesOf, evenDevice, openTransfer, stepTransfer, saidTransfer, standsTransfer, stepSetup, saidSetup, standsSetup};
+ghost use Rattle.i2c.specs.I2c.{byDefault, givesValue, setupBus};
+ghost use Rattle.i2c.specs.Handshake.{handshakeNext, dueHandshakeNext, validHandshakeNext};
+ghost use Rattle.i2c.specs.Calls.{limitOf, triesOf, evenDevice, validCall, openTransfer, stepTransfer, saidTransfer, standsTransfer, stepSetup, saidSetup, standsSetup};
 
-// The request, whether the call locks, and the transfers made stand beside the state.
+// The request, how it is made and the meter stand beside the state.
 pub enum TransferCall {
-    Going(Port, Request, bool, u32, Moves),
+    Going(Port, Request, How, Meter, Handshake),
     Over,
 }
 
-// The end: the value, and the transfers made; the finished state is `Over`.
+// The end: the value, and the meter; the finished state is `Over`.
 pub enum TransferTold {
     Ask(Access, TransferCall),
-    End(Word, u32),
+    End(Word, Meter),
     Refused(Refusal),
 }
 
@@ -66,16 +72,15 @@ fn even(r: Request) -> bool
     crate::once::device(r) % 2 == 0
 }
 
-fn told(port: Port, r: Request, lock: bool, made: u32, n: MovesNext) -> TransferTold
-    ensures { λ t. ⌜ (made < MOST → saidTransfer t ≡ yes (tally made (followed (movesNext port r lock n) (givesValue r)))) ⌝ }
-    ensures { λ t. ⌜ (validPort port ≡ true → validMovesNext (limitOf r) port r n ≡ true → made + dueMovesNext r n ≤ limitOf r → standsTransfer t) ⌝ }
+fn told(port: Port, r: Request, how: How, m: Meter, n: HandshakeNext) -> TransferTold
+    ensures { λ t. ⌜ Keeps (m .transfers < FULL → saidTransfer t ≡ yes (tally m (followed (handshakeNext port r how n) (givesValue r)))) (validPort port ≡ true → validHandshakeNext (limitOf r) port r n ≡ true → m .transfers + dueHandshakeNext r n ≤ limitOf r → standsTransfer t) ⌝ }
 {
     match n {
-        MovesNext::Going(begins, s) => TransferTold::Ask(
-            crate::moves::access(port, s),
-            TransferCall::Going(port, r, lock, crate::moves::count(begins, made), s),
+        HandshakeNext::Going(k, s) => TransferTold::Ask(
+            crate::handshake::access(port, s),
+            TransferCall::Going(port, r, how, hardware::meter_on(k, m), s),
         ),
-        MovesNext::End(g) => TransferTold::End(crate::once::value(r, g), made),
+        HandshakeNext::End(g) => TransferTold::End(crate::once::value(r, g), m),
     }
 }
 
@@ -92,9 +97,8 @@ fn tries(r: Request, attempts: u8) -> u8
 }
 
 // Questions 1 to 4.
-fn open(family: u32, device: u16, lan: u32, r: Request, attempts: u32, lock: bool) -> TransferTold
-    ensures { λ t. ⌜ saidTransfer t ≡ openTransfer family device lan r attempts lock ⌝ }
-    ensures { λ t. ⌜ standsTransfer t ⌝ }
+fn opened(family: u32, device: u16, lan: u32, r: Request, attempts: u32, how: How) -> TransferTold
+    ensures { λ t. ⌜ Keeps (saidTransfer t ≡ openTransfer family device lan r attempts how) (standsTransfer t) ⌝ }
 {
     match hardware::open_port(family, device, lan) {
         Opening::Port(p) => {
@@ -103,9 +107,9 @@ fn open(family: u32, device: u16, lan: u32, r: Request, attempts: u32, lock: boo
                     return told(
                         p,
                         r,
-                        lock,
-                        0,
-                        crate::moves::open(p, r, lock, tries(r, attempts as u8)),
+                        how,
+                        BLANK,
+                        crate::handshake::open(p, r, how, tries(r, attempts as u8)),
                     );
                 }
                 return TransferTold::Refused(Refusal::Attempts);
@@ -114,6 +118,17 @@ fn open(family: u32, device: u16, lan: u32, r: Request, attempts: u32, lock: boo
         }
         Opening::Refused(q) => TransferTold::Refused(q),
     }
+}
+
+// The same, where no sequence is named.
+fn open(family: u32, device: u16, lan: u32, r: Request, attempts: u32, lock: bool) -> TransferTold
+    ensures { λ t. ⌜ Keeps (saidTransfer t ≡ openTransfer family device lan r attempts (byDefault lock)) (standsTransfer t) ⌝ }
+{
+    let how = How {
+        lock,
+        sequence: crate::standard(),
+    };
+    opened(family, device, lan, r, attempts, how)
 }
 
 // address: the I2C device, as it is sent to write.
@@ -126,8 +141,7 @@ pub fn read_byte_open(
     attempts: u32,
     lock: bool,
 ) -> TransferTold
-    ensures { λ t. ⌜ saidTransfer t ≡ openTransfer family device lan (Request.ReadByte address offset) attempts lock ⌝ }
-    ensures { λ t. ⌜ standsTransfer t ⌝ }
+    ensures { λ t. ⌜ Keeps (saidTransfer t ≡ openTransfer family device lan (Request.ReadByte address offset) attempts (byDefault lock)) (standsTransfer t) ⌝ }
 {
     open(
         family,
@@ -148,8 +162,7 @@ pub fn write_byte_open(
     value: u8,
     lock: bool,
 ) -> TransferTold
-    ensures { λ t. ⌜ saidTransfer t ≡ openTransfer family device lan (Request.WriteByte address offset value) 0 lock ⌝ }
-    ensures { λ t. ⌜ standsTransfer t ⌝ }
+    ensures { λ t. ⌜ Keeps (saidTransfer t ≡ openTransfer family device lan (Request.WriteByte address offset value) 0 (byDefault lock)) (standsTransfer t) ⌝ }
 {
     open(
         family,
@@ -169,8 +182,7 @@ pub fn read_combined_open(
     reg: u16,
     lock: bool,
 ) -> TransferTold
-    ensures { λ t. ⌜ saidTransfer t ≡ openTransfer family device lan (Request.ReadCombined address reg) 0 lock ⌝ }
-    ensures { λ t. ⌜ standsTransfer t ⌝ }
+    ensures { λ t. ⌜ Keeps (saidTransfer t ≡ openTransfer family device lan (Request.ReadCombined address reg) 0 (byDefault lock)) (standsTransfer t) ⌝ }
 {
     open(
         family,
@@ -191,8 +203,7 @@ pub fn write_combined_open(
     value: u16,
     lock: bool,
 ) -> TransferTold
-    ensures { λ t. ⌜ saidTransfer t ≡ openTransfer family device lan (Request.WriteCombined address reg value) 0 lock ⌝ }
-    ensures { λ t. ⌜ standsTransfer t ⌝ }
+    ensures { λ t. ⌜ Keeps (saidTransfer t ≡ openTransfer family device lan (Request.WriteCombined address reg value) 0 (byDefault lock)) (standsTransfer t) ⌝ }
 {
     open(
         family,
@@ -204,23 +215,26 @@ pub fn write_combined_open(
     )
 }
 
+fn valid(port: Port, r: Request, m: Meter, t: Handshake) -> bool
+    ensures { λ b. ⌜ b ≡ validCall port r m t ⌝ }
+{
+    if hardware::valid_port(port) {
+        let most = limit(r);
+        return crate::handshake::valid_request(port, r, most, most, m, t);
+    }
+    false
+}
+
 // Questions 10 to 12, of each of the four.
 pub fn transfer_step(s: TransferCall, a: Answer) -> TransferTold
-    ensures { λ t. ⌜ saidTransfer t ≡ stepTransfer s a ⌝ }
-    ensures { λ t. ⌜ standsTransfer t ⌝ }
+    ensures { λ t. ⌜ Keeps (saidTransfer t ≡ stepTransfer s a) (standsTransfer t) ⌝ }
 {
     match s {
-        TransferCall::Going(port, r, lock, made, t) => {
-            if hardware::valid_port(port) {
-                let most = limit(r);
-                if crate::moves::valid_request(port, r, most, most, made, t) {
-                    if hardware::awaited(crate::moves::access(port, t), a) {
-                        return told(port, r, lock, made, crate::moves::step(port, r, lock, t, a));
-                    }
-                    return TransferTold::Refused(Refusal::Kind);
-                }
+        TransferCall::Going(port, r, how, m, t) => {
+            match hardware::admit(valid(port, r, m, t), crate::handshake::access(port, t), a) {
+                Admitted::Yes => told(port, r, how, m, crate::handshake::step(port, r, how, t, a)),
+                Admitted::No(q) => TransferTold::Refused(q),
             }
-            TransferTold::Refused(Refusal::State)
         }
         TransferCall::Over => TransferTold::Refused(Refusal::Finished),
     }
@@ -237,8 +251,7 @@ fn setup_bus() -> Change
 }
 
 fn setup_told(n: UpdateNext) -> SetupTold
-    ensures { λ t. ⌜ saidSetup t ≡ yes (updateNext setupBus n) ⌝ }
-    ensures { λ t. ⌜ standsSetup t ⌝ }
+    ensures { λ t. ⌜ Keeps (saidSetup t ≡ yes (updateNext setupBus n)) (standsSetup t) ⌝ }
 {
     match n {
         UpdateNext::Going(u) => SetupTold::Ask(
@@ -250,22 +263,20 @@ fn setup_told(n: UpdateNext) -> SetupTold
 }
 
 pub fn qsfp_setup_open() -> SetupTold
-    ensures { λ t. ⌜ saidSetup t ≡ yes (erase (change setupBus)) ⌝ }
-    ensures { λ t. ⌜ standsSetup t ⌝ }
+    ensures { λ t. ⌜ Keeps (saidSetup t ≡ yes (erase (change setupBus))) (standsSetup t) ⌝ }
 {
     setup_told(UpdateNext::Going(Update::Reading))
 }
 
 pub fn qsfp_setup_step(s: SetupCall, a: Answer) -> SetupTold
-    ensures { λ t. ⌜ saidSetup t ≡ stepSetup s a ⌝ }
-    ensures { λ t. ⌜ standsSetup t ⌝ }
+    ensures { λ t. ⌜ Keeps (saidSetup t ≡ stepSetup s a) (standsSetup t) ⌝ }
 {
     match s {
         SetupCall::Going(u) => {
-            if hardware::awaited(hardware::change::access(setup_bus(), u), a) {
-                return setup_told(hardware::change::step(setup_bus(), u, a));
+            match hardware::admit(true, hardware::change::access(setup_bus(), u), a) {
+                Admitted::Yes => setup_told(hardware::change::step(setup_bus(), u, a)),
+                Admitted::No(q) => SetupTold::Refused(q),
             }
-            SetupTold::Refused(Refusal::Kind)
         }
         SetupCall::Over => SetupTold::Refused(Refusal::Finished),
     }

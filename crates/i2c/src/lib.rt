@@ -1,15 +1,30 @@
 // `read_byte`, `write_byte`, `read_combined` and `write_combined`: attempts under the lock and the QSFP handshake.
 ghost use mathlib.Core.Path.{_≡_};
-ghost use Rattle.i2c.specs.I2c.{mask, attempts, qsfp};
+ghost use Rattle.i2c.specs.I2c.{mask, attempts, qsfp, standard};
 use hardware::Family;
 use hardware::Port;
+use transfer::attempt::Sequence;
 
 pub mod calls;
-pub mod moves;
+pub mod handshake;
 pub mod once;
-pub mod tries;
+pub mod retry;
 
 pub const QSFP_DEVICE: u16 = 0x1558;
+
+// How a transfer is made. lock: under the bits that guard the port's bus. sequence: the clearing after a failed attempt, by
+// its name.
+pub struct How {
+    pub lock: bool,
+    pub sequence: Sequence,
+}
+
+// The clearing sequence of a call that names none: that of the Rust.
+pub fn standard() -> Sequence
+    ensures { λ q. ⌜ q ≡ standard ⌝ }
+{
+    Sequence::Pulses
+}
 
 // The bits that guard the port's bus.
 pub fn mask(port: Port) -> u32

@@ -12,8 +12,7 @@ ghost use mathlib.Core.Path.{_≡_};
 ghost use mathlib.Core.Bool.{true};
 ghost use Rattle.hardware.specs.Prog.{erase};
 ghost use Rattle.hardware.specs.Registers.{word};
-ghost use Rattle.transfer.specs.declared.attempt.Sequence.the-variants.{Pulses};
-ghost use Rattle.transfer.specs.Transfer.{silent};
+ghost use Rattle.transfer.specs.Transfer.{keeping};
 ghost use Rattle.transfer.specs.Attempt.{got, attemptNext, restAttempt, validAttempt, validAttemptNext};
 ghost use Rattle.i2c.specs.I2c.{deviceOf, scriptOf, isWrite, failedI2c, valueOf};
 
@@ -79,26 +78,26 @@ pub fn value(r: Request, g: Got) -> Word
     }
 }
 
-pub fn step(l: Layout, r: Request, s: Attempt, a: Answer) -> AttemptNext
-    ensures { λ n. ⌜ attemptNext silent Pulses l (deviceOf r) (scriptOf r) n ≡ erase (restAttempt silent Pulses l (deviceOf r) (scriptOf r) s a) ⌝ }
+pub fn step(q: Sequence, l: Layout, r: Request, s: Attempt, a: Answer) -> AttemptNext
+    ensures { λ n. ⌜ attemptNext keeping q l (deviceOf r) (scriptOf r) n ≡ erase (restAttempt keeping q l (deviceOf r) (scriptOf r) s a) ⌝ }
     ensures { λ n. ⌜ (validAttempt l (scriptOf r) s ≡ true → validAttemptNext l (scriptOf r) n ≡ true) ⌝ }
 {
     match r {
         Request::ReadByte(d, o) => {
             let script = script::write::read_byte_script(d, o);
-            transfer::attempt::step(Sequence::Pulses, l, d, &script, s, a)
+            transfer::attempt::step(q, l, d, &script, s, a)
         }
         Request::WriteByte(d, o, v) => {
             let script = script::write::write_byte_script(d, o, v);
-            transfer::attempt::step(Sequence::Pulses, l, d, &script, s, a)
+            transfer::attempt::step(q, l, d, &script, s, a)
         }
         Request::ReadCombined(d, reg) => {
             let script = script::write::read_combined_script(d, reg);
-            transfer::attempt::step(Sequence::Pulses, l, d, &script, s, a)
+            transfer::attempt::step(q, l, d, &script, s, a)
         }
         Request::WriteCombined(d, reg, v) => {
             let script = script::write::write_combined_script(d, reg, v);
-            transfer::attempt::step(Sequence::Pulses, l, d, &script, s, a)
+            transfer::attempt::step(q, l, d, &script, s, a)
         }
     }
 }

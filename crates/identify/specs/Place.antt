@@ -6,12 +6,14 @@ use lib.Dec.{eqb, leb, ltb}
 use Rattle.hardware.specs.declared.Port.{Port}
 use Rattle.hardware.specs.Prog.{Prog, ret, R, Ok, Err, pick}
 use Rattle.bus.specs.declared.Taken.{Taken}
+use Rattle.transfer.specs.declared.attempt.Sequence.{Sequence}
 use Rattle.i2c.specs.declared.once.Request.{Request}
 use Rattle.i2c.specs.declared.once.Request.the-variants.{ReadByte}
-use Rattle.i2c.specs.I2c.{attempts, valueOf}
+use Rattle.i2c.specs.I2c.{attempts}
+use Rattle.i2c.specs.Handshake.{valued}
 use Rattle.sfp.specs.declared.Codes.{Codes}
 use Rattle.sfp.specs.declared.Kind.the-variants.{DaActiveLimiting, Unknown}
-use Rattle.sfp.specs.declared.Module.{Module}
+use Rattle.sfp.specs.declared.Identity.{Identity}
 use Rattle.sfp.specs.Classes.{has, SFP, LIMITING}
 use Rattle.sfp.specs.Identify.{EEPROM, orAbsent, byte, identifierOf, reachOf, kindBy, recorded, classify, identified}
 use Rattle.sfp.specs.Qsfp.{qsfpTechnology, qsfpLength, qsfpConnector, qsfpClassify, qsfpIdentified}
@@ -72,39 +74,39 @@ unfoldable pub validPlace : Place → Bool
 validPlace p = ltb 0 (readingsAt p)
 
 -- the kind of an SFP once the 10G-BX test is decided
-unfoldable pub kinded : Port → Codes → Bool → Prog (R Module)
-kinded port c bx = kindBy port c bx (λ kind. ret (Ok (recorded SFP c kind)))
+unfoldable pub kinded : Sequence → Port → Codes → Bool → Prog (R Identity)
+kinded q port c bx = kindBy q port c bx (λ kind. ret (Ok (recorded SFP c kind)))
 
 -- what is left once the byte was read
-unfoldable pub onAt : Port → Place → ℕ → Prog (R Module)
-onAt port (Identifier left) v = pick (eqb v SFP) (identified port v) (identifierOf port left v (identified port))
-onAt port Comp1g g1 =
-    byte port 3 (attempts port) (λ g10. byte port 8 (attempts port) (λ cable. classify port SFP (record { g1 = g1; g10 = g10; cable = cable })))
-onAt port (Comp10g g1) g10 = byte port 8 (attempts port) (λ cable. classify port SFP (record { g1 = g1; g10 = g10; cable = cable }))
-onAt port (Cable g1 g10) cable = classify port SFP (record { g1 = g1; g10 = g10; cable = cable })
-onAt port (Rate c) rate = pick (eqb rate 0x67) (reachOf port (kinded port c)) (kinded port c false)
-onAt port (Km c) km = byte port 15 (attempts port) (λ hm. kinded port c (ltb 0 km || leb 10 hm))
-onAt port (Hm c km) hm = kinded port c (ltb 0 km || leb 10 hm)
-onAt port (Active c) v = ret (Ok (recorded SFP c (pick (has v LIMITING) DaActiveLimiting Unknown)))
-onAt port QsfpIdentifier v = qsfpIdentified port v
-onAt port Qsfp10g g10 = byte port 0x86 (attempts port) (qsfpClassify port g10)
-onAt port (Qsfp1g g10) g1 = qsfpClassify port g10 g1
-onAt port (QsfpConnector g10 g1) v = qsfpConnector port g10 g1 v
-onAt port (QsfpLength g10 g1) v = qsfpLength port g10 g1 v
-onAt port (QsfpTechnology g10 g1) v = qsfpTechnology g10 g1 v
+unfoldable pub onAt : Sequence → Port → Place → ℕ → Prog (R Identity)
+onAt q port (Identifier left) v = pick (eqb v SFP) (identified q port v) (identifierOf q port left v (identified q port))
+onAt q port Comp1g g1 =
+    byte q port 3 (attempts port) (λ g10. byte q port 8 (attempts port) (λ cable. classify q port SFP (record { g1 = g1; g10 = g10; cable = cable })))
+onAt q port (Comp10g g1) g10 = byte q port 8 (attempts port) (λ cable. classify q port SFP (record { g1 = g1; g10 = g10; cable = cable }))
+onAt q port (Cable g1 g10) cable = classify q port SFP (record { g1 = g1; g10 = g10; cable = cable })
+onAt q port (Rate c) rate = pick (eqb rate 0x67) (reachOf q port (kinded q port c)) (kinded q port c false)
+onAt q port (Km c) km = byte q port 15 (attempts port) (λ hm. kinded q port c (ltb 0 km || leb 10 hm))
+onAt q port (Hm c km) hm = kinded q port c (ltb 0 km || leb 10 hm)
+onAt q port (Active c) v = ret (Ok (recorded SFP c (pick (has v LIMITING) DaActiveLimiting Unknown)))
+onAt q port QsfpIdentifier v = qsfpIdentified q port v
+onAt q port Qsfp10g g10 = byte q port 0x86 (attempts port) (qsfpClassify q port g10)
+onAt q port (Qsfp1g g10) g1 = qsfpClassify q port g10 g1
+onAt q port (QsfpConnector g10 g1) v = qsfpConnector q port g10 g1 v
+onAt q port (QsfpLength g10 g1) v = qsfpLength q port g10 g1 v
+onAt q port (QsfpTechnology g10 g1) v = qsfpTechnology g10 g1 v
 
 -- ... or was not
-unfoldable pub toldAt : Port → Place → R Taken → Prog (R Module)
-toldAt port p result = orAbsent (onAt port p) (valueOf (requestAt p) result)
+unfoldable pub toldAt : Sequence → Port → Place → R Taken → Prog (R Identity)
+toldAt q port p = valued (requestAt p) (orAbsent (onAt q port p))
 
 -- from the request on
-unfoldable pub placed : Port → Place → Prog (R Module)
-placed port p = byte port (offsetAt p) (triesAt port p) (onAt port p)
+unfoldable pub placed : Sequence → Port → Place → Prog (R Identity)
+placed q port p = byte q port (offsetAt p) (triesAt port p) (onAt q port p)
 
-unfoldable pub onward : Port → Then → Prog (R Module)
-onward port (Requests p) = placed port p
-onward port (Found m) = ret (Ok m)
-onward port (Failed e) = ret (Err e)
+unfoldable pub restThen : Sequence → Port → Then → Prog (R Identity)
+restThen q port (Requests p) = placed q port p
+restThen q port (Found m) = ret (Ok m)
+restThen q port (Failed e) = ret (Err e)
 
 -- the next request has room for its attempts after n transfers
 unfoldable pub Later : Port → ℕ → Then → Type 0

@@ -4,82 +4,97 @@ use crate::walk::Identified;
 use crate::walk::Identify;
 use crate::walk::IdentifyNext;
 use hardware::Access;
+use hardware::Admitted;
 use hardware::Answer;
+use hardware::BLANK;
+use hardware::Meter;
 use hardware::Opening;
 use hardware::Port;
 use hardware::Refusal;
-ghost use Prim.Native.Nat.{_<_};
+use transfer::attempt::Sequence;
+ghost use Prim.Native.Nat.{_<_, _≤_};
 ghost use mathlib.Core.Path.{_≡_};
 ghost use mathlib.Core.Bool.{true};
 ghost use Rattle.hardware.specs.Asked.{yes, validPort};
-ghost use Rattle.hardware.specs.Prog.{tally};
-ghost use Rattle.i2c.specs.Moves.{MOST};
+ghost use Rattle.hardware.specs.Promise.{Keeps};
+ghost use Rattle.hardware.specs.Prog.{blank, tally};
+ghost use Rattle.hardware.specs.Marks.{FULL};
+ghost use Rattle.i2c.specs.I2c.{standard};
+ghost use Rattle.identify.specs.Place.{triesAt, capAt, validPlace, placed};
 ghost use Rattle.identify.specs.Walk.{identifyNext, validIdentifyNext};
-ghost use Rattle.identify.specs.Calls.{openIdentify, openQsfp, stepIdentify, saidIdentify, standsIdentify};
+ghost use Rattle.identify.specs.Calls.{openIdentify, openQsfp, validCall, stepIdentify, saidIdentify, standsIdentify};
 
-// Going: with the transfers made.
+// Going: with the clearing sequence of its transfers, and the meter.
 pub enum IdentifyCall {
-    Going(Port, u32, Identify),
+    Going(Port, Sequence, Meter, Identify),
     Over,
 }
 
-// The end: the record, and the transfers made; the finished state is `Over`.
+// The end: the record, and the meter; the finished state is `Over`.
 pub enum IdentifyTold {
     Ask(Access, IdentifyCall),
-    End(Identified, u32),
+    End(Identified, Meter),
     Refused(Refusal),
 }
 
-fn told(port: Port, made: u32, n: IdentifyNext) -> IdentifyTold
-    ensures { λ t. ⌜ (made < MOST → saidIdentify t ≡ yes (tally made (identifyNext port n))) ⌝ }
-    ensures { λ t. ⌜ (validPort port ≡ true → validIdentifyNext port made n ≡ true → standsIdentify t) ⌝ }
+fn told(port: Port, q: Sequence, m: Meter, n: IdentifyNext) -> IdentifyTold
+    ensures { λ t. ⌜ Keeps (m .transfers < FULL → saidIdentify t ≡ yes (tally m (identifyNext q port n))) (validPort port ≡ true → validIdentifyNext port m n ≡ true → standsIdentify t) ⌝ }
 {
     match n {
-        IdentifyNext::Going(begins, s) => IdentifyTold::Ask(
+        IdentifyNext::Going(k, s) => IdentifyTold::Ask(
             crate::walk::access(port, s),
-            IdentifyCall::Going(port, i2c::moves::count(begins, made), s),
+            IdentifyCall::Going(port, q, hardware::meter_on(k, m), s),
         ),
-        IdentifyNext::End(f) => IdentifyTold::End(f, made),
+        IdentifyNext::End(f) => IdentifyTold::End(f, m),
     }
+}
+
+// The call from its first place on, where no sequence is named.
+fn opened(port: Port, p: Place) -> IdentifyTold
+    ensures { λ t. ⌜ Keeps (saidIdentify t ≡ yes (tally blank (placed standard port p))) (validPort port ≡ true → validPlace p ≡ true → triesAt port p ≤ capAt port p → standsIdentify t) ⌝ }
+{
+    let q = i2c::standard();
+    told(port, q, BLANK, crate::walk::begin(port, q, p))
 }
 
 // Questions 1 and 2.
 pub fn identify_open(family: u32, device: u16, lan: u32) -> IdentifyTold
-    ensures { λ t. ⌜ saidIdentify t ≡ openIdentify family device lan ⌝ }
-    ensures { λ t. ⌜ standsIdentify t ⌝ }
+    ensures { λ t. ⌜ Keeps (saidIdentify t ≡ openIdentify family device lan) (standsIdentify t) ⌝ }
 {
     match hardware::open_port(family, device, lan) {
-        Opening::Port(p) => told(p, 0, crate::walk::begin(p, Place::Identifier(4))),
+        Opening::Port(p) => opened(p, Place::Identifier(4)),
         Opening::Refused(q) => IdentifyTold::Refused(q),
     }
 }
 
 pub fn identify_qsfp_open(family: u32, device: u16, lan: u32) -> IdentifyTold
-    ensures { λ t. ⌜ saidIdentify t ≡ openQsfp family device lan ⌝ }
-    ensures { λ t. ⌜ standsIdentify t ⌝ }
+    ensures { λ t. ⌜ Keeps (saidIdentify t ≡ openQsfp family device lan) (standsIdentify t) ⌝ }
 {
     match hardware::open_port(family, device, lan) {
-        Opening::Port(p) => told(p, 0, crate::walk::begin(p, Place::QsfpIdentifier)),
+        Opening::Port(p) => opened(p, Place::QsfpIdentifier),
         Opening::Refused(q) => IdentifyTold::Refused(q),
     }
 }
 
+fn valid(port: Port, m: Meter, t: Identify) -> bool
+    ensures { λ b. ⌜ b ≡ validCall port m t ⌝ }
+{
+    if hardware::valid_port(port) {
+        return crate::walk::valid(port, m, t);
+    }
+    false
+}
+
 // Questions 10 to 12, of both.
 pub fn identify_step(s: IdentifyCall, a: Answer) -> IdentifyTold
-    ensures { λ t. ⌜ saidIdentify t ≡ stepIdentify s a ⌝ }
-    ensures { λ t. ⌜ standsIdentify t ⌝ }
+    ensures { λ t. ⌜ Keeps (saidIdentify t ≡ stepIdentify s a) (standsIdentify t) ⌝ }
 {
     match s {
-        IdentifyCall::Going(port, made, t) => {
-            if hardware::valid_port(port) {
-                if crate::walk::valid(port, made, t) {
-                    if hardware::awaited(crate::walk::access(port, t), a) {
-                        return told(port, made, crate::walk::step(port, t, a));
-                    }
-                    return IdentifyTold::Refused(Refusal::Kind);
-                }
+        IdentifyCall::Going(port, q, m, t) => {
+            match hardware::admit(valid(port, m, t), crate::walk::access(port, t), a) {
+                Admitted::Yes => told(port, q, m, crate::walk::step(port, q, t, a)),
+                Admitted::No(n) => IdentifyTold::Refused(n),
             }
-            IdentifyTold::Refused(Refusal::State)
         }
         IdentifyCall::Over => IdentifyTold::Refused(Refusal::Finished),
     }

@@ -4,18 +4,20 @@ use hardware::Port;
 use i2c::once::Request;
 use sfp::Coded;
 use sfp::Codes;
+use sfp::Identity;
 use sfp::Kind;
-use sfp::Module;
 use sfp::class;
 use transfer::attempt::Got;
 ghost use Prim.Native.Nat.{ℕ, _+_, _≤_};
 ghost use mathlib.Core.Path.{_≡_};
 ghost use mathlib.Core.Bool.{true};
+ghost use Rattle.transfer.specs.declared.attempt.Sequence.{Sequence};
 ghost use Rattle.transfer.specs.Attempt.{got};
 ghost use Rattle.sfp.specs.Identify.{orAbsent, recorded, classify};
+ghost use Rattle.hardware.specs.Promise.{Keeps};
 ghost use Rattle.hardware.specs.Prog.{ret, Ok, Err};
 ghost use Rattle.sfp.specs.Qsfp.{qsfpClassify, qsfpIdentified, qsfpFound};
-ghost use Rattle.identify.specs.Place.{rowAt, readingsAt, requestAt, triesAt, most, capAt, validPlace, onAt, kinded, toldAt, onward, Later};
+ghost use Rattle.identify.specs.Place.{rowAt, readingsAt, requestAt, triesAt, most, capAt, validPlace, onAt, kinded, toldAt, restThen, Later};
 ghost use Rattle.i2c.specs.I2c.{attempts};
 
 // The byte that is requested, with those read before it. Identifier: with the readings left after this one. The codes of
@@ -40,7 +42,7 @@ pub enum Place {
 // What is to be done once a byte was read, or not.
 pub enum Then {
     Request(Place),
-    Found(Module),
+    Found(Identity),
     Failed(Error),
 }
 
@@ -113,15 +115,13 @@ pub fn valid(p: Place) -> bool
 }
 
 fn found(c: Codes, kind: Kind) -> Then
-    ensures { λ t. ⌜ ((port : Port) → onward port t ≡ ret (Ok (recorded 3 c kind))) ⌝ }
-    ensures { λ t. ⌜ ((port : Port) (n : ℕ) → Later port n t) ⌝ }
+    ensures { λ t. ⌜ Keeps ((q : Sequence) (port : Port) → restThen q port t ≡ ret (Ok (recorded 3 c kind))) ((port : Port) (n : ℕ) → Later port n t) ⌝ }
 {
     Then::Found(class::recorded(class::SFP, c, kind))
 }
 
 fn after_identifier(left: u8, v: u8) -> Then
-    ensures { λ t. ⌜ ((port : Port) → onward port t ≡ onAt port (Place.Identifier left) v) ⌝ }
-    ensures { λ t. ⌜ ((port : Port) → validPlace (Place.Identifier left) ≡ true → Later port (capAt port (Place.Identifier left)) t) ⌝ }
+    ensures { λ t. ⌜ Keeps ((q : Sequence) (port : Port) → restThen q port t ≡ onAt q port (Place.Identifier left) v) ((port : Port) → validPlace (Place.Identifier left) ≡ true → Later port (capAt port (Place.Identifier left)) t) ⌝ }
 {
     if v == class::SFP {
         return Then::Request(Place::Comp1g);
@@ -134,8 +134,7 @@ fn after_identifier(left: u8, v: u8) -> Then
 
 // The kind, or byte 60 for it.
 fn kinded(c: Codes, bx: bool) -> Then
-    ensures { λ t. ⌜ ((port : Port) → onward port t ≡ kinded port c bx) ⌝ }
-    ensures { λ t. ⌜ ((port : Port) (n : ℕ) → n + attempts port ≤ most port 5 7 → Later port n t) ⌝ }
+    ensures { λ t. ⌜ Keeps ((q : Sequence) (port : Port) → restThen q port t ≡ kinded q port c bx) ((port : Port) (n : ℕ) → n + attempts port ≤ most port 5 7 → Later port n t) ⌝ }
 {
     match class::coded(c, bx) {
         Coded::Known(kind) => found(c, kind),
@@ -144,8 +143,7 @@ fn kinded(c: Codes, bx: bool) -> Then
 }
 
 fn after_cable(c: Codes) -> Then
-    ensures { λ t. ⌜ ((port : Port) → onward port t ≡ classify port 3 c) ⌝ }
-    ensures { λ t. ⌜ ((port : Port) → Later port (most port 5 3) t) ⌝ }
+    ensures { λ t. ⌜ Keeps ((q : Sequence) (port : Port) → restThen q port t ≡ classify q port 3 c) ((port : Port) → Later port (most port 5 3) t) ⌝ }
 {
     if class::asks_rate(c) {
         return Then::Request(Place::Rate(c));
@@ -154,8 +152,7 @@ fn after_cable(c: Codes) -> Then
 }
 
 fn after_rate(c: Codes, v: u8) -> Then
-    ensures { λ t. ⌜ ((port : Port) → onward port t ≡ onAt port (Place.Rate c) v) ⌝ }
-    ensures { λ t. ⌜ ((port : Port) → Later port (most port 5 4) t) ⌝ }
+    ensures { λ t. ⌜ Keeps ((q : Sequence) (port : Port) → restThen q port t ≡ onAt q port (Place.Rate c) v) ((port : Port) → Later port (most port 5 4) t) ⌝ }
 {
     if v == class::RATE {
         return Then::Request(Place::Km(c));
@@ -164,15 +161,13 @@ fn after_rate(c: Codes, v: u8) -> Then
 }
 
 fn qsfp_found(g10: u8, g1: u8, kind: Kind) -> Then
-    ensures { λ t. ⌜ ((port : Port) → onward port t ≡ qsfpFound g10 g1 kind) ⌝ }
-    ensures { λ t. ⌜ ((port : Port) (n : ℕ) → Later port n t) ⌝ }
+    ensures { λ t. ⌜ Keeps ((q : Sequence) (port : Port) → restThen q port t ≡ qsfpFound g10 g1 kind) ((port : Port) (n : ℕ) → Later port n t) ⌝ }
 {
     Then::Found(sfp::qsfp::qsfp_recorded(g10, g1, kind))
 }
 
 fn after_qsfp_identifier(v: u8) -> Then
-    ensures { λ t. ⌜ ((port : Port) → onward port t ≡ qsfpIdentified port v) ⌝ }
-    ensures { λ t. ⌜ ((port : Port) → Later port (most port 1 0) t) ⌝ }
+    ensures { λ t. ⌜ Keeps ((q : Sequence) (port : Port) → restThen q port t ≡ qsfpIdentified q port v) ((port : Port) → Later port (most port 1 0) t) ⌝ }
 {
     if v == sfp::qsfp::QSFP {
         return Then::Request(Place::Qsfp10g);
@@ -181,8 +176,7 @@ fn after_qsfp_identifier(v: u8) -> Then
 }
 
 fn qsfp_codes(g10: u8, g1: u8) -> Then
-    ensures { λ t. ⌜ ((port : Port) → onward port t ≡ qsfpClassify port g10 g1) ⌝ }
-    ensures { λ t. ⌜ ((port : Port) → Later port (most port 1 2) t) ⌝ }
+    ensures { λ t. ⌜ Keeps ((q : Sequence) (port : Port) → restThen q port t ≡ qsfpClassify q port g10 g1) ((port : Port) → Later port (most port 1 2) t) ⌝ }
 {
     match sfp::qsfp::coded(g10) {
         Coded::Known(kind) => qsfp_found(g10, g1, kind),
@@ -191,8 +185,7 @@ fn qsfp_codes(g10: u8, g1: u8) -> Then
 }
 
 fn after_connector(g10: u8, g1: u8, v: u8) -> Then
-    ensures { λ t. ⌜ ((port : Port) → onward port t ≡ onAt port (Place.QsfpConnector g10 g1) v) ⌝ }
-    ensures { λ t. ⌜ ((port : Port) → Later port (most port 1 3) t) ⌝ }
+    ensures { λ t. ⌜ Keeps ((q : Sequence) (port : Port) → restThen q port t ≡ onAt q port (Place.QsfpConnector g10 g1) v) ((port : Port) → Later port (most port 1 3) t) ⌝ }
 {
     if sfp::qsfp::fixed(v) {
         return Then::Request(Place::QsfpLength(g10, g1));
@@ -201,8 +194,7 @@ fn after_connector(g10: u8, g1: u8, v: u8) -> Then
 }
 
 fn after_length(g10: u8, g1: u8, v: u8) -> Then
-    ensures { λ t. ⌜ ((port : Port) → onward port t ≡ onAt port (Place.QsfpLength g10 g1) v) ⌝ }
-    ensures { λ t. ⌜ ((port : Port) → Later port (most port 1 4) t) ⌝ }
+    ensures { λ t. ⌜ Keeps ((q : Sequence) (port : Port) → restThen q port t ≡ onAt q port (Place.QsfpLength g10 g1) v) ((port : Port) → Later port (most port 1 4) t) ⌝ }
 {
     if sfp::qsfp::measured(v) {
         return Then::Request(Place::QsfpTechnology(g10, g1));
@@ -211,16 +203,14 @@ fn after_length(g10: u8, g1: u8, v: u8) -> Then
 }
 
 fn after_technology(g10: u8, g1: u8, v: u8) -> Then
-    ensures { λ t. ⌜ ((port : Port) → onward port t ≡ onAt port (Place.QsfpTechnology g10 g1) v) ⌝ }
-    ensures { λ t. ⌜ ((port : Port) (n : ℕ) → Later port n t) ⌝ }
+    ensures { λ t. ⌜ Keeps ((q : Sequence) (port : Port) → restThen q port t ≡ onAt q port (Place.QsfpTechnology g10 g1) v) ((port : Port) (n : ℕ) → Later port n t) ⌝ }
 {
     qsfp_found(g10, g1, sfp::qsfp::cable_of(v))
 }
 
 // A byte was read.
 fn on(p: Place, v: u8) -> Then
-    ensures { λ t. ⌜ ((port : Port) → onward port t ≡ onAt port p v) ⌝ }
-    ensures { λ t. ⌜ ((port : Port) → validPlace p ≡ true → Later port (capAt port p) t) ⌝ }
+    ensures { λ t. ⌜ Keeps ((q : Sequence) (port : Port) → restThen q port t ≡ onAt q port p v) ((port : Port) → validPlace p ≡ true → Later port (capAt port p) t) ⌝ }
 {
     match p {
         Place::Identifier(left) => after_identifier(left, v),
@@ -242,8 +232,7 @@ fn on(p: Place, v: u8) -> Then
 
 // Nothing answered; any other failure ends the call.
 fn failed(e: Error) -> Then
-    ensures { λ t. ⌜ ((port : Port) (p : Place) → onward port t ≡ orAbsent (onAt port p) (Err e)) ⌝ }
-    ensures { λ t. ⌜ ((port : Port) (n : ℕ) → Later port n t) ⌝ }
+    ensures { λ t. ⌜ Keeps ((q : Sequence) (port : Port) (p : Place) → restThen q port t ≡ orAbsent (onAt q port p) (Err e)) ((port : Port) (n : ℕ) → Later port n t) ⌝ }
 {
     if bus::is_i2c(e) {
         return Then::Found(sfp::methods::absent());
@@ -253,8 +242,7 @@ fn failed(e: Error) -> Then
 
 // A request has ended.
 pub fn after(p: Place, g: Got) -> Then
-    ensures { λ t. ⌜ ((port : Port) → onward port t ≡ toldAt port p (got g)) ⌝ }
-    ensures { λ t. ⌜ ((port : Port) → validPlace p ≡ true → Later port (capAt port p) t) ⌝ }
+    ensures { λ t. ⌜ Keeps ((q : Sequence) (port : Port) → restThen q port t ≡ toldAt q port p (got g)) ((port : Port) → validPlace p ≡ true → Later port (capAt port p) t) ⌝ }
 {
     match g {
         Got::Ok(t) => on(p, t.last),

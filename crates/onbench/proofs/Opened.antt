@@ -4,37 +4,39 @@ use mathlib.Core.Path.{_≡_, ap, _∙_, sym, subst, subst⁻¹}
 use mathlib.Core.List.{List}
 use mathlib.Core.Logic.{_⊎_, ⊎-elim}
 use lib.ListN.{length}
+use Rattle.i2c.specs.I2c.{standard}
 use Rattle.hardware.specs.declared.Answer.{Answer}
 use Rattle.hardware.specs.declared.Port.{Port}
 use Rattle.hardware.specs.Asked.{yes, andThen, openPort}
-use Rattle.hardware.specs.Prog.{R, Counted, tally}
+use Rattle.hardware.specs.Prog.{R, Counted, tally, blank}
 use Rattle.bus.specs.Layout.{layoutOf}
+use Rattle.wire.specs.Run.{listed, awaited, Outcome, Finished, asked}
 use Rattle.bench.specs.declared.Bench.{Bench}
-use Rattle.sfp.specs.declared.Module.{Module}
+use Rattle.bench.specs.Register.{side}
+use Rattle.sfp.specs.declared.Identity.{Identity}
 use Rattle.sfp.specs.Identify.{identify}
 use Rattle.sfp.proofs.Ends.{IDENTIFY-STEPS}
 use Rattle.identify.specs.declared.calls.IdentifyTold.{IdentifyTold}
 use Rattle.identify.specs.Calls.{openIdentify, saidIdentify}
 use Rattle.demand.specs.Claim.{Starts, Premises}
-use Rattle.demand.specs.Ran.{Ran, Came, ran, Demand3}
-use Rattle.demand.proofs.Ran.{demand-3-ended, demand-3}
-use Rattle.onbench.specs.Run.{toldRan}
+use Rattle.demand.specs.Library.{identifyRun, Demand3}
+use Rattle.demand.proofs.Library.{demand-3-ended, demand-3}
 
 module _ (family device lan : ℕ) (t : IdentifyTold) (promised : saidIdentify t ≡ openIdentify family device lan)
     (port : Port) (opened : yes port ≡ openPort family device lan) (b : Bench) (word : ℕ) (answers : List Answer) where
   -- what was told, run on the bench
-  abbrev pub run : Ran (Counted (R Module))
-  run = toldRan (layoutOf (port .family)) (saidIdentify t) (record { word = word; other = b }) answers
+  abbrev pub run : Outcome side (Counted (R Identity))
+  run = asked (layoutOf (port .family)) side (awaited listed) (saidIdentify t) (record { word = word; other = b }) answers
 
-  plain : run ≡ ran (layoutOf (port .family)) (tally 0 (identify port)) (record { word = word; other = b }) answers
-  unfolding openIdentify andThen toldRan
+  plain : run ≡ identifyRun listed (yes port) (record { word = word; other = b }) answers
+  unfolding openIdentify andThen asked identifyRun
   plain =
-      ap (λ s. toldRan (layoutOf (port .family)) s (record { word = word; other = b }) answers)
-      (promised ∙ ap (λ o. andThen o (λ p. yes (tally 0 (identify p)))) (sym opened))
+      ap (λ s. asked (layoutOf (port .family)) side (awaited listed) s (record { word = word; other = b }) answers)
+      (promised ∙ ap (λ o. andThen o (λ p. yes (tally blank (identify standard p)))) (sym opened))
 
   -- for every list that meets the premises and on which the call comes to its end, as it does on every one that is long enough
-  pub opening-demand-3 : Starts port b word → Premises port b word answers → Came run ⊎ (IDENTIFY-STEPS (port .family) ≤ length answers)
+  pub opening-demand-3 : Starts port b word → Premises port b word answers → Finished run ⊎ (IDENTIFY-STEPS (port .family) ≤ length answers)
       → Demand3 port b word answers run
   opening-demand-3 s m =
-      ⊎-elim (λ c. subst⁻¹ (Demand3 port b word answers) plain (demand-3-ended port b word answers s m (subst Came plain c)))
+      ⊎-elim (λ c. subst⁻¹ (Demand3 port b word answers) plain (demand-3-ended port b word answers s m (subst Finished plain c)))
       (λ n. subst⁻¹ (Demand3 port b word answers) plain (demand-3 port b word answers s m n))

@@ -8,6 +8,7 @@ use native.Mathlib.Omega.{arith}
 use lib.Dec.{eqb, lit<}
 use lib.ListN.{length, length-map}
 use borrow.Author.Tests.{lt-ltb}
+use Rattle.i2c.specs.I2c.{standard}
 use Rattle.hardware.specs.declared.Access.{Access}
 use Rattle.hardware.specs.declared.Access.the-variants.{Read, Write, Wait}
 use Rattle.hardware.specs.declared.Answer.{Answer}
@@ -17,14 +18,14 @@ use Rattle.hardware.specs.Prog.{Prog, ret, ask, note, give, pick}
 use Rattle.hardware.specs.Registers.{ESDP}
 use Rattle.bus.specs.declared.Layout.{Layout}
 use Rattle.bus.specs.Layout.{layoutOf}
-use Rattle.wire.specs.Always.{World, wrote, reading, noted}
+use Rattle.wire.specs.Machine.{Side, World, modelled, noted}
+use Rattle.wire.specs.Run.{fixed, fed, run, answersIn}
 use Rattle.bench.specs.declared.Bench.{Bench}
 use Rattle.bench.specs.AtOnce.{atOnce, atOnceAt}
 use Rattle.sfp.specs.Identify.{identify}
 use Rattle.sfp.proofs.Ends.{IDENTIFY-STEPS}
-use Rattle.demand.specs.Fine.{names}
 use Rattle.demand.specs.Claim.{machine, atStart, Premises}
-use Rattle.demand.proofs.Possible.{playedAt, played, dones, promptAnswers, at-once-meets, at-once-long}
+use Rattle.demand.proofs.Possible.{dones, prompt, promptAnswers, at-once-meets, at-once-long}
 use Rattle.onbench.specs.Run.{decoded, decodedAll}
 
 -- an answer as a number; its value has 32 bits
@@ -71,22 +72,20 @@ at-once-plain (Read r) = by (eqb r 0x10140 || eqb r ESDP)
 at-once-plain (Write r v) = tt
 at-once-plain (Wait n) = tt
 
-module _ (l : Layout) {A : Type 0} where
-  plain-at : (x : Access) (b : Bool) (f : Answer → Prog A) (w : World machine) → names (l .reg) x ≡ b
-      → ((a : Answer) (w′ : World machine) → AllPlain (played l (f a) w′)) → AllPlain (played l (ask x f) w)
-  unfolding played playedAt names pick
-  plain-at (Read r) true f w e h = rw e (h (Value (reading l machine w)) w)
-  plain-at (Read r) false f w e h = rw e (at-once-plain (Read r), h (atOnce (Read r)) w)
-  plain-at (Write r v) true f w e h = rw e (h Done (wrote l machine v w))
-  plain-at (Write r v) false f w e h = rw e (at-once-plain (Write r v), h (atOnce (Write r v)) w)
-  plain-at (Wait n) b f w e h = (at-once-plain (Wait n), h (atOnce (Wait n)) w)
+module _ (l : Layout) (o : Side) {A : Type 0} where
+  plain-at : (x : Access) (b : Bool) (f : Answer → Prog A) (w : World o) (answers : List Answer) → modelled l x ≡ b
+      → ((a : Answer) (w′ : World o) (rest : List Answer) → AllPlain (answersIn (run l o (fixed atOnce) (f a) w′ rest .trace)))
+      → AllPlain (answersIn (run l o (fixed atOnce) (ask x f) w answers .trace))
+  unfolding run pick fixed fed answersIn
+  plain-at x true f w answers e h = rw e (h _ _ _)
+  plain-at x false f w answers e h = rw e (at-once-plain x, h _ _ _)
 
-  played-plain : (p : Prog A) (w : World machine) → AllPlain (played l p w)
-  unfolding played
-  played-plain (ret a) w = tt
-  played-plain (ask x f) w = plain-at x (names (l .reg) x) f w refl (λ a w′. played-plain (f a) w′)
-  played-plain (note k p) w = played-plain p (noted machine k w)
-  played-plain (give b p) w = played-plain p w
+  run-plain : (p : Prog A) (w : World o) (answers : List Answer) → AllPlain (answersIn (run l o (fixed atOnce) p w answers .trace))
+  unfolding run answersIn
+  run-plain (ret a) w answers = tt
+  run-plain (ask x f) w answers = plain-at x (modelled l x) f w answers refl (λ a w′ rest. run-plain (f a) w′ rest)
+  run-plain (note k p) w answers = run-plain p (noted o k w) answers
+  run-plain (give b p) w answers = run-plain p w answers
 
 -- each fits the type of what is lent
 abbrev pub Lendable : List ℕ → Type 0
@@ -106,7 +105,7 @@ lendable (a ∷ l) h = (encoded-fits a (h .0), lendable l (h .1))
 pub possible-lent : (port : Port) (b : Bench) (word : ℕ)
     → (ns : List ℕ) × Lendable ns × Premises port b word (decodedAll ns) × (IDENTIFY-STEPS (port .family) ≤ length ns)
 possible-lent port b word =
-    let plain = plain-append (played (layoutOf (port .family)) (identify port) (atStart word b)) (dones (IDENTIFY-STEPS (port .family))) (played-plain (layoutOf (port .family)) (identify port) (atStart word b)) (plain-dones (IDENTIFY-STEPS (port .family))) in (
+    let plain = plain-append (answersIn (prompt port b word .trace)) (dones (IDENTIFY-STEPS (port .family))) (run-plain (layoutOf (port .family)) machine (identify standard port) (atStart word b) []) (plain-dones (IDENTIFY-STEPS (port .family))) in (
       map encoded (promptAnswers port b word),
       lendable (promptAnswers port b word) plain,
       subst⁻¹ (Premises port b word) (decoded-all (promptAnswers port b word) plain) (at-once-meets port b word),

@@ -1,8 +1,10 @@
-// The whole call of `identify`, from its opening to its end, with the bench module and lent answers to all other accesses.
-use bench::register::Desk;
+// The whole call of `identify`, from its opening to its end, with the bench module. The answers to all other accesses are
+// lent, or fixed ones with which every lock and grant comes at once.
+use bench::register::BenchState;
 use hardware::Access;
 use hardware::Answer;
 use hardware::Family;
+use hardware::Meter;
 use hardware::Opening;
 use hardware::Refusal;
 use identify::calls::IdentifyCall;
@@ -11,44 +13,58 @@ use identify::walk::Identified;
 ghost use Prim.Native.Nat.{ℕ, _<_, _≤_};
 ghost use mathlib.Core.Path.{_≡_};
 ghost use mathlib.Core.Bool.{true, false};
+ghost use mathlib.Core.List.{[]};
 ghost use mathlib.Core.Logic.{_⊎_};
-ghost use lib.ListN.{length, getD};
+ghost use lib.ListN.{length, getD, drop};
 ghost use Rattle.hardware.specs.declared.Port.{Port};
 ghost use Rattle.hardware.specs.Asked.{yes, openPort};
 ghost use Rattle.bus.specs.Layout.{layoutOf};
 ghost use Rattle.wire.specs.Lines.{ready};
+ghost use Rattle.wire.specs.Run.{listed, fixed, Finished};
+ghost use Rattle.bench.specs.AtOnce.{atOnce};
 ghost use Rattle.bench.specs.Register.{world};
 ghost use Rattle.sfp.proofs.Ends.{IDENTIFY-STEPS};
-ghost use Rattle.demand.specs.Claim.{Premises};
-ghost use Rattle.demand.specs.Ran.{Came, ranIdentify, Demand3};
-ghost use Rattle.onbench.specs.Run.{decoded, decodedAll, ranOf, leftOf, stopsAt, Moved, Bounded};
 ghost use Rattle.identify.specs.Calls.{saidIdentify, standsIdentify};
+ghost use Rattle.demand.specs.Claim.{Premises};
+ghost use Rattle.demand.specs.Library.{identifyRun, Demand3, Demand3AtOnce};
+ghost use Rattle.onbench.specs.Run.{decoded, decodedAll, sourceOf, nextOf, outcomeOf, leftOf, stopsAt, Moves, Bounded};
 
-pub mod granted;
-
-// How a run ended: with the call's result and the transfers made, for want of answers, or by a refusal.
+// How a run ended: with the call's result and the meter, for want of answers, or by a refusal.
 pub enum How {
-    Ended(Identified, u32),
-    Lacked,
+    Ended(Identified, Meter),
+    Short,
     Stopped(Refusal),
 }
 
 // I2CCTL and the module at the end.
 pub struct Run {
     pub how: How,
-    pub desk: Desk,
+    pub state: BenchState,
 }
 
-// at: the answers used so far. over: there is nothing more to do.
-pub struct Stand {
+// Where the answers to accesses other than I2CCTL's come from: they are lent, or fixed so that every lock and grant comes at
+// once.
+pub enum Origin {
+    Lent,
+    AtOnce,
+}
+
+// An answer and how many of the lent ones are then used, or none is left.
+pub enum Next {
+    Given(Answer, usize),
+    Nothing,
+}
+
+// used: so many of the answers lent. over: there is nothing more to do.
+pub struct Progress {
     pub told: IdentifyTold,
-    pub desk: Desk,
-    pub at: usize,
+    pub state: BenchState,
+    pub used: usize,
     pub over: bool,
 }
 
 // No identification has more accesses.
-pub(crate) const MOST: u64 = 1_600_450_488;
+const MOST_ACCESSES: u64 = 1_600_450_488;
 
 // A number below 2^32 is a value that was read, 2^32 a write or a wait that is done, and any other a failed access.
 pub fn decode(n: u64) -> Answer
@@ -63,136 +79,179 @@ pub fn decode(n: u64) -> Answer
     Answer::Failed
 }
 
+fn next_answer(origin: Origin, x: Access, used: usize, answers: &[u64]) -> Next
+    ensures { λ r. ⌜ nextOf (now (answers .entry)) r ≡ sourceOf origin x (decodedAll (drop used (now (answers .entry)))) ⌝ }
+{
+    match origin {
+        Origin::Lent => {
+            if used < answers.len() {
+                return Next::Given(decode(answers[used]), used + 1);
+            }
+            Next::Nothing
+        }
+        Origin::AtOnce => Next::Given(bench::at_once::at_once(x), used),
+    }
+}
+
 // The access is I2CCTL's, and the module answers it; or it gets the next answer, if there is one.
-fn visit(family: Family, x: Access, c: IdentifyCall, d: Desk, at: usize, answers: &[u64]) -> Stand
-    ensures { λ s. ⌜ Moved (leftOf (layoutOf family) (now (answers .entry))) (record { told = IdentifyTold.Ask x c; desk = d; at = at; over = false }) s ⌝ }
+fn visit(
+    family: Family,
+    origin: Origin,
+    x: Access,
+    c: IdentifyCall,
+    d: BenchState,
+    used: usize,
+    answers: &[u64],
+) -> Progress
+    ensures { λ t. ⌜ Moves (leftOf (layoutOf family) origin (now (answers .entry))) (record { told = IdentifyTold.Ask x c; state = d; used = used; over = false }) t ⌝ }
 {
     let r = bench::register::access(family, d, x);
-    let after = r.desk;
+    let after = r.state;
     let answer = r.answer;
     if r.here {
-        return Stand {
+        return Progress {
             told: identify::calls::identify_step(c, answer),
-            desk: after,
-            at,
+            state: after,
+            used,
             over: false,
         };
     }
-    if at < answers.len() {
-        return Stand {
-            told: identify::calls::identify_step(c, decode(answers[at])),
-            desk: d,
-            at: at + 1,
+    match next_answer(origin, x, used, answers) {
+        Next::Given(a, then) => Progress {
+            told: identify::calls::identify_step(c, a),
+            state: d,
+            used: then,
             over: false,
-        };
-    }
-    Stand {
-        told: IdentifyTold::Ask(x, c),
-        desk: d,
-        at,
-        over: true,
+        },
+        Next::Nothing => Progress {
+            told: IdentifyTold::Ask(x, c),
+            state: d,
+            used,
+            over: true,
+        },
     }
 }
 
-fn one(family: Family, s: Stand, answers: &[u64]) -> Stand
-    ensures { λ t. ⌜ (s .over ≡ false → Moved (leftOf (layoutOf family) (now (answers .entry))) s t) ⌝ }
+fn one(family: Family, origin: Origin, s: Progress, answers: &[u64]) -> Progress
+    ensures { λ t. ⌜ (s .over ≡ false → Moves (leftOf (layoutOf family) origin (now (answers .entry))) s t) ⌝ }
 {
     let told = s.told;
-    let d = s.desk;
-    let at = s.at;
+    let d = s.state;
+    let used = s.used;
     match told {
-        IdentifyTold::Ask(x, c) => visit(family, x, c, d, at, answers),
-        IdentifyTold::End(f, made) => Stand {
-            told: IdentifyTold::End(f, made),
-            desk: d,
-            at,
+        IdentifyTold::Ask(x, c) => visit(family, origin, x, c, d, used, answers),
+        IdentifyTold::End(f, m) => Progress {
+            told: IdentifyTold::End(f, m),
+            state: d,
+            used,
             over: true,
         },
-        IdentifyTold::Refused(q) => Stand {
+        IdentifyTold::Refused(q) => Progress {
             told: IdentifyTold::Refused(q),
-            desk: d,
-            at,
+            state: d,
+            used,
             over: true,
         },
     }
 }
 
-pub(crate) fn finish(s: Stand) -> Run
-    ensures { λ r. ⌜ ranOf r ≡ stopsAt (s .told) (world (s .desk)) ⌝ }
+fn finish(s: Progress) -> Run
+    ensures { λ r. ⌜ outcomeOf r ≡ stopsAt (s .told) (world (s .state)) ⌝ }
 {
     let told = s.told;
-    let d = s.desk;
+    let d = s.state;
     match told {
         IdentifyTold::Ask(_, _) => Run {
-            how: How::Lacked,
-            desk: d,
+            how: How::Short,
+            state: d,
         },
-        IdentifyTold::End(f, made) => Run {
-            how: How::Ended(f, made),
-            desk: d,
+        IdentifyTold::End(f, m) => Run {
+            how: How::Ended(f, m),
+            state: d,
         },
         IdentifyTold::Refused(q) => Run {
             how: How::Stopped(q),
-            desk: d,
+            state: d,
         },
     }
 }
 
-fn play(family: Family, told: IdentifyTold, d: Desk, answers: &[u64]) -> Run
-    ensures { λ r. ⌜ (standsIdentify told → Bounded (saidIdentify told) 1600450488 → ranOf r ≡ leftOf (layoutOf family) (now (answers .entry)) (record { told = told; desk = d; at = 0; over = false })) ⌝ }
+fn play(family: Family, origin: Origin, told: IdentifyTold, d: BenchState, answers: &[u64]) -> Run
+    ensures { λ r. ⌜ (standsIdentify told → Bounded (saidIdentify told) 1600450488 → outcomeOf r ≡ leftOf (layoutOf family) origin (now (answers .entry)) (record { told = told; state = d; used = 0; over = false })) ⌝ }
 {
-    let mut s = Stand {
+    let mut s = Progress {
         told,
-        desk: d,
-        at: 0,
+        state: d,
+        used: 0,
         over: false,
     };
-    let mut left = MOST;
+    let mut left = MOST_ACCESSES;
     while 0 < left {
         if s.over {
             return finish(s);
         }
-        s = one(family, s, answers);
+        s = one(family, origin, s, answers);
         left -= 1;
     }
     finish(s)
 }
 
-fn length(page: &[u8]) -> usize
+// The call from its opening on; a refused opening alters nothing.
+fn from_opening(
+    family: u32,
+    device: u16,
+    lan: u32,
+    d: BenchState,
+    origin: Origin,
+    answers: &[u64],
+) -> Run
+    ensures { λ r. ⌜ outcomeOf r ≡ identifyRun (sourceOf origin) (openPort family device lan) (world d) (decodedAll (now (answers .entry))) ⌝ }
+{
+    match hardware::open_port(family, device, lan) {
+        Opening::Port(p) => {
+            let f = p.family;
+            let told = identify::calls::identify_open(family, device, lan);
+            play(f, origin, told, d, answers)
+        }
+        Opening::Refused(q) => Run {
+            how: How::Stopped(q),
+            state: d,
+        },
+    }
+}
+
+fn size(page: &[u8]) -> usize
     ensures { λ n. ⌜ n ≡ length (now (page .entry)) ⌝ }
 {
     page.len()
 }
 
 // Each byte of a page is below 256, as its type says; the claim needs it said.
-pub(crate) fn bytes(page: &[u8]) -> usize
+fn bytes(page: &[u8]) -> usize
     ensures { λ l. ⌜ l ≡ length (now (page .entry)) ⌝ }
     ensures { λ _. ⌜ ((n : ℕ) → getD (now (page .entry)) n 0 < 256) ⌝ }
 {
-    length(page)
+    size(page)
 }
 
 // Demand 3 of the call: what it comes to for every list of answers, and the claim where they meet the premises and it
 // comes to its end, as it does over every list that is long enough.
-pub fn identify_on_bench(family: u32, device: u16, lan: u32, d: Desk, answers: &[u64]) -> Run
-    ensures { λ r. ⌜ ranOf r ≡ ranIdentify (openPort family device lan) (world d) (decodedAll (now (answers .entry))) ⌝ }
-    ensures { λ r. ⌜ ((port : Port) → yes port ≡ openPort family device lan → ready (layoutOf (port .family)) (d .word) ≡ true → Premises port (d .bench) (d .word) (decodedAll (now (answers .entry))) → Came (ranOf r) ⊎ (IDENTIFY-STEPS (port .family) ≤ length (now (answers .entry))) → Demand3 port (d .bench) (d .word) (decodedAll (now (answers .entry))) (ranOf r)) ⌝ }
+pub fn identify_on_bench(family: u32, device: u16, lan: u32, d: BenchState, answers: &[u64]) -> Run
+    ensures { λ r. ⌜ outcomeOf r ≡ identifyRun listed (openPort family device lan) (world d) (decodedAll (now (answers .entry))) ⌝ }
+    ensures { λ r. ⌜ ((port : Port) → yes port ≡ openPort family device lan → ready (layoutOf (port .family)) (d .word) ≡ true → Premises port (d .bench) (d .word) (decodedAll (now (answers .entry))) → Finished (outcomeOf r) ⊎ (IDENTIFY-STEPS (port .family) ≤ length (now (answers .entry))) → Demand3 port (d .bench) (d .word) (decodedAll (now (answers .entry))) (outcomeOf r)) ⌝ }
 {
     let page = d.bench.a0.bytes;
     bytes(&page);
-    match hardware::open_port(family, device, lan) {
-        Opening::Port(p) => {
-            let f = p.family;
-            play(
-                f,
-                identify::calls::identify_open(family, device, lan),
-                d,
-                answers,
-            )
-        }
-        Opening::Refused(q) => Run {
-            how: How::Stopped(q),
-            desk: d,
-        },
-    }
+    from_opening(family, device, lan, d, Origin::Lent, answers)
+}
+
+// Demand 3 of the call where every lock and grant comes at once: no answers are lent.
+pub fn identify_at_once(family: u32, device: u16, lan: u32, d: BenchState) -> Run
+    ensures { λ r. ⌜ outcomeOf r ≡ identifyRun (fixed atOnce) (openPort family device lan) (world d) [] ⌝ }
+    ensures { λ r. ⌜ ((port : Port) → yes port ≡ openPort family device lan → ready (layoutOf (port .family)) (d .word) ≡ true → Demand3AtOnce port (d .bench) (d .word) (outcomeOf r)) ⌝ }
+{
+    let page = d.bench.a0.bytes;
+    bytes(&page);
+    let none: [u64; 0] = [];
+    from_opening(family, device, lan, d, Origin::AtOnce, &none)
 }

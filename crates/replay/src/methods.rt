@@ -5,6 +5,7 @@ use crate::host::Host;
 use crate::plain;
 use hardware::Opening;
 use hardware::Port;
+use sfp::Identity;
 use sfp::Kind;
 use sfp::Module;
 use sfp::methods::Key;
@@ -29,10 +30,10 @@ fn byte(v: u32) -> u8 {
     (v % 256) as u8
 }
 
-// The record of a kind, with 256 for multispeed, and of its bytes, the identifier lowest.
-fn module(class: u32, bytes: u32) -> Module {
+// By a kind, with 256 for multispeed, and the bytes, the identifier lowest.
+fn identity(class: u32, bytes: u32) -> Identity {
     let kind = kind(class % 256);
-    Module {
+    Identity {
         kind,
         multispeed: 256 <= class,
         identifier: byte(bytes),
@@ -40,6 +41,10 @@ fn module(class: u32, bytes: u32) -> Module {
         comp1g: byte(bytes / 65536),
         cable: byte(bytes / 16777216),
     }
+}
+
+fn module(class: u32, bytes: u32) -> Module {
+    sfp::methods::record(identity(class, bytes))
 }
 
 fn of_bool(h: Host, b: bool) -> Ran {

@@ -6,11 +6,11 @@ use crate::host::Host;
 use hardware::Flag;
 use identify::calls::IdentifyTold;
 use identify::walk::Identified;
-use sfp::Module;
+use sfp::Identity;
 use softrate::calls::RateTold;
 
 // The kind's number, with 256 for multispeed.
-fn class(m: Module) -> u32 {
+fn class(m: Identity) -> u32 {
     let k = m.kind;
     let n = sfp::number(k) as u32;
     if m.multispeed {
@@ -20,7 +20,7 @@ fn class(m: Module) -> u32 {
 }
 
 // The record's bytes, the identifier lowest.
-fn bytes(m: Module) -> u32 {
+fn bytes(m: Identity) -> u32 {
     let low = m.identifier as u32 | m.comp10g as u32 * 256;
     low | m.comp1g as u32 * 65536 | m.cable as u32 * 16777216
 }
@@ -49,7 +49,7 @@ fn run(h: Host, first: IdentifyTold) -> Ran {
                 host = p.host;
                 told = identify::calls::identify_step(s, a);
             }
-            IdentifyTold::End(i, made) => return ended(host, i, made),
+            IdentifyTold::End(i, m) => return ended(host, i, m.transfers),
             IdentifyTold::Refused(_) => return calls::unended(host),
         }
         left -= 1;
@@ -75,7 +75,7 @@ fn select(h: Host, first: RateTold) -> Ran {
                 host = p.host;
                 told = softrate::calls::soft_rate_select_step(s, a);
             }
-            RateTold::End(f, made) => return selected(host, f, made),
+            RateTold::End(f, m) => return selected(host, f, m.transfers),
             RateTold::Refused(_) => return calls::unended(host),
         }
         left -= 1;

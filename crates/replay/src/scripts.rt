@@ -56,7 +56,7 @@ fn run(h: Host, family: u32, device: u16, lan: u32, script: &[u8]) -> Ran {
                 host = p.host;
                 told = transfer::calls::script_step(s, script, a);
             }
-            ScriptTold::End(o, made) => return ended(host, o, bytes, made),
+            ScriptTold::End(o, m) => return ended(host, o, bytes, m.transfers),
             ScriptTold::Refused(_) => return calls::unended(host),
         }
         left -= 1;

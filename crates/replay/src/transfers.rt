@@ -42,7 +42,7 @@ fn run(h: Host, first: TransferTold) -> Ran {
                 host = p.host;
                 told = i2c::calls::transfer_step(s, a);
             }
-            TransferTold::End(w, made) => return of_word(host, w, made),
+            TransferTold::End(w, m) => return of_word(host, w, m.transfers),
             TransferTold::Refused(_) => return calls::unended(host),
         }
         left -= 1;

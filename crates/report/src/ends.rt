@@ -1,6 +1,6 @@
 // What the module ends as.
 use bench::receiver::Stage;
-use bench::register::Desk;
+use bench::register::BenchState;
 
 fn at_rest(s: Stage) -> bool {
     match s {
@@ -14,7 +14,7 @@ fn at_rest(s: Stage) -> bool {
     }
 }
 
-pub(crate) fn idle(d: Desk) -> bool {
+pub(crate) fn idle(d: BenchState) -> bool {
     let bench = d.bench;
     let receiver = bench.receiver;
     let stage = receiver.stage;

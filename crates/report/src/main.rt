@@ -22,14 +22,9 @@ fn identified(p: Port, s: Settings, path: &[u8], image: Image) {
     let family = p.family;
     let a0 = image.a0;
     let a2 = image.a2;
-    let before = start::desk(family, s, a0, a2);
+    let before = start::described(family, s, a0, a2);
     let v = s.values;
-    let run = onbench::granted::identify_granted(
-        v[settings::FAMILY],
-        p.device,
-        v[settings::PORT],
-        before,
-    );
+    let run = onbench::identify_at_once(v[settings::FAMILY], p.device, v[settings::PORT], before);
     record::all(path, image, p, before, run);
 }
 

@@ -4,12 +4,12 @@ use crate::print;
 use bench::Bench;
 use bench::Page;
 use bench::receiver::Receiver;
-use bench::register::Desk;
+use bench::register::BenchState;
 use hardware::Port;
 use identify::walk::Identified;
 use onbench::How;
 use onbench::Run;
-use sfp::Module;
+use sfp::Identity;
 ghost use Prim.Native.Nat.{_≤_};
 ghost use lib.ListN.{length};
 
@@ -90,7 +90,7 @@ fn kept(r: Receiver) {
     print::either(r.noted, b", sda high", b", sda low");
 }
 
-fn start(d: Desk) {
+fn start(d: BenchState) {
     let b = d.bench;
     print::text(b"start       ");
     kept(b.receiver);
@@ -110,7 +110,7 @@ fn byte(name: &[u8], b: u8) {
     print::text(b"\n");
 }
 
-fn module(p: Port, m: Module) {
+fn module(p: Port, m: Identity) {
     let k = m.kind;
     let f = p.family;
     print::text(b"kind        ");
@@ -122,7 +122,11 @@ fn module(p: Port, m: Module) {
     byte(b"comp_1g     ", m.comp1g);
     byte(b"cable       ", m.cable);
     print::text(b"supported   ");
-    print::either(sfp::methods::supported(m, f), b"yes\n", b"no\n");
+    print::either(
+        sfp::methods::supported(sfp::methods::record(m), f),
+        b"yes\n",
+        b"no\n",
+    );
 }
 
 fn identified(p: Port, i: Identified) {
@@ -139,18 +143,18 @@ fn identified(p: Port, i: Identified) {
 // Only the first is met: every lock and grant comes, and the port was opened before.
 fn how(p: Port, h: How) {
     match h {
-        How::Ended(i, made) => {
+        How::Ended(i, m) => {
             identified(p, i);
             print::text(b"transfers   ");
-            print::decimal(made as u64);
+            print::decimal(m.transfers as u64);
             print::text(b"\n");
         }
-        How::Lacked => print::text(b"the call did not end\n"),
+        How::Short => print::text(b"the call did not end\n"),
         How::Stopped(_) => print::text(b"the call was refused\n"),
     }
 }
 
-fn end(p: Port, before: Bench, d: Desk) {
+fn end(p: Port, before: Bench, d: BenchState) {
     let after = d.bench;
     let r = after.receiver;
     let f = p.family;
@@ -170,7 +174,7 @@ fn end(p: Port, before: Bench, d: Desk) {
     offsets(after.a0, after.a2);
 }
 
-pub(crate) fn all(path: &[u8], image: Image, p: Port, before: Desk, r: Run) {
+pub(crate) fn all(path: &[u8], image: Image, p: Port, before: BenchState, r: Run) {
     let a0 = image.a0;
     let a2 = image.a2;
     print::text(b"image       ");
@@ -182,5 +186,5 @@ pub(crate) fn all(path: &[u8], image: Image, p: Port, before: Desk, r: Run) {
     start(before);
     let h = r.how;
     how(p, h);
-    end(p, before.bench, r.desk);
+    end(p, before.bench, r.state);
 }

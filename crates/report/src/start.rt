@@ -6,7 +6,7 @@ use bench::Page;
 use bench::receiver::Chosen;
 use bench::receiver::Receiver;
 use bench::receiver::Stage;
-use bench::register::Desk;
+use bench::register::BenchState;
 use hardware::Family;
 ghost use mathlib.Core.Path.{_≡_};
 ghost use mathlib.Core.Bool.{true};
@@ -75,7 +75,12 @@ pub(crate) fn control(family: Family, s: Settings) -> u32 {
 }
 
 // The start that the settings describe, with the image's pages.
-pub(crate) fn desk(family: Family, s: Settings, first: [u8; 256], second: [u8; 256]) -> Desk
+pub(crate) fn described(
+    family: Family,
+    s: Settings,
+    first: [u8; 256],
+    second: [u8; 256],
+) -> BenchState
     ensures { λ r. ⌜ (r .bench .a0 .bytes ≡ first) × (r .bench .a2 .bytes ≡ second) ⌝ }
 {
     let v = s.values;
@@ -89,7 +94,7 @@ pub(crate) fn desk(family: Family, s: Settings, first: [u8; 256], second: [u8; 2
     };
     let receiver = receiver(s);
     let bench = Bench { receiver, a0, a2 };
-    Desk {
+    BenchState {
         word: control(family, s),
         bench,
     }
@@ -118,7 +123,7 @@ fn state_offset(n: u8) -> u8 {
 
 // State n of the table, on a family with both lines released by the driver. In each the bits taken are a0, the page is A0,
 // and data comes next.
-pub(crate) fn state(family: Family, n: u8, first: [u8; 256], second: [u8; 256]) -> Desk
+pub(crate) fn state(family: Family, n: u8, first: [u8; 256], second: [u8; 256]) -> BenchState
     ensures { λ r. ⌜ ready (layoutOf family) (r .word) ≡ true ⌝ }
     ensures { λ r. ⌜ (r .bench .a0 .bytes ≡ first) × (r .bench .a2 .bytes ≡ second) ⌝ }
 {
@@ -138,7 +143,7 @@ pub(crate) fn state(family: Family, n: u8, first: [u8; 256], second: [u8; 256]) 
         bytes: second,
     };
     let bench = Bench { receiver, a0, a2 };
-    Desk {
+    BenchState {
         word: released(family),
         bench,
     }

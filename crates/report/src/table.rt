@@ -6,12 +6,12 @@ use crate::files::Image;
 use crate::files::Size;
 use crate::print;
 use crate::start;
-use bench::register::Desk;
+use bench::register::BenchState;
 use hardware::Family;
 use identify::walk::Identified;
 use onbench::How;
 use onbench::Run;
-use sfp::Module;
+use sfp::Identity;
 use std::num::wrapping_add_u32;
 ghost use Prim.Native.Nat.{_≤_};
 
@@ -28,7 +28,7 @@ const IMAGES: u8 = 14;
 // ended: with a record, after so many transfers.
 pub struct Seen {
     pub ended: bool,
-    pub module: Module,
+    pub module: Identity,
     pub made: u32,
 }
 
@@ -59,23 +59,23 @@ fn identified(i: Identified, made: u32) -> Seen {
 
 fn outcome(h: How) -> Seen {
     match h {
-        How::Ended(i, made) => identified(i, made),
-        How::Lacked => nothing(),
+        How::Ended(i, m) => identified(i, m.transfers),
+        How::Short => nothing(),
         How::Stopped(_) => nothing(),
     }
 }
 
-fn identify(d: Desk) -> Run {
-    onbench::granted::identify_granted(FAMILY_NUMBER, DEVICE, PORT_NUMBER, d)
+fn identify(d: BenchState) -> Run {
+    onbench::identify_at_once(FAMILY_NUMBER, DEVICE, PORT_NUMBER, d)
 }
 
-fn desk(image: Image, n: u8) -> Desk {
+fn state(image: Image, n: u8) -> BenchState {
     let a0 = image.a0;
     let a2 = image.a2;
     start::state(Family::F82599, n, a0, a2)
 }
 
-fn same_class(m: Module, n: Module) -> bool {
+fn same_class(m: Identity, n: Identity) -> bool {
     let one = m.kind;
     let other = n.kind;
     if sfp::same(one, other) {
@@ -85,7 +85,7 @@ fn same_class(m: Module, n: Module) -> bool {
 }
 
 // No byte changed, and at the end Idle with both lines released.
-fn left_alone(before: Desk, after: Desk) -> bool {
+fn left_alone(before: BenchState, after: BenchState) -> bool {
     if bench::same(before.bench, after.bench) {
         if ends::idle(after) {
             return bench::register::released(Family::F82599, after);
@@ -94,7 +94,7 @@ fn left_alone(before: Desk, after: Desk) -> bool {
     false
 }
 
-fn right(idle: Seen, before: Desk, s: Seen, after: Desk) -> bool {
+fn right(idle: Seen, before: BenchState, s: Seen, after: BenchState) -> bool {
     if s.ended {
         if same_class(idle.module, s.module) {
             return left_alone(before, after);
@@ -103,7 +103,7 @@ fn right(idle: Seen, before: Desk, s: Seen, after: Desk) -> bool {
     false
 }
 
-fn longer(idle: Seen, before: Desk, s: Seen) -> bool {
+fn longer(idle: Seen, before: BenchState, s: Seen) -> bool {
     if bench::pulls_low(before.bench) {
         return s.made == wrapping_add_u32(idle.made, 1);
     }
@@ -120,11 +120,11 @@ fn one_if(yes: bool) -> u32
 }
 
 fn counted(t: Tally, idle: Seen, image: Image, n: u8) -> Tally {
-    let before = desk(image, n);
+    let before = state(image, n);
     let r = identify(before);
     let h = r.how;
     let s = outcome(h);
-    if right(idle, before, s, r.desk) {
+    if right(idle, before, s, r.state) {
         return Tally {
             right: wrapping_add_u32(t.right, 1),
             more: wrapping_add_u32(t.more, one_if(longer(idle, before, s))),
@@ -146,26 +146,26 @@ fn byte(b: u8) {
     print::text(b" ");
 }
 
-fn supports(m: Module, f: Family) -> u32
+fn supports(m: Identity, f: Family) -> u32
     ensures { λ r. ⌜ r ≤ 1 ⌝ }
 {
-    one_if(sfp::methods::supported(m, f))
+    one_if(sfp::methods::supported(sfp::methods::record(m), f))
 }
 
-fn support(m: Module) -> u32 {
+fn support(m: Identity) -> u32 {
     let early = supports(m, Family::F82599) + supports(m, Family::X540) + supports(m, Family::X550);
     early + supports(m, Family::X552) + supports(m, Family::X553)
 }
 
-fn family(m: Module, f: Family) {
-    if sfp::methods::supported(m, f) {
+fn family(m: Identity, f: Family) {
+    if sfp::methods::supported(sfp::methods::record(m), f) {
         print::family(f);
         print::text(b" ");
     }
 }
 
 // By name where it is a part of them.
-fn families(m: Module) {
+fn families(m: Identity) {
     match support(m) {
         0 => print::left(b"none", 16),
         5 => print::left(b"all", 16),
@@ -179,7 +179,7 @@ fn families(m: Module) {
     }
 }
 
-fn module(m: Module) {
+fn module(m: Identity) {
     let k = m.kind;
     print::kind(k, 17);
     print::either(m.multispeed, b"y ", b"n ");
@@ -209,7 +209,7 @@ fn counts(idle: Seen, t: Tally) {
 }
 
 fn run(image: Image, n: u8) -> Seen {
-    let r = identify(desk(image, n));
+    let r = identify(state(image, n));
     let h = r.how;
     outcome(h)
 }

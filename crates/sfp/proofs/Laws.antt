@@ -16,7 +16,7 @@ use Rattle.sfp.specs.declared.Coded.the-variants.{Known, Open}
 use Rattle.sfp.specs.declared.Codes.{Codes}
 use Rattle.sfp.specs.declared.Kind.{Kind}
 use Rattle.sfp.specs.declared.Kind.the-variants.{DaCu, DaActiveLimiting, SrLr, Unknown}
-use Rattle.sfp.specs.declared.Module.{Module}
+use Rattle.sfp.specs.declared.Identity.{Identity}
 use Rattle.sfp.specs.Bytes.{sfpBytes, sfpBytesOf, qsfpBytes, qsfpBytesOf, codesOf, codesAskRate}
 use Rattle.sfp.specs.Classes.{Bytes, has, SR, LR, PASSIVE-DA, ACTIVE-DA, LIMITING, asksRate, asksReach, asksActive, bx10g, kindOf, multispeedOf, classOf, requests, qsfpActive, qsfpKindOf, qsfpMultispeedOf, qsfpClassOf}
 use Rattle.sfp.specs.Identify.{fibreOf, recorded}
@@ -116,12 +116,12 @@ qsfp-coded-kind at e =
     by false false false true true false = refl
 
 -- the class in the record of a module with these bytes
-pub recorded-class : {m : Module} {c : Codes} {kind : Kind} (identifier : ℕ) (at : Bytes)
+pub recorded-class : {m : Identity} {c : Codes} {kind : Kind} (identifier : ℕ) (at : Bytes)
     → m ≡ recorded identifier c kind → c ≡ codesOf at → kind ≡ kindOf at → classIn m ≡ record { kind = kindOf at; multispeed = multispeedOf at }
 unfolding recorded multispeedOf
 recorded-class identifier at e f g = ap classIn (e ∙ ap₂ (recorded identifier) f g)
 
-pub qsfp-recorded-class : {m : Module} {kind : Kind} (at : Bytes)
+pub qsfp-recorded-class : {m : Identity} {kind : Kind} (at : Bytes)
     → m ≡ qsfpRecorded (at 0x83) (at 0x86) kind → kind ≡ qsfpKindOf at → classIn m ≡ record { kind = qsfpKindOf at; multispeed = qsfpMultispeedOf at }
 unfolding qsfpRecorded qsfpMultispeedOf
 qsfp-recorded-class at e g = ap classIn (e ∙ ap (qsfpRecorded (at 0x83) (at 0x86)) g)

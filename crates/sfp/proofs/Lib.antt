@@ -1,4 +1,3 @@
 pub mod Ends
 pub mod Laws
-pub mod Asks
 pub mod Finds

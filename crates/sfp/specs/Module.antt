@@ -1,14 +1,20 @@
--- The methods of the Rust's `Module`, by the module's kind.
+-- The record of a module, and the methods of the Rust's `Module`, by the module's kind.
 use Prim.Native.Nat.{ℕ, _+_}
 use mathlib.Core.Bool.{Bool, not, _&&_, _||_}
 use Rattle.hardware.specs.declared.Family.{Family}
 use Rattle.hardware.specs.Prog.{pick}
 use Rattle.bus.specs.Layout.{x550em}
+use Rattle.sfp.specs.declared.Identity.{Identity}
 use Rattle.sfp.specs.declared.Kind.{Kind}
 use Rattle.sfp.specs.declared.Kind.the-variants.{DaCu, Cu1g, Sx1g, Lx1g, Bx1g, Unknown, NotPresent}
+use Rattle.sfp.specs.declared.Module.{Module}
 use Rattle.sfp.specs.declared.methods.Key.{Key}
 use Rattle.sfp.specs.declared.methods.Key.the-variants.{Key as Some, Nothing}
 use Rattle.sfp.specs.Kinds.{is}
+
+-- the record of a module that was identified
+abbrev pub recordOf : Identity → Module
+recordOf identity = record { identity = identity }
 
 -- something answered
 abbrev pub isPresent : Kind → Bool

@@ -4,14 +4,15 @@ use mathlib.Core.Bool.{_&&_, _||_}
 use lib.Dec.{eqb, ltb}
 use Rattle.hardware.specs.declared.Port.{Port}
 use Rattle.hardware.specs.Prog.{Prog, ret, R, Ok, pick}
+use Rattle.transfer.specs.declared.attempt.Sequence.{Sequence}
 use Rattle.i2c.specs.I2c.{attempts}
 use Rattle.sfp.specs.declared.Kind.{Kind}
 use Rattle.sfp.specs.declared.Kind.the-variants.{DaCu, DaActiveLimiting, SrLr, Unknown}
-use Rattle.sfp.specs.declared.Module.{Module}
+use Rattle.sfp.specs.declared.Identity.{Identity}
 use Rattle.sfp.specs.Classes.{has, QSFP, SR, LR, SX, LX}
 use Rattle.sfp.specs.Identify.{byte, other}
 
-unfoldable pub qsfpRecorded : ℕ → ℕ → Kind → Module
+unfoldable pub qsfpRecorded : ℕ → ℕ → Kind → Identity
 qsfpRecorded g10 g1 kind =
     record {
       kind = kind;
@@ -22,33 +23,33 @@ qsfpRecorded g10 g1 kind =
       cable = 0;
     }
 
-abbrev pub qsfpFound : ℕ → ℕ → Kind → Prog (R Module)
+abbrev pub qsfpFound : ℕ → ℕ → Kind → Prog (R Identity)
 qsfpFound g10 g1 kind = ret (Ok (qsfpRecorded g10 g1 kind))
 
 -- byte 93: the transmitter's technology, in its high half
-unfoldable pub qsfpTechnology : ℕ → ℕ → ℕ → Prog (R Module)
+unfoldable pub qsfpTechnology : ℕ → ℕ → ℕ → Prog (R Identity)
 qsfpTechnology g10 g1 v = pick (eqb (v / 16) 0) (qsfpFound g10 g1 DaActiveLimiting) (qsfpFound g10 g1 Unknown)
 
 -- byte 92: the length of the cable
-unfoldable pub qsfpLength : Port → ℕ → ℕ → ℕ → Prog (R Module)
-qsfpLength port g10 g1 v = pick (ltb 0 v) (byte port 0x93 (attempts port) (qsfpTechnology g10 g1)) (qsfpFound g10 g1 Unknown)
+unfoldable pub qsfpLength : Sequence → Port → ℕ → ℕ → ℕ → Prog (R Identity)
+qsfpLength q port g10 g1 v = pick (ltb 0 v) (byte q port 0x93 (attempts port) (qsfpTechnology g10 g1)) (qsfpFound g10 g1 Unknown)
 
 -- byte 82: the connector; 23 is one that cannot be separated
-unfoldable pub qsfpConnector : Port → ℕ → ℕ → ℕ → Prog (R Module)
-qsfpConnector port g10 g1 v = pick (eqb v 0x23) (byte port 0x92 (attempts port) (qsfpLength port g10 g1)) (qsfpFound g10 g1 Unknown)
+unfoldable pub qsfpConnector : Sequence → Port → ℕ → ℕ → ℕ → Prog (R Identity)
+qsfpConnector q port g10 g1 v = pick (eqb v 0x23) (byte q port 0x92 (attempts port) (qsfpLength q port g10 g1)) (qsfpFound g10 g1 Unknown)
 
-unfoldable pub qsfpClassify : Port → ℕ → ℕ → Prog (R Module)
-qsfpClassify port g10 g1 =
+unfoldable pub qsfpClassify : Sequence → Port → ℕ → ℕ → Prog (R Identity)
+qsfpClassify q port g10 g1 =
     pick (has g10 0x08) (qsfpFound g10 g1 DaCu)
     (pick (has g10 0x30) (qsfpFound g10 g1 SrLr)
     (pick (has g10 0x01) (qsfpFound g10 g1 DaActiveLimiting)
-    (byte port 0x82 (attempts port) (qsfpConnector port g10 g1))))
+    (byte q port 0x82 (attempts port) (qsfpConnector q port g10 g1))))
 
-unfoldable pub qsfpKnown : Port → Prog (R Module)
-qsfpKnown port = byte port 0x83 (attempts port) (λ g10. byte port 0x86 (attempts port) (qsfpClassify port g10))
+unfoldable pub qsfpKnown : Sequence → Port → Prog (R Identity)
+qsfpKnown q port = byte q port 0x83 (attempts port) (λ g10. byte q port 0x86 (attempts port) (qsfpClassify q port g10))
 
-unfoldable pub qsfpIdentified : Port → ℕ → Prog (R Module)
-qsfpIdentified port identifier = pick (eqb identifier QSFP) (qsfpKnown port) (ret (Ok (other identifier)))
+unfoldable pub qsfpIdentified : Sequence → Port → ℕ → Prog (R Identity)
+qsfpIdentified q port identifier = pick (eqb identifier QSFP) (qsfpKnown q port) (ret (Ok (other identifier)))
 
-unfoldable pub identifyQsfp : Port → Prog (R Module)
-identifyQsfp port = byte port 0 11 (qsfpIdentified port)
+unfoldable pub identifyQsfp : Sequence → Port → Prog (R Identity)
+identifyQsfp q port = byte q port 0 11 (qsfpIdentified q port)

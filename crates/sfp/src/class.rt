@@ -1,8 +1,8 @@
 // Classes of SFP modules by SFF-8472.
 use crate::Coded;
 use crate::Codes;
+use crate::Identity;
 use crate::Kind;
-use crate::Module;
 use crate::same;
 ghost use mathlib.Core.Path.{_≡_};
 ghost use mathlib.Core.Bool.{_&&_, _||_};
@@ -162,10 +162,10 @@ fn multispeed(c: Codes, kind: Kind) -> bool
     is_cable(kind)
 }
 
-pub fn recorded(identifier: u8, c: Codes, kind: Kind) -> Module
+pub fn recorded(identifier: u8, c: Codes, kind: Kind) -> Identity
     ensures { λ r. ⌜ r ≡ recorded identifier c kind ⌝ }
 {
-    Module {
+    Identity {
         kind,
         multispeed: multispeed(c, kind),
         identifier,

@@ -24,15 +24,20 @@ pub enum Kind {
     NotPresent,
 }
 
-// The record of a module. multispeed: 10G is tried, and then 1G. comp10g, comp1g and cable are bytes 3, 6 and 8 of an SFP; of a
-// QSFP bytes 83 and 86 (hexadecimal) and 0.
-pub struct Module {
+// What identifies a module: all that a call on the bus carries of it. multispeed: 10G is tried, and then 1G. comp10g, comp1g
+// and cable are bytes 3, 6 and 8 of an SFP; of a QSFP bytes 83 and 86 (hexadecimal) and 0.
+pub struct Identity {
     pub kind: Kind,
     pub multispeed: bool,
     pub identifier: u8,
     pub comp10g: u8,
     pub comp1g: u8,
     pub cable: u8,
+}
+
+// The record of a module, built round its identity for the caller (`methods::record`).
+pub struct Module {
+    pub identity: Identity,
 }
 
 // What the codes alone decide: the kind, or that it takes the bytes of an active cable.

@@ -1,11 +1,12 @@
 // The record of a module, and the methods of the Rust's `Module`.
+use crate::Identity;
 use crate::Kind;
 use crate::Module;
 use crate::same;
 use hardware::Family;
 ghost use mathlib.Core.Path.{_≡_};
 ghost use Rattle.sfp.specs.Identify.{absent, other};
-ghost use Rattle.sfp.specs.Module.{isPresent, isOneGig, isLinear, isKnown, isSupported, keyOf};
+ghost use Rattle.sfp.specs.Module.{recordOf, isPresent, isOneGig, isLinear, isKnown, isSupported, keyOf};
 
 // The Rust's `Option<u16>`.
 pub enum Key {
@@ -13,11 +14,18 @@ pub enum Key {
     Nothing,
 }
 
+// The record of a module that was identified.
+pub fn record(identity: Identity) -> Module
+    ensures { λ r. ⌜ r ≡ recordOf identity ⌝ }
+{
+    Module { identity }
+}
+
 // Nothing answered.
-pub fn absent() -> Module
+pub fn absent() -> Identity
     ensures { λ r. ⌜ r ≡ absent ⌝ }
 {
-    Module {
+    Identity {
         kind: Kind::NotPresent,
         multispeed: false,
         identifier: 0,
@@ -28,10 +36,10 @@ pub fn absent() -> Module
 }
 
 // Another identifier than the awaited.
-pub fn other(identifier: u8) -> Module
+pub fn other(identifier: u8) -> Identity
     ensures { λ r. ⌜ r ≡ other identifier ⌝ }
 {
-    Module {
+    Identity {
         kind: Kind::Unknown,
         multispeed: false,
         identifier,
@@ -42,17 +50,19 @@ pub fn other(identifier: u8) -> Module
 }
 
 pub fn present(m: Module) -> bool
-    ensures { λ r. ⌜ r ≡ isPresent (m .kind) ⌝ }
+    ensures { λ r. ⌜ r ≡ isPresent (m .identity .kind) ⌝ }
 {
-    let kind = m.kind;
+    let i = m.identity;
+    let kind = i.kind;
     !same(kind, Kind::NotPresent)
 }
 
 // 1G only.
 pub fn one_gig(m: Module) -> bool
-    ensures { λ r. ⌜ r ≡ isOneGig (m .kind) ⌝ }
+    ensures { λ r. ⌜ r ≡ isOneGig (m .identity .kind) ⌝ }
 {
-    let kind = m.kind;
+    let i = m.identity;
+    let kind = i.kind;
     if same(kind, Kind::Cu1g) {
         return true;
     }
@@ -67,17 +77,19 @@ pub fn one_gig(m: Module) -> bool
 
 // A passive cable.
 pub fn linear(m: Module) -> bool
-    ensures { λ r. ⌜ r ≡ isLinear (m .kind) ⌝ }
+    ensures { λ r. ⌜ r ≡ isLinear (m .identity .kind) ⌝ }
 {
-    let kind = m.kind;
+    let i = m.identity;
+    let kind = i.kind;
     same(kind, Kind::DaCu)
 }
 
 // Something answered, and a rule fits it.
 fn known(m: Module) -> bool
-    ensures { λ r. ⌜ r ≡ isKnown (m .kind) ⌝ }
+    ensures { λ r. ⌜ r ≡ isKnown (m .identity .kind) ⌝ }
 {
-    let kind = m.kind;
+    let i = m.identity;
+    let kind = i.kind;
     if same(kind, Kind::Unknown) {
         return false;
     }
@@ -86,10 +98,11 @@ fn known(m: Module) -> bool
 
 // Whether the family takes the module.
 pub fn supported(m: Module, family: Family) -> bool
-    ensures { λ r. ⌜ r ≡ isSupported (m .kind) family ⌝ }
+    ensures { λ r. ⌜ r ≡ isSupported (m .identity .kind) family ⌝ }
 {
     if known(m) {
-        let kind = m.kind;
+        let i = m.identity;
+        let kind = i.kind;
         if same(kind, Kind::Cu1g) {
             return !bus::x550em(family);
         }
@@ -100,7 +113,7 @@ pub fn supported(m: Module, family: Family) -> bool
 
 // The key of the 82599's NVM sequence for the module on a port.
 pub fn nvm_key(m: Module, lan: u8) -> Key
-    ensures { λ r. ⌜ r ≡ keyOf (m .kind) lan ⌝ }
+    ensures { λ r. ⌜ r ≡ keyOf (m .identity .kind) lan ⌝ }
 {
     let core = lan as u16;
     if known(m) {

@@ -1,7 +1,7 @@
 // Classes of QSFP modules by SFF-8636.
 use crate::Coded;
+use crate::Identity;
 use crate::Kind;
-use crate::Module;
 use crate::class;
 use crate::class::Classed;
 ghost use mathlib.Core.Path.{_≡_};
@@ -35,10 +35,10 @@ fn multispeed(g10: u8, g1: u8) -> bool
     class::both(g1, class::LX, g10, class::LR)
 }
 
-pub fn qsfp_recorded(g10: u8, g1: u8, kind: Kind) -> Module
+pub fn qsfp_recorded(g10: u8, g1: u8, kind: Kind) -> Identity
     ensures { λ r. ⌜ r ≡ qsfpRecorded g10 g1 kind ⌝ }
 {
-    Module {
+    Identity {
         kind,
         multispeed: multispeed(g10, g1),
         identifier: QSFP,
@@ -72,10 +72,10 @@ pub fn fixed(connector: u8) -> bool
 }
 
 // Byte 92: the cable has a length.
-pub fn measured(length: u8) -> bool
-    ensures { λ r. ⌜ r ≡ ltb 0 length ⌝ }
+pub fn measured(metres: u8) -> bool
+    ensures { λ r. ⌜ r ≡ ltb 0 metres ⌝ }
 {
-    0 < length
+    0 < metres
 }
 
 // A cable by byte 93, whose high half is the transmitter's technology.

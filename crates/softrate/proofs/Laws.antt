@@ -3,37 +3,24 @@ use Prim.Native.Nat.{ℕ, _+_, _-_, _<_, _≤_, suc}
 use mathlib.Core.Path.{_≡_, refl, ap, _∙_, sym}
 use mathlib.Core.Bool.{Bool, true, false}
 use native.Mathlib.Omega.{arith}
-use borrow.Author.Tests.{le-leb}
+use Rattle.hardware.specs.Marks.{FULL}
+use Rattle.hardware.specs.declared.Meter.{Meter}
 use Rattle.hardware.specs.declared.Port.{Port}
-use Rattle.hardware.specs.Prog.{Ok, erase, over, bind-assoc, _>>=_, pick}
-use Rattle.bus.specs.Layout.{x550em}
+use Rattle.hardware.specs.Prog.{Ok, pick}
 use Rattle.bus.specs.declared.Taken.{Taken}
-use Rattle.bus.proofs.Laws.{picked, picked-second}
-use Rattle.transfer.specs.declared.attempt.Got.{Got}
-use Rattle.i2c.specs.declared.moves.Moves.{Moves}
-use Rattle.i2c.specs.declared.moves.MovesNext.the-variants.{Going, End}
-use Rattle.i2c.specs.I2c.{attempts, isWrite, read-off, valueOf, givesValue, moves, handshaken, transferred}
-use Rattle.i2c.specs.Tries.{wanted}
-use Rattle.i2c.specs.Moves.{movesNext, allows, MOST}
-use Rattle.i2c.proofs.Laws.{going-on, fits-below}
-use Rattle.sfp.specs.Rate.{DIAG, orNot, rateByte, softRateSelect}
-use Rattle.sfp.proofs.Ends.{attempts-few}
-use Rattle.sfp.proofs.Asks.{Asks, asks-erase, read-asks, write-asks}
+use Rattle.bus.proofs.Laws.{picked-second}
+use Rattle.transfer.specs.declared.attempt.Sequence.{Sequence}
+use Rattle.i2c.specs.I2c.{attempts, isWrite, read-off, valueOf}
+use Rattle.i2c.specs.Retry.{wanted}
+use Rattle.i2c.specs.Handshake.{valued}
+use Rattle.i2c.proofs.Laws.{fits-below, attempts-few, attempts-some}
+use Rattle.sfp.specs.Rate.{orNot, rateByte, softRateSelect}
 use Rattle.softrate.specs.declared.spot.Place.{Place}
 use Rattle.softrate.specs.declared.spot.Place.the-variants.{Reading, Writing}
 use Rattle.softrate.specs.declared.spot.Spot.{Spot}
 use Rattle.softrate.specs.declared.walk.Rate.{Rate}
-use Rattle.softrate.specs.declared.walk.RateNext.the-variants.{Going as Walking}
 use Rattle.softrate.specs.Spot.{offsetOf, requestOf, requestAt, triesAt, upTo, before, capAt, validSpot, nextByte, onPlace, onAt, toldAt, placed}
-use Rattle.softrate.specs.Walk.{accessRate, restRate, rateNext, validRate}
-
-attempts-some : (port : Port) → attempts port ≡ suc (attempts port - 1)
-unfolding attempts pick
-attempts-some port = by (x550em (port .family))
-  where
-    by : (b : Bool) → pick b 4 11 ≡ suc (pick b 4 11 - 1)
-    by true = refl
-    by false = refl
+use Rattle.softrate.specs.Walk.{validRate}
 
 before-few : (port : Port) (second : Bool) → before port second ≤ 13
 unfolding before pick
@@ -53,7 +40,7 @@ pub cap-done : (port : Port) (s : Spot) → capAt port s ≤ before port (s .sec
 unfolding capAt
 cap-done port s = omega (arith, up-done port (s .place))
 
-pub cap-most : (port : Port) (s : Spot) → capAt port s < MOST
+pub cap-most : (port : Port) (s : Spot) → capAt port s < FULL
 cap-most port s = omega (arith, cap-done port s, before-few port (s .second), attempts-few port)
 
 -- the first byte leaves room for the second
@@ -62,53 +49,23 @@ pub cap-next : (port : Port) (ok : Bool) (made : ℕ) → made ≤ before port f
 unfolding capAt before upTo triesAt pick
 cap-next port ok made h = omega (arith, h)
 
--- what an opening may begin are the request's attempts
-due-of : (port : Port) (ten second : Bool) (p : Place) (due : ℕ) → due ≤ wanted (requestOf ten second p) (triesAt port p) → due ≤ triesAt port p
+-- a request has an attempt, and makes those that stand in its state
+own-of : (port : Port) (ten second : Bool) (p : Place)
+    → (0 < wanted (requestOf ten second p) (triesAt port p)) × (wanted (requestOf ten second p) (triesAt port p) ≤ triesAt port p)
 unfolding wanted requestOf isWrite triesAt pick
-due-of port ten second Reading due h = h
-due-of port ten second (Writing v) due h = h
+own-of port ten second Reading = (omega (arith, attempts-some port), omega arith)
+own-of port ten second (Writing v) = (omega arith, omega arith)
 
-pub first-due : (port : Port) (ten : Bool) (s : Spot) (due : ℕ) → due ≤ wanted (requestAt ten s) (triesAt port (s .place)) → due ≤ triesAt port (s .place)
+pub own : (port : Port) (ten : Bool) (s : Spot)
+    → (0 < wanted (requestAt ten s) (triesAt port (s .place))) × (wanted (requestAt ten s) (triesAt port (s .place)) ≤ triesAt port (s .place))
 unfolding requestAt
-first-due port ten s due h = due-of port ten (s .second) (s .place) due h
-
-pub own-allows : (port : Port) (ten : Bool) (s : Spot) → allows (triesAt port (s .place)) (requestAt ten s) (triesAt port (s .place)) ≡ true
-unfolding allows
-own-allows port ten s = picked _ _ (le-leb (triesAt port (s .place)) (triesAt port (s .place)) (omega arith)) (le-leb _ _ (first-due port ten s _ (omega arith)))
-
--- from the request on
-placed-is : (port : Port) (ten : Bool) (s : Spot)
-    → handshaken port (requestAt ten s) (moves port (requestAt ten s) true (triesAt port (s .place))) >>= toldAt port ten s ≡ placed port ten s
-unfolding placed transferred toldAt givesValue _>>=_
-placed-is port ten s =
-    sym (bind-assoc (handshaken port (requestAt ten s) (moves port (requestAt ten s) true (triesAt port (s .place)))) (givesValue (requestAt ten s))
-    (orNot (nextByte port ten (s .second)) (onAt port ten s)))
-
--- a request that has begun
-pub request-begun : (port : Port) (ten : Bool) (s : Spot) (b : Bool) (m : Moves)
-    → movesNext port (requestAt ten s) true (Going b m) ≡ erase (handshaken port (requestAt ten s) (moves port (requestAt ten s) true (triesAt port (s .place))))
-    → rateNext port ten (Walking b (record { spot = s; moves = m })) ≡ erase (placed port ten s)
-unfolding rateNext accessRate restRate movesNext
-request-begun port ten s b m h =
-    over _ (toldAt port ten s) (going-on b _ _ (toldAt port ten s)) h ∙ ap erase (placed-is port ten s)
-
-asks-of : (port : Port) (ten second : Bool) (p : Place)
-    → Asks (handshaken port (requestOf ten second p) (moves port (requestOf ten second p) true (triesAt port p)))
-unfolding requestOf triesAt
-asks-of port ten second Reading = rw (attempts-some port) (read-asks port DIAG (offsetOf second) (attempts port - 1))
-asks-of port ten second (Writing v) = write-asks port DIAG (offsetOf second) _ 2
-
--- a request has an access at once
-pub request-asks : (port : Port) (ten : Bool) (s : Spot) (g : Got)
-    → movesNext port (requestAt ten s) true (End g) ≡ erase (handshaken port (requestAt ten s) (moves port (requestAt ten s) true (triesAt port (s .place)))) → ⊥
-unfolding movesNext requestAt
-request-asks port ten s g h = asks-erase _ _ (asks-of port ten (s .second) (s .place)) h
+own port ten s = own-of port ten (s .second) (s .place)
 
 -- what was read is written back
-pub write-placed : (port : Port) (ten second ok : Bool) (v : ℕ)
-    → placed port ten (record { second = second; ok = ok; place = Writing v }) ≡ onPlace port ten second ok Reading v
+pub write-placed : (q : Sequence) (port : Port) (ten second ok : Bool) (v : ℕ)
+    → placed q port ten (record { second = second; ok = ok; place = Writing v }) ≡ onPlace q port ten second ok Reading v
 unfolding placed onPlace onAt requestAt requestOf triesAt
-write-placed port ten second ok v = refl
+write-placed q port ten second ok v = refl
 
 -- a byte that was read leaves room for writing it back
 pub read-room : (port : Port) (s : Spot) (v made : ℕ) → s .place ≡ Reading → made ≤ capAt port s
@@ -120,25 +77,25 @@ read-room port s v made e h = more (rw e at h)
     more k = omega (arith, k)
 
 -- the second byte's request, and the first's
-pub next-placed : (port : Port) (ten ok : Bool) → placed port ten (record { second = true; ok = ok; place = Reading }) ≡ nextByte port ten false ok
+pub next-placed : (q : Sequence) (port : Port) (ten ok : Bool) → placed q port ten (record { second = true; ok = ok; place = Reading }) ≡ nextByte q port ten false ok
 unfolding placed onPlace onAt requestAt requestOf offsetOf triesAt nextByte rateByte
-next-placed port ten ok = refl
+next-placed q port ten ok = refl
 
-pub first-placed : (port : Port) (ten : Bool) → placed port ten (record { second = false; ok = true; place = Reading }) ≡ softRateSelect port ten
+pub first-placed : (q : Sequence) (port : Port) (ten : Bool) → placed q port ten (record { second = false; ok = true; place = Reading }) ≡ softRateSelect q port ten
 unfolding placed onPlace onAt requestAt requestOf offsetOf triesAt nextByte rateByte softRateSelect
-first-placed port ten = refl
+first-placed q port ten = refl
 
 -- a request's value is the last byte that it read; a write's is not looked at
-pub on-told : (port : Port) (ten : Bool) (s : Spot) (t : Taken) → onPlace port ten (s .second) (s .ok) (s .place) (t .last) ≡ toldAt port ten s (Ok t)
-unfolding toldAt onAt onPlace requestAt requestOf orNot valueOf read-off
-on-told port ten s t = by (s .second) (s .ok) (s .place)
+pub on-told : (q : Sequence) (port : Port) (ten : Bool) (s : Spot) (t : Taken) → onPlace q port ten (s .second) (s .ok) (s .place) (t .last) ≡ toldAt q port ten s (Ok t)
+unfolding toldAt valued onAt onPlace requestAt requestOf orNot valueOf read-off
+on-told q port ten s t = by (s .second) (s .ok) (s .place)
   where
-    by : (second ok : Bool) (p : Place) → onPlace port ten second ok p (t .last) ≡ orNot (nextByte port ten second) (onPlace port ten second ok p) (valueOf (requestOf ten second p) (Ok t))
+    by : (second ok : Bool) (p : Place) → onPlace q port ten second ok p (t .last) ≡ orNot (nextByte q port ten second) (onPlace q port ten second ok p) (valueOf (requestOf ten second p) (Ok t))
     by second ok Reading = refl
     by second ok (Writing v) = refl
 
 -- the count of a state within its limits is below the top of its type
-pub valid-below : (port : Port) (ten : Bool) (made : ℕ) (s : Rate) → validRate port ten made s ≡ true → made < MOST
+pub valid-below : (port : Port) (ten : Bool) (m : Meter) (s : Rate) → validRate port ten m s ≡ true → m .transfers < FULL
 unfolding validRate
-valid-below port ten made s v =
-    fits-below port (requestAt ten (s .spot)) (triesAt port (s .spot .place)) (capAt port (s .spot)) made (s .moves) (cap-most port (s .spot)) (picked-second (validSpot (s .spot)) _ v)
+valid-below port ten m s v =
+    fits-below port (requestAt ten (s .spot)) (triesAt port (s .spot .place)) (capAt port (s .spot)) m (s .request) (cap-most port (s .spot)) (picked-second (validSpot (s .spot)) _ v)

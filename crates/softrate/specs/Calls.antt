@@ -1,14 +1,18 @@
--- What the public calls of `soft_rate_select` yield: a refusal by its number, or what is left of the call, with the count
--- of transfers beside its result.
+-- What the public calls of `soft_rate_select` yield: a refusal by its number, or what is left of the call, with the meter
+-- beside its result.
 use Prim.Native.Nat.{ℕ}
 use mathlib.Core.Path.{_≡_}
-use mathlib.Core.Bool.{Bool, true}
+use mathlib.Core.Bool.{Bool, true, false}
 use Rattle.hardware.specs.declared.Answer.{Answer}
-use Rattle.hardware.specs.Asked.{Asked, yes, no, question, andThen, openPort, validPort, fits}
+use Rattle.hardware.specs.declared.Meter.{Meter}
+use Rattle.hardware.specs.declared.Port.{Port}
+use Rattle.hardware.specs.Asked.{Asked, yes, no, andThen, openPort, validPort, admitting}
 use Rattle.hardware.specs.Numbers.{refusalNumber}
-use Rattle.hardware.specs.Prog.{Prog, ret, ask, R, Counted, tally}
+use Rattle.hardware.specs.Prog.{Prog, ret, ask, R, Counted, blank, tally, pick}
 use Rattle.hardware.specs.Registers.{flag}
+use Rattle.i2c.specs.I2c.{standard}
 use Rattle.sfp.specs.Rate.{softRateSelect}
+use Rattle.softrate.specs.declared.walk.Rate.{Rate}
 use Rattle.softrate.specs.declared.calls.RateCall.{RateCall}
 use Rattle.softrate.specs.declared.calls.RateCall.the-variants.{Going, Over}
 use Rattle.softrate.specs.declared.calls.RateTold.{RateTold}
@@ -17,26 +21,26 @@ use Rattle.softrate.specs.Walk.{accessRate, restRate, validRate}
 
 -- 1 and 2
 unfoldable pub openRate : ℕ → ℕ → ℕ → Bool → Asked (Prog (Counted (R Bool)))
-openRate family device lan ten = andThen (openPort family device lan) (λ port. yes (tally 0 (softRateSelect port ten)))
+openRate family device lan ten = andThen (openPort family device lan) (λ port. yes (tally blank (softRateSelect standard port ten)))
+
+unfoldable pub validCall : Port → Bool → Meter → Rate → Bool
+validCall port ten m s = pick (validPort port) (validRate port ten m s) false
 
 -- a step: 10, 11, 12
 unfoldable pub stepRate : RateCall → Answer → Asked (Prog (Counted (R Bool)))
-stepRate (Going port ten made s) a =
-    question (validPort port) 10
-    (question (validRate port ten made s) 10
-    (question (fits (accessRate port s) a) 12 (yes (tally made (restRate port ten s a)))))
+stepRate (Going port q ten m s) a = admitting (validCall port ten m s) (accessRate port s) a (yes (tally m (restRate q port ten s a)))
 stepRate Over a = no 11
 
 -- what was told; 0 is none of the papers' numbers: nothing asks with a finished state (`standsRate`)
 unfoldable pub saidRate : RateTold → Asked (Prog (Counted (R Bool)))
-saidRate (Ask x (Going port ten made s)) = yes (ask x (λ a. tally made (restRate port ten s a)))
+saidRate (Ask x (Going port q ten m s)) = yes (ask x (λ a. tally m (restRate q port ten s a)))
 saidRate (Ask x Over) = no 0
-saidRate (End f made) = yes (ret (record { transfers = made; result = flag f }))
+saidRate (End f m) = yes (ret (record { meter = m; result = flag f }))
 saidRate (Refused q) = no (refusalNumber q)
 
 -- a state to go on from comes with the access it awaits, and passes question 10
 unfoldable pub standsRate : RateTold → Type 0
-standsRate (Ask x (Going port ten made s)) = (x ≡ accessRate port s) × (validPort port ≡ true) × (validRate port ten made s ≡ true)
+standsRate (Ask x (Going port q ten m s)) = (x ≡ accessRate port s) × (validCall port ten m s ≡ true)
 standsRate (Ask x Over) = ⊥
-standsRate (End f made) = Unit {0}
+standsRate (End f m) = Unit {0}
 standsRate (Refused q) = Unit {0}

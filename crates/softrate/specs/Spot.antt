@@ -4,9 +4,11 @@ use mathlib.Core.Bool.{Bool, true, false}
 use Rattle.hardware.specs.declared.Port.{Port}
 use Rattle.hardware.specs.Prog.{Prog, ret, R, Ok, _>>=_, pick}
 use Rattle.bus.specs.declared.Taken.{Taken}
+use Rattle.transfer.specs.declared.attempt.Sequence.{Sequence}
 use Rattle.i2c.specs.declared.once.Request.{Request}
 use Rattle.i2c.specs.declared.once.Request.the-variants.{ReadByte, WriteByte}
-use Rattle.i2c.specs.I2c.{attempts, valueOf, transferred}
+use Rattle.i2c.specs.I2c.{locked, attempts, transferred}
+use Rattle.i2c.specs.Handshake.{valued}
 use Rattle.sfp.specs.Rate.{DIAG, orNot, selected, rateByte}
 use Rattle.softrate.specs.declared.spot.Place.{Place}
 use Rattle.softrate.specs.declared.spot.Place.the-variants.{Reading, Writing}
@@ -45,24 +47,24 @@ unfoldable pub validSpot : Spot → Bool
 validSpot s = pick (s .second) true (s .ok)
 
 -- what follows a byte; ok: whether all went well so far
-unfoldable pub nextByte : Port → Bool → Bool → Bool → Prog (R Bool)
-nextByte port ten false ok = rateByte port ten ok 0x76 (λ both. ret (Ok both))
-nextByte port ten true ok = ret (Ok ok)
+unfoldable pub nextByte : Sequence → Port → Bool → Bool → Bool → Prog (R Bool)
+nextByte q port ten false ok = rateByte q port ten ok 0x76 (λ both. ret (Ok both))
+nextByte q port ten true ok = ret (Ok ok)
 
 -- what is left once the request has succeeded: a byte that was read is changed and written
-unfoldable pub onPlace : Port → Bool → Bool → Bool → Place → ℕ → Prog (R Bool)
-onPlace port ten second ok Reading v =
-    transferred port (WriteByte DIAG (offsetOf second) (selected ten v)) true 2 >>= orNot (nextByte port ten second) (λ _. nextByte port ten second ok)
-onPlace port ten second ok (Writing w) v = nextByte port ten second ok
+unfoldable pub onPlace : Sequence → Port → Bool → Bool → Bool → Place → ℕ → Prog (R Bool)
+onPlace q port ten second ok Reading v =
+    transferred port (WriteByte DIAG (offsetOf second) (selected ten v)) (locked q) 2 >>= orNot (nextByte q port ten second) (λ _. nextByte q port ten second ok)
+onPlace q port ten second ok (Writing w) v = nextByte q port ten second ok
 
-unfoldable pub onAt : Port → Bool → Spot → ℕ → Prog (R Bool)
-onAt port ten s = onPlace port ten (s .second) (s .ok) (s .place)
+unfoldable pub onAt : Sequence → Port → Bool → Spot → ℕ → Prog (R Bool)
+onAt q port ten s = onPlace q port ten (s .second) (s .ok) (s .place)
 
 -- ... or has not
-unfoldable pub toldAt : Port → Bool → Spot → R Taken → Prog (R Bool)
-toldAt port ten s result = orNot (nextByte port ten (s .second)) (onAt port ten s) (valueOf (requestAt ten s) result)
+unfoldable pub toldAt : Sequence → Port → Bool → Spot → R Taken → Prog (R Bool)
+toldAt q port ten s = valued (requestAt ten s) (orNot (nextByte q port ten (s .second)) (onAt q port ten s))
 
 -- from the request on
-unfoldable pub placed : Port → Bool → Spot → Prog (R Bool)
-placed port ten s =
-    transferred port (requestAt ten s) true (triesAt port (s .place)) >>= orNot (nextByte port ten (s .second)) (onAt port ten s)
+unfoldable pub placed : Sequence → Port → Bool → Spot → Prog (R Bool)
+placed q port ten s =
+    transferred port (requestAt ten s) (locked q) (triesAt port (s .place)) >>= orNot (nextByte q port ten (s .second)) (onAt q port ten s)

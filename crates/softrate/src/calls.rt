@@ -4,86 +4,94 @@ use crate::spot::Spot;
 use crate::walk::Rate;
 use crate::walk::RateNext;
 use hardware::Access;
+use hardware::Admitted;
 use hardware::Answer;
+use hardware::BLANK;
 use hardware::Flag;
+use hardware::Meter;
 use hardware::Opening;
 use hardware::Port;
 use hardware::Refusal;
+use transfer::attempt::Sequence;
 ghost use Prim.Native.Nat.{_<_};
 ghost use mathlib.Core.Path.{_≡_};
 ghost use mathlib.Core.Bool.{true};
 ghost use Rattle.hardware.specs.Asked.{yes, validPort};
-ghost use Rattle.hardware.specs.Prog.{tally};
-ghost use Rattle.i2c.specs.Moves.{MOST};
+ghost use Rattle.hardware.specs.Promise.{Keeps};
+ghost use Rattle.hardware.specs.Prog.{blank, tally};
+ghost use Rattle.hardware.specs.Marks.{FULL};
+ghost use Rattle.i2c.specs.I2c.{standard};
+ghost use Rattle.sfp.specs.Rate.{softRateSelect};
 ghost use Rattle.softrate.specs.Walk.{rateNext, validRateNext};
-ghost use Rattle.softrate.specs.Calls.{openRate, stepRate, saidRate, standsRate};
+ghost use Rattle.softrate.specs.Calls.{openRate, validCall, stepRate, saidRate, standsRate};
 
-// Going: with whether 10G is selected, and the transfers made.
+// Going: with the clearing sequence of its transfers, whether 10G is selected, and the meter.
 pub enum RateCall {
-    Going(Port, bool, u32, Rate),
+    Going(Port, Sequence, bool, Meter, Rate),
     Over,
 }
 
-// The end: whether both bytes were written, and the transfers made; the finished state is `Over`.
+// The end: whether both bytes were written, and the meter; the finished state is `Over`.
 pub enum RateTold {
     Ask(Access, RateCall),
-    End(Flag, u32),
+    End(Flag, Meter),
     Refused(Refusal),
 }
 
-fn told(port: Port, ten: bool, made: u32, n: RateNext) -> RateTold
-    ensures { λ t. ⌜ (made < MOST → saidRate t ≡ yes (tally made (rateNext port ten n))) ⌝ }
-    ensures { λ t. ⌜ (validPort port ≡ true → validRateNext port ten made n ≡ true → standsRate t) ⌝ }
+fn told(port: Port, q: Sequence, ten: bool, m: Meter, n: RateNext) -> RateTold
+    ensures { λ t. ⌜ Keeps (m .transfers < FULL → saidRate t ≡ yes (tally m (rateNext q port ten n))) (validPort port ≡ true → validRateNext port ten m n ≡ true → standsRate t) ⌝ }
 {
     match n {
-        RateNext::Going(begins, s) => RateTold::Ask(
+        RateNext::Going(k, s) => RateTold::Ask(
             crate::walk::access(port, s),
-            RateCall::Going(port, ten, i2c::moves::count(begins, made), s),
+            RateCall::Going(port, q, ten, hardware::meter_on(k, m), s),
         ),
-        RateNext::End(f) => RateTold::End(f, made),
+        RateNext::End(f) => RateTold::End(f, m),
     }
+}
+
+// The call from its first byte on, where no sequence is named.
+fn opened(port: Port, ten: bool) -> RateTold
+    ensures { λ t. ⌜ Keeps (saidRate t ≡ yes (tally blank (softRateSelect standard port ten))) (validPort port ≡ true → standsRate t) ⌝ }
+{
+    let q = i2c::standard();
+    let first = Spot {
+        second: false,
+        ok: true,
+        place: Place::Reading,
+    };
+    told(port, q, ten, BLANK, crate::walk::begin(port, q, ten, first))
 }
 
 // Questions 1 and 2. ten: 10G is selected, else 1G.
 pub fn soft_rate_select_open(family: u32, device: u16, lan: u32, ten: bool) -> RateTold
-    ensures { λ t. ⌜ saidRate t ≡ openRate family device lan ten ⌝ }
-    ensures { λ t. ⌜ standsRate t ⌝ }
+    ensures { λ t. ⌜ Keeps (saidRate t ≡ openRate family device lan ten) (standsRate t) ⌝ }
 {
     match hardware::open_port(family, device, lan) {
-        Opening::Port(p) => told(
-            p,
-            ten,
-            0,
-            crate::walk::begin(
-                p,
-                ten,
-                Spot {
-                    second: false,
-                    ok: true,
-                    place: Place::Reading,
-                },
-            ),
-        ),
+        Opening::Port(p) => opened(p, ten),
         Opening::Refused(q) => RateTold::Refused(q),
     }
 }
 
+fn valid(port: Port, ten: bool, m: Meter, t: Rate) -> bool
+    ensures { λ b. ⌜ b ≡ validCall port ten m t ⌝ }
+{
+    if hardware::valid_port(port) {
+        return crate::walk::valid(port, ten, m, t);
+    }
+    false
+}
+
 // Questions 10 to 12.
 pub fn soft_rate_select_step(s: RateCall, a: Answer) -> RateTold
-    ensures { λ t. ⌜ saidRate t ≡ stepRate s a ⌝ }
-    ensures { λ t. ⌜ standsRate t ⌝ }
+    ensures { λ t. ⌜ Keeps (saidRate t ≡ stepRate s a) (standsRate t) ⌝ }
 {
     match s {
-        RateCall::Going(port, ten, made, t) => {
-            if hardware::valid_port(port) {
-                if crate::walk::valid(port, ten, made, t) {
-                    if hardware::awaited(crate::walk::access(port, t), a) {
-                        return told(port, ten, made, crate::walk::step(port, ten, t, a));
-                    }
-                    return RateTold::Refused(Refusal::Kind);
-                }
+        RateCall::Going(port, q, ten, m, t) => {
+            match hardware::admit(valid(port, ten, m, t), crate::walk::access(port, t), a) {
+                Admitted::Yes => told(port, q, ten, m, crate::walk::step(port, q, ten, t, a)),
+                Admitted::No(n) => RateTold::Refused(n),
             }
-            RateTold::Refused(Refusal::State)
         }
         RateCall::Over => RateTold::Refused(Refusal::Finished),
     }

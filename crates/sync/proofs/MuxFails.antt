@@ -19,7 +19,7 @@ use Rattle.hardware.specs.Asked.{is}
 use Rattle.hardware.specs.Prog.{ret, ask, Ok, Err, orErr, _>>=_, _>>?_, pick}
 use Rattle.hardware.specs.Registers.{ESDP, noneOf, checked, written, flushed}
 use Rattle.hardware.specs.Change.{changed, settled, stored, change, restUpdate}
-use Rattle.hardware.specs.Runs.{run, onward, ended}
+use Rattle.hardware.specs.Runs.{run, onAnswer, ended}
 use Rattle.hardware.proofs.Ends.{run-then}
 use Rattle.sync.specs.declared.acquire_bits.AcquireBits.{AcquireBits}
 use Rattle.sync.specs.declared.acquire_bits.Stage.{Stage}
@@ -60,24 +60,24 @@ mux-never port mask left v = refl
 
 -- ESDP is read, and its write fails
 mux-run : (port : Port) (mask v : ℕ) → mux port mask ≡ true → (v ≡ 0xFFFFFFFF → ⊥)
-    → run (muxed port mask true) (Value v ∷ Failed ∷ []) ≡ record { accesses = Read ESDP ∷ Write ESDP (bitOr v 2) ∷ []; bytes = []; stand = ended (Err Io) }
-unfolding muxed setMux change stored changed checked written orErr _>>=_ run onward pick
+    → run (muxed port mask true) (Value v ∷ Failed ∷ []) ≡ record { accesses = Read ESDP ∷ Write ESDP (bitOr v 2) ∷ []; bytes = []; status = ended (Err Io) }
+unfolding muxed setMux change stored changed checked written orErr _>>=_ run onAnswer pick
 mux-run port mask v e h = rw (e, ne-eqb v 0xFFFFFFFF h)
 
 -- so over a run, l being the answers to the register semaphore's return: the bits are written, the semaphore goes back,
 -- ESDP is read, its write fails, and that is the end
 pub mux-write-fails : (port : Port) (mask sync v : ℕ) (l : List Answer) → mux port mask ≡ true → (v ≡ 0xFFFFFFFF → ⊥)
-    → (run (unlock (port .family)) l) .stand ≡ ended (Ok tt) → length ((run (unlock (port .family)) l) .accesses) ≡ length l
+    → (run (unlock (port .family)) l) .status ≡ ended (Ok tt) → length ((run (unlock (port .family)) l) .accesses) ≡ length l
     → ((run (free port mask sync) (Done ∷ (l ++ (Value v ∷ Failed ∷ [])))) .accesses
     ≡ Write (swFwSync (port .family)) (bitOr sync (bits (port .family) mask .sw)) ∷ ((run (unlock (port .family)) l) .accesses ++ (Read ESDP ∷ Write ESDP (bitOr v 2) ∷ [])))
-    × ((run (free port mask sync) (Done ∷ (l ++ (Value v ∷ Failed ∷ [])))) .stand ≡ ended (Err Io))
-unfolding free taken written orErr _>>=_ run onward
+    × ((run (free port mask sync) (Done ∷ (l ++ (Value v ∷ Failed ∷ [])))) .status ≡ ended (Err Io))
+unfolding free taken written orErr _>>=_ run onAnswer
 mux-write-fails port mask sync v l e h o n =
     let r = run-then (unlock (port .family)) (orErr (λ _. taken port mask (Ok tt))) (Ok tt) l (Value v ∷ Failed ∷ []) o n in
     let m = mux-run port mask v e h in (
       ap (λ t. Write (swFwSync (port .family)) (bitOr sync (bits (port .family) mask .sw)) ∷ t)
           (r .0 ∙ ap (λ t. (run (unlock (port .family)) l) .accesses ++ t .accesses) m),
-      r .1 ∙ ap (λ t. t .stand) m,
+      r .1 ∙ ap (λ t. t .status) m,
     )
 
 -- there are such answers: a port with a mux, and reads of 0
@@ -85,7 +85,7 @@ pub mux-port : (device : ℕ) → mux (record { family = X552; device = device; 
 unfolding mux is pick noneOf
 mux-port device = refl
 
-pub unlock-run : ((run (unlock X552) (Value 0 ∷ Done ∷ Value 0 ∷ Done ∷ Value 0 ∷ [])) .stand ≡ ended (Ok tt))
+pub unlock-run : ((run (unlock X552) (Value 0 ∷ Done ∷ Value 0 ∷ Done ∷ Value 0 ∷ [])) .status ≡ ended (Ok tt))
     × (length ((run (unlock X552) (Value 0 ∷ Done ∷ Value 0 ∷ Done ∷ Value 0 ∷ [])) .accesses) ≡ 5)
-unfolding unlock backSwsm clearSync is pick change stored settled checked written flushed orErr _>>=_ run onward
+unfolding unlock backSwsm clearSync is pick change stored settled checked written flushed orErr _>>=_ run onAnswer
 unlock-run = (refl, refl)

@@ -9,9 +9,9 @@ use lib.ListN.{length}
 use Rattle.hardware.specs.declared.Access.{Access}
 use Rattle.hardware.specs.declared.Answer.{Answer}
 use Rattle.hardware.specs.declared.Family.{Family}
-use Rattle.hardware.specs.Asked.{yes, andThen, question, openFamily, fits}
+use Rattle.hardware.specs.Asked.{yes, andThen, question, openFamily, fits, admitting}
 use Rattle.hardware.specs.Prog.{R, erase}
-use Rattle.hardware.specs.Runs.{run, ran, Awaited, ended}
+use Rattle.hardware.specs.Runs.{run, runAsked, Awaited, ended}
 use Rattle.hardware.proofs.Laws.{runs-open}
 use Rattle.hardware.proofs.Ends.{run-ends}
 use Rattle.sync.specs.declared.lock.Lock.{Lock}
@@ -27,28 +27,28 @@ use Rattle.sync.specs.Calls.{openLock, stepLock, saidLock, standsLock, o
 use Rattle.sync.proofs.Ends.{LOCK-STEPS, lock-ends, UNLOCK-STEPS, unlock-ends}
 
 pub lock-runs : (family : ℕ) (r : LockTold) → saidLock r ≡ openLock family → (l : List Answer)
-    → ran (saidLock r) l ≡ andThen (openFamily family) (λ f. yes (run (lock f) l))
+    → runAsked (saidLock r) l ≡ andThen (openFamily family) (λ f. yes (run (lock f) l))
 unfolding openLock
-lock-runs family r e l = ap (λ x. ran x l) e ∙ runs-open (openFamily family) lock l
+lock-runs family r e l = ap (λ x. runAsked x l) e ∙ runs-open (openFamily family) lock l
 
-pub lock-finishes : (f : Family) (l : List Answer) → LOCK-STEPS ≤ length l → Awaited (lock f) l → (v : R (Unit {0})) × ((run (lock f) l) .stand ≡ ended v)
+pub lock-finishes : (f : Family) (l : List Answer) → LOCK-STEPS ≤ length l → Awaited (lock f) l → (v : R (Unit {0})) × ((run (lock f) l) .status ≡ ended v)
 lock-finishes f l h w = run-ends (lock f) LOCK-STEPS l (lock-ends f) h w
 
 -- a state that was handed out, with any answer of the kind that its access awaits, is not refused
 pub lock-accepts : (x : Access) (f : Family) (t : Lock) (a : Answer) → standsLock (LockAsk x (LockGoing f t)) → fits x a ≡ true
     → stepLock (LockGoing f t) a ≡ yes (erase (restLock f t a))
-unfolding standsLock stepLock question
+unfolding standsLock stepLock admitting question
 lock-accepts x f t a h e = rw (h .1, ← h .0, e)
 
 pub unlock-runs : (family : ℕ) (r : UnlockTold) → saidUnlock r ≡ openUnlock family → (l : List Answer)
-    → ran (saidUnlock r) l ≡ andThen (openFamily family) (λ f. yes (run (unlock f) l))
+    → runAsked (saidUnlock r) l ≡ andThen (openFamily family) (λ f. yes (run (unlock f) l))
 unfolding openUnlock
-unlock-runs family r e l = ap (λ x. ran x l) e ∙ runs-open (openFamily family) unlock l
+unlock-runs family r e l = ap (λ x. runAsked x l) e ∙ runs-open (openFamily family) unlock l
 
-pub unlock-finishes : (f : Family) (l : List Answer) → UNLOCK-STEPS ≤ length l → Awaited (unlock f) l → (v : R (Unit {0})) × ((run (unlock f) l) .stand ≡ ended v)
+pub unlock-finishes : (f : Family) (l : List Answer) → UNLOCK-STEPS ≤ length l → Awaited (unlock f) l → (v : R (Unit {0})) × ((run (unlock f) l) .status ≡ ended v)
 unlock-finishes f l h w = run-ends (unlock f) UNLOCK-STEPS l (unlock-ends f) h w
 
 pub unlock-accepts : (x : Access) (f : Family) (t : Unlock) (a : Answer) → standsUnlock (UnlockAsk x (UnlockGoing f t)) → fits x a ≡ true
     → stepUnlock (UnlockGoing f t) a ≡ yes (erase (restUnlock f t a))
-unfolding standsUnlock stepUnlock question
+unfolding standsUnlock stepUnlock admitting question
 unlock-accepts x f t a h e = rw (← h, e)

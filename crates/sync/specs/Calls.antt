@@ -3,7 +3,7 @@ use Prim.Native.Nat.{ℕ}
 use mathlib.Core.Path.{_≡_}
 use mathlib.Core.Bool.{true}
 use Rattle.hardware.specs.declared.Answer.{Answer}
-use Rattle.hardware.specs.Asked.{Asked, yes, no, question, andThen, openFamily, fits}
+use Rattle.hardware.specs.Asked.{Asked, yes, no, andThen, openFamily, admitting}
 use Rattle.hardware.specs.Numbers.{refusalNumber}
 use Rattle.hardware.specs.Prog.{Prog, ret, ask, erase, R}
 use Rattle.hardware.specs.Registers.{outcome}
@@ -23,7 +23,7 @@ openLock family = andThen (openFamily family) (λ f. yes (erase (lock f)))
 
 -- a step: 10, 11, 12
 unfoldable pub stepLock : LockCall → Answer → Asked (Prog (R (Unit {0})))
-stepLock (LockGoing f t) a = question (validLock t) 10 (question (fits (accessLock f t) a) 12 (yes (erase (restLock f t a))))
+stepLock (LockGoing f t) a = admitting (validLock t) (accessLock f t) a (yes (erase (restLock f t a)))
 stepLock LockOver a = no 11
 
 -- what was told; 0 is none of the papers' numbers: nothing asks with a finished state (`standsLock`)
@@ -46,7 +46,7 @@ openUnlock family = andThen (openFamily family) (λ f. yes (erase (unlock f)))
 
 -- its state has no counter, so that 10 is never a no
 unfoldable pub stepUnlock : UnlockCall → Answer → Asked (Prog (R (Unit {0})))
-stepUnlock (UnlockGoing f t) a = question (fits (accessUnlock f t) a) 12 (yes (erase (restUnlock f t a)))
+stepUnlock (UnlockGoing f t) a = admitting true (accessUnlock f t) a (yes (erase (restUnlock f t a)))
 stepUnlock UnlockOver a = no 11
 
 unfoldable pub saidUnlock : UnlockTold → Asked (Prog (R (Unit {0})))

@@ -4,6 +4,7 @@ use crate::lock::LockNext;
 use crate::unlock::Unlock;
 use crate::unlock::UnlockNext;
 use hardware::Access;
+use hardware::Admitted;
 use hardware::Answer;
 use hardware::Family;
 use hardware::FamilyOpening;
@@ -12,6 +13,7 @@ use hardware::Refusal;
 ghost use mathlib.Core.Path.{_≡_};
 ghost use mathlib.Core.Bool.{true};
 ghost use Rattle.hardware.specs.Asked.{yes};
+ghost use Rattle.hardware.specs.Promise.{Keeps};
 ghost use Rattle.sync.specs.Lock.{lockNext, validLockNext, unlockNext};
 ghost use Rattle.sync.specs.Calls.{openLock, stepLock, saidLock, standsLock, openUnlock, stepUnlock, saidUnlock, standsUnlock};
 
@@ -38,8 +40,7 @@ pub enum UnlockTold {
 }
 
 fn lock_told(family: Family, n: LockNext) -> LockTold
-    ensures { λ r. ⌜ saidLock r ≡ yes (lockNext family n) ⌝ }
-    ensures { λ r. ⌜ (validLockNext n ≡ true → standsLock r) ⌝ }
+    ensures { λ r. ⌜ Keeps (saidLock r ≡ yes (lockNext family n)) (validLockNext n ≡ true → standsLock r) ⌝ }
 {
     match n {
         LockNext::Going(t) => LockTold::Ask(
@@ -51,8 +52,7 @@ fn lock_told(family: Family, n: LockNext) -> LockTold
 }
 
 pub fn lock_open(family: u32) -> LockTold
-    ensures { λ r. ⌜ saidLock r ≡ openLock family ⌝ }
-    ensures { λ r. ⌜ standsLock r ⌝ }
+    ensures { λ r. ⌜ Keeps (saidLock r ≡ openLock family) (standsLock r) ⌝ }
 {
     match hardware::open_family(family) {
         FamilyOpening::Family(f) => lock_told(f, crate::lock::open(f)),
@@ -61,26 +61,21 @@ pub fn lock_open(family: u32) -> LockTold
 }
 
 pub fn lock_step(s: LockCall, a: Answer) -> LockTold
-    ensures { λ r. ⌜ saidLock r ≡ stepLock s a ⌝ }
-    ensures { λ r. ⌜ standsLock r ⌝ }
+    ensures { λ r. ⌜ Keeps (saidLock r ≡ stepLock s a) (standsLock r) ⌝ }
 {
     match s {
         LockCall::Going(f, t) => {
-            if crate::lock::valid(t) {
-                if hardware::awaited(crate::lock::access(f, t), a) {
-                    return lock_told(f, crate::lock::step(f, t, a));
-                }
-                return LockTold::Refused(Refusal::Kind);
+            match hardware::admit(crate::lock::valid(t), crate::lock::access(f, t), a) {
+                Admitted::Yes => lock_told(f, crate::lock::step(f, t, a)),
+                Admitted::No(q) => LockTold::Refused(q),
             }
-            LockTold::Refused(Refusal::State)
         }
         LockCall::Over => LockTold::Refused(Refusal::Finished),
     }
 }
 
 fn unlock_told(family: Family, n: UnlockNext) -> UnlockTold
-    ensures { λ r. ⌜ saidUnlock r ≡ yes (unlockNext family n) ⌝ }
-    ensures { λ r. ⌜ standsUnlock r ⌝ }
+    ensures { λ r. ⌜ Keeps (saidUnlock r ≡ yes (unlockNext family n)) (standsUnlock r) ⌝ }
 {
     match n {
         UnlockNext::Going(t) => UnlockTold::Ask(
@@ -92,8 +87,7 @@ fn unlock_told(family: Family, n: UnlockNext) -> UnlockTold
 }
 
 pub fn unlock_open(family: u32) -> UnlockTold
-    ensures { λ r. ⌜ saidUnlock r ≡ openUnlock family ⌝ }
-    ensures { λ r. ⌜ standsUnlock r ⌝ }
+    ensures { λ r. ⌜ Keeps (saidUnlock r ≡ openUnlock family) (standsUnlock r) ⌝ }
 {
     match hardware::open_family(family) {
         FamilyOpening::Family(f) => unlock_told(f, crate::unlock::open(f)),
@@ -102,16 +96,13 @@ pub fn unlock_open(family: u32) -> UnlockTold
 }
 
 pub fn unlock_step(s: UnlockCall, a: Answer) -> UnlockTold
-    ensures { λ r. ⌜ saidUnlock r ≡ stepUnlock s a ⌝ }
-    ensures { λ r. ⌜ standsUnlock r ⌝ }
+    ensures { λ r. ⌜ Keeps (saidUnlock r ≡ stepUnlock s a) (standsUnlock r) ⌝ }
 {
     match s {
-        UnlockCall::Going(f, t) => {
-            if hardware::awaited(crate::unlock::access(f, t), a) {
-                return unlock_told(f, crate::unlock::step(f, t, a));
-            }
-            UnlockTold::Refused(Refusal::Kind)
-        }
+        UnlockCall::Going(f, t) => match hardware::admit(true, crate::unlock::access(f, t), a) {
+            Admitted::Yes => unlock_told(f, crate::unlock::step(f, t, a)),
+            Admitted::No(q) => UnlockTold::Refused(q),
+        },
         UnlockCall::Over => UnlockTold::Refused(Refusal::Finished),
     }
 }

@@ -5,6 +5,7 @@ use mathlib.Core.Path.{_≡_, refl}
 use mathlib.Core.List.{List, [], _∷_}
 use lib.ListN.{length}
 use native.Mathlib.Omega.{arith}
+use Rattle.hardware.specs.declared.Meter.{Meter}
 use Rattle.hardware.specs.Prog.{Prog, ret, ask, note, give, R, Ok, Err, erase, tally}
 use Rattle.hardware.specs.Runs.{Ends}
 use Rattle.hardware.proofs.Ends.{ends-more, ends-bind, ends-try, ends-pick, ends-erase, ends-tally, ret-ends, note-ends, readRaw-ends}
@@ -16,7 +17,7 @@ use Rattle.bus.specs.Bus.{Bus}
 use Rattle.bus.proofs.Ends.{EndsBus, bus-more, done-ends, SEND-STEPS, CLEAR-STEPS, start-ends, send-ends, in-byte-ends, out-bit-ends, stop-ends, free-ends, clear-ends}
 use Rattle.transfer.specs.declared.attempt.Sequence.{Sequence}
 use Rattle.transfer.specs.declared.attempt.Sequence.the-variants.{Pulses}
-use Rattle.transfer.specs.Transfer.{Mode, loud, silent, tells, did, tookBy, handed, transfer}
+use Rattle.transfer.specs.Transfer.{Mode, handing, keeping, tells, did, tookBy, handed, transfer}
 use Rattle.transfer.specs.Attempt.{clearing, orCleared, cleared, orTried, tried, begun, attempting, attempt}
 
 -- the longest command sends a byte
@@ -36,11 +37,11 @@ attempt-steps count = omega arith
 -- a byte given out takes no answer
 pub ends-tells : {A : Type 0} (m : Mode) (b : ℕ) (p : Prog A) (n : ℕ) → Ends p n → Ends (tells m b p) n
 unfolding Ends tells
-ends-tells silent b p n e = e
-ends-tells loud b (ret v) n e = e
-ends-tells loud b (ask x f) n e = e
-ends-tells loud b (note k p) n e = ends-tells loud b p n e
-ends-tells loud b (give d p) n e = e
+ends-tells keeping b p n e = e
+ends-tells handing b (ret v) n e = e
+ends-tells handing b (ask x f) n e = e
+ends-tells handing b (note k p) n e = ends-tells handing b p n e
+ends-tells handing b (give d p) n e = e
 
 pub command-ends : (l : Layout) (device : ℕ) (c : Command) (k : ℕ → Bus) (n : ℕ) → ((b : ℕ) → EndsBus (k b) n)
     → EndsBus (did l device c k) (COMMAND-STEPS + n)
@@ -113,6 +114,6 @@ pub commands-erased-ends : (m : Mode) (q : Sequence) (l : Layout) (device : ℕ)
 commands-erased-ends m q l device cs t = ends-erase _ _ (commands-ends m q l device cs t)
 
 -- with the count of attempts beside the result
-pub attempt-counted-ends : (transfers : ℕ) (q : Sequence) (l : Layout) (device : ℕ) (f : Bus) (n : ℕ) → EndsBus f n
-    → Ends (tally transfers (attempt q l device f)) (ATTEMPT-STEPS n)
-attempt-counted-ends transfers q l device f n e = ends-tally transfers _ _ (attempt-ends q l device f n e)
+pub attempt-counted-ends : (m : Meter) (q : Sequence) (l : Layout) (device : ℕ) (f : Bus) (n : ℕ) → EndsBus f n
+    → Ends (tally m (attempt q l device f)) (ATTEMPT-STEPS n)
+attempt-counted-ends m q l device f n e = ends-tally m _ _ (attempt-ends q l device f n e)

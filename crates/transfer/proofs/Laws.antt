@@ -7,6 +7,7 @@ use lib.Dec.{eqb}
 use lib.ListN.{length, drop}
 use Rattle.hardware.specs.declared.Access.{Access}
 use Rattle.hardware.specs.declared.Answer.{Answer}
+use Rattle.hardware.specs.declared.Meter.{Meter}
 use Rattle.hardware.specs.declared.Outcome.{Outcome}
 use Rattle.hardware.specs.declared.Outcome.the-variants.{Ok, Err}
 use Rattle.hardware.specs.declared.Port.{Port}
@@ -14,7 +15,7 @@ use Rattle.hardware.specs.declared.Refusal.{Refusal}
 use Rattle.hardware.specs.declared.Refusal.the-variants.{Family, Lan, Device, Attempts, ScriptLength, Command as RefusedCommand, Script, Block, Buffer, State, Finished, Kind}
 use Rattle.hardware.specs.Asked.{Asked, no, question}
 use Rattle.hardware.specs.Numbers.{refusalNumber}
-use Rattle.hardware.specs.Prog.{Prog, ask, give, erase, followed, going, going-tally, over-tally, pick, tally, _>>=_}
+use Rattle.hardware.specs.Prog.{Prog, ask, give, erase, followed, going, going-tally, over-tally, pick, blank, tally, _>>=_}
 use Rattle.bus.specs.declared.Layout.{Layout}
 use Rattle.bus.specs.declared.Taken.{Taken}
 use Rattle.bus.specs.declared.command.Command.{Command}
@@ -34,9 +35,9 @@ use Rattle.transfer.specs.declared.attempt.Attempt.the-variants.{New}
 use Rattle.transfer.specs.declared.attempt.AttemptNext.{AttemptNext}
 use Rattle.transfer.specs.declared.attempt.AttemptNext.the-variants.{Going}
 use Rattle.transfer.specs.declared.transfer.TransferNext.the-variants.{End}
-use Rattle.transfer.specs.Transfer.{Mode, loud, silent, tells, tells-erase, did, isRead, tookBy, handed, transfer, ranOn, transferNext}
+use Rattle.transfer.specs.Transfer.{Mode, handing, keeping, tells, tells-erase, did, isRead, tookBy, handed, transfer, ranOn, transferNext}
 use Rattle.transfer.specs.Attempt.{clearing, attempting, attempt, accessAttempt, restAttempt, awaiting, attemptNext}
-use Rattle.transfer.specs.Calls.{dropped, script, restScript, judgedThen}
+use Rattle.transfer.specs.Calls.{dropped, single, script, restScript, judgedThen}
 
 -- the machine's list of line calls is the command
 pub job-did : (l : Layout) (device : ℕ) (c : Command) (k : ℕ → Bus) → commanded l device c k ≡ did l device c k
@@ -67,21 +68,21 @@ after-other m l device s at t b ctl h = rw (h)
 
 pub told-twice : {A : Type 0} (m : Mode) (b d : ℕ) (x : Access) (f : Answer → Prog A) → tells m b (ask x f) ≡ tells m b (tells m d (ask x f))
 unfolding tells
-told-twice silent b d x f = refl
-told-twice loud b d x f = refl
+told-twice keeping b d x f = refl
+told-twice handing b d x f = refl
 
 pub told-end : (m : Mode) (b : ℕ) (l : Layout) (device : ℕ) (s : List ℕ) (ctl : ℕ) (t : Taken) (o : Outcome)
     → transferNext m l device s (End ctl t o) ≡ tells m b (transferNext m l device s (End ctl t o))
 unfolding tells transferNext
-told-end silent b l device s ctl t o = refl
-told-end loud b l device s ctl t Ok = refl
-told-end loud b l device s ctl t (Err e) = refl
+told-end keeping b l device s ctl t o = refl
+told-end handing b l device s ctl t Ok = refl
+told-end handing b l device s ctl t (Err e) = refl
 
 pub told-on : {A B : Type 0} (m : Mode) (b : ℕ) (x : Access) (p : Answer → Prog A) (k : A → Prog B)
     → tells m b (ask x (λ a. erase (p a >>= k))) ≡ followed (tells m b (ask x (λ a. erase (p a)))) k
 unfolding tells followed _>>=_
-told-on silent b x p k = going x p k
-told-on loud b x p k = ap (give b) (going x p k)
+told-on keeping b x p k = going x p k
+told-on handing b x p k = ap (give b) (going x p k)
 
 pub only : (q : Sequence) (l : Layout) → clear l ≡ clearing q l
 unfolding clearing
@@ -119,18 +120,18 @@ judged-no s k {q = q} h e = rw (← e, h) (numbered q k)
 
 -- the call of a script begins as an attempt that is counted
 pub script-begins : (port : Port) (s : List ℕ)
-    → tally 1 (followed (attemptNext loud Pulses (layoutOf (port .family)) (device s) s (Going New)) dropped) ≡ tally 0 (script port s)
+    → tally single (followed (attemptNext handing Pulses (layoutOf (port .family)) (device s) s (Going New)) dropped) ≡ tally blank (script port s)
 unfolding attemptNext awaiting accessAttempt restAttempt script attempt attempting tally _>>=_
 script-begins port s =
-    sym (going-tally 1 (accessAttempt (layoutOf (port .family)) New) (restAttempt loud Pulses (layoutOf (port .family)) (device s) s New) dropped)
+    sym (going-tally single (accessAttempt (layoutOf (port .family)) New) (restAttempt handing Pulses (layoutOf (port .family)) (device s) s New) dropped)
 
 pub script-rest : (port : Port) (s : List ℕ) (t : Attempt) (a : Answer) (n : AttemptNext)
-    → attemptNext loud Pulses (layoutOf (port .family)) (device s) s n ≡ erase (restAttempt loud Pulses (layoutOf (port .family)) (device s) s t a)
-    → tally 1 (followed (attemptNext loud Pulses (layoutOf (port .family)) (device s) s n) dropped) ≡ tally 1 (restScript port s t a)
+    → attemptNext handing Pulses (layoutOf (port .family)) (device s) s n ≡ erase (restAttempt handing Pulses (layoutOf (port .family)) (device s) s t a)
+    → tally single (followed (attemptNext handing Pulses (layoutOf (port .family)) (device s) s n) dropped) ≡ tally single (restScript port s t a)
 unfolding restScript
-script-rest port s t a n e = over-tally 1 (restAttempt loud Pulses (layoutOf (port .family)) (device s) s t a) dropped refl e
+script-rest port s t a n e = over-tally single (restAttempt handing Pulses (layoutOf (port .family)) (device s) s t a) dropped refl e
 
-pub told-tally : {A B : Type 0} (n b : ℕ) (x : Access) (p : Answer → Prog A) (k : A → Prog B)
-    → give b (ask x (λ a. tally n (p a >>= k))) ≡ tally n (followed (tells loud b (ask x (λ a. erase (p a)))) k)
+pub told-tally : {A B : Type 0} (m : Meter) (b : ℕ) (x : Access) (p : Answer → Prog A) (k : A → Prog B)
+    → give b (ask x (λ a. tally m (p a >>= k))) ≡ tally m (followed (tells handing b (ask x (λ a. erase (p a)))) k)
 unfolding tells followed tally _>>=_
-told-tally n b x p k = ap (give b) (going-tally n x p k)
+told-tally m b x p k = ap (give b) (going-tally m x p k)

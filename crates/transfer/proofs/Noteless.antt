@@ -11,16 +11,16 @@ use Rattle.bus.specs.Bus.{Bus}
 use Rattle.bus.proofs.Noteless.{Noteless, NotelessBus, ret-noteless, bind-noteless, pick-noteless, done-noteless, start-noteless, send-noteless, in-byte-noteless, out-bit-noteless, stop-noteless, free-noteless, clear-noteless}
 use Rattle.transfer.specs.declared.attempt.Sequence.{Sequence}
 use Rattle.transfer.specs.declared.attempt.Sequence.the-variants.{Pulses}
-use Rattle.transfer.specs.Transfer.{Mode, loud, silent, tells, did, tookBy, handed, transfer}
+use Rattle.transfer.specs.Transfer.{Mode, handing, keeping, tells, did, tookBy, handed, transfer}
 use Rattle.transfer.specs.Attempt.{clearing, orCleared, cleared, orTried, tried, begun, attempting}
 
 tells-noteless : {A : Type 0} (m : Mode) (b : ℕ) (p : Prog A) → Noteless p → Noteless (tells m b p)
 unfolding Noteless tells
-tells-noteless silent b p e = e
-tells-noteless loud b (ret v) e = e
-tells-noteless loud b (ask x f) e = e
-tells-noteless loud b (note k p) e = absurd e
-tells-noteless loud b (give d p) e = e
+tells-noteless keeping b p e = e
+tells-noteless handing b (ret v) e = e
+tells-noteless handing b (ask x f) e = e
+tells-noteless handing b (note k p) e = absurd e
+tells-noteless handing b (give d p) e = e
 
 command-noteless : (l : Layout) (device : ℕ) (c : Command) (k : ℕ → Bus) → ((b : ℕ) → NotelessBus (k b)) → NotelessBus (did l device c k)
 unfolding did

@@ -11,10 +11,10 @@ use lib.ListN.{length}
 use Rattle.hardware.specs.declared.Access.{Access}
 use Rattle.hardware.specs.declared.Answer.{Answer}
 use Rattle.hardware.specs.declared.Port.{Port}
-use Rattle.hardware.specs.Asked.{Asked, no, yes, andThen, question, openPort, fits}
-use Rattle.hardware.specs.Prog.{Prog, R, tally, _>>=_}
-use Rattle.hardware.specs.Runs.{run, ran, Ends, Awaited, ended, transfersIn, counted}
-use Rattle.hardware.proofs.Laws.{run-counted}
+use Rattle.hardware.specs.Asked.{Asked, no, yes, andThen, question, openPort, fits, admitting}
+use Rattle.hardware.specs.Prog.{Prog, R, blank, tally, _>>=_}
+use Rattle.hardware.specs.Runs.{run, runAsked, Ends, Awaited, ended, transfersIn, meterIn, counted}
+use Rattle.hardware.proofs.Laws.{run-tally}
 use Rattle.hardware.proofs.Ends.{ends-more, ends-bind, ret-ends, run-ends}
 use Rattle.bus.specs.declared.Taken.{Taken}
 use Rattle.bus.proofs.Noteless.{Noteless, ret-noteless, bind-noteless, transfers-none}
@@ -27,9 +27,9 @@ use Rattle.transfer.specs.declared.attempt.Sequence.the-variants.{Pulses
 use Rattle.transfer.specs.declared.calls.ScriptCall.the-variants.{Going}
 use Rattle.transfer.specs.declared.calls.ScriptTold.{ScriptTold}
 use Rattle.transfer.specs.declared.calls.ScriptTold.the-variants.{Ask, Read}
-use Rattle.transfer.specs.Transfer.{loud}
+use Rattle.transfer.specs.Transfer.{handing}
 use Rattle.transfer.specs.Attempt.{attempt}
-use Rattle.transfer.specs.Calls.{dropped, script, restScript, judgedThen, openScript, steppedScript, stepScript, saidScript, standsScript}
+use Rattle.transfer.specs.Calls.{dropped, script, restScript, judgedThen, openScript, steppedScript, stepScript, saidScript, standsScript, single}
 use Rattle.transfer.proofs.Laws.{judged-yes}
 use Rattle.transfer.proofs.Ends.{COMMAND-STEPS, ATTEMPT-STEPS, attempt-steps, commands-ends}
 use Rattle.transfer.proofs.Noteless.{transfer-noteless, attempting-noteless}
@@ -39,27 +39,27 @@ unfolding dropped
 dropped-noteless r = ret-noteless _
 
 -- a call that is opened is run over the answers
-ran-question : {A : Type 0} (b : Bool) (n : ℕ) (p : Prog A) (l : List Answer) → ran (question b n (yes p)) l ≡ question b n (yes (run p l))
-unfolding ran question
+ran-question : {A : Type 0} (b : Bool) (n : ℕ) (p : Prog A) (l : List Answer) → runAsked (question b n (yes p)) l ≡ question b n (yes (run p l))
+unfolding runAsked question
 ran-question true n p l = refl
 ran-question false n p l = refl
 
 ran-opened : (o : Asked Port) (s : List ℕ) (l : List Answer)
-    → ran (andThen o (λ port. judgedThen s (yes (tally 0 (script port s))))) l ≡ andThen o (λ port. judgedThen s (yes (counted (transfersIn (script port s) l) (run (script port s) l))))
-unfolding ran andThen judgedThen
+    → runAsked (andThen o (λ port. judgedThen s (yes (tally blank (script port s))))) l ≡ andThen o (λ port. judgedThen s (yes (counted (meterIn blank (script port s) l) (run (script port s) l))))
+unfolding runAsked andThen judgedThen
 ran-opened (no n) s l = refl
-ran-opened (yes port) s l = ran-question _ _ _ l ∙ ap (λ r. question (eqb (judged s) 0) (judged s) (yes r)) (run-counted (script port s) l)
+ran-opened (yes port) s l = ran-question _ _ _ l ∙ ap (λ r. question (eqb (judged s) 0) (judged s) (yes r)) (run-tally blank (script port s) l)
 
 pub script-runs : (family device lan : ℕ) (s : List ℕ) (r : ScriptTold) → saidScript r s ≡ openScript family device lan s → (l : List Answer)
-    → ran (saidScript r s) l ≡ andThen (openPort family device lan) (λ port. judgedThen s (yes (counted (transfersIn (script port s) l) (run (script port s) l))))
+    → runAsked (saidScript r s) l ≡ andThen (openPort family device lan) (λ port. judgedThen s (yes (counted (meterIn blank (script port s) l) (run (script port s) l))))
 unfolding openScript
-script-runs family device lan s r e l = ap (λ x. ran x l) e ∙ ran-opened (openPort family device lan) s l
+script-runs family device lan s r e l = ap (λ x. runAsked x l) e ∙ ran-opened (openPort family device lan) s l
 
 -- one transfer is begun, in the run's first step, whether it fails or not
 pub script-count : (port : Port) (s : List ℕ) (l : List Answer) → transfersIn (script port s) l ≡ 1
 unfolding script attempt _>>=_ transfersIn
 script-count port s l =
-    ap suc (transfers-none _ l (bind-noteless _ dropped (attempting-noteless Pulses (layoutOf (port .family)) (device s) _ (transfer-noteless loud (layoutOf (port .family)) (device s) (commands s) none)) dropped-noteless))
+    ap suc (transfers-none _ l (bind-noteless _ dropped (attempting-noteless Pulses (layoutOf (port .family)) (device s) _ (transfer-noteless handing (layoutOf (port .family)) (device s) (commands s) none)) dropped-noteless))
 
 -- a script has at most 64 commands
 abbrev pub SCRIPT-STEPS : ℕ
@@ -75,20 +75,20 @@ pub script-ends : (port : Port) (s : List ℕ) → judged s ≡ 0 → Ends (scri
 unfolding script dropped
 script-ends port s h =
     ends-more _ (ATTEMPT-STEPS (COMMAND-STEPS * length (commands s)) + 0) SCRIPT-STEPS
-    (ends-bind _ _ (ATTEMPT-STEPS (COMMAND-STEPS * length (commands s))) 0 (commands-ends loud Pulses (layoutOf (port .family)) (device s) (commands s) none) (λ r. ret-ends _ 0))
+    (ends-bind _ _ (ATTEMPT-STEPS (COMMAND-STEPS * length (commands s))) 0 (commands-ends handing Pulses (layoutOf (port .family)) (device s) (commands s) none) (λ r. ret-ends _ 0))
     (omega (arith, script-length s h))
 
 pub script-finishes : (port : Port) (s : List ℕ) (l : List Answer) → judged s ≡ 0 → SCRIPT-STEPS ≤ length l → Awaited (script port s) l
-    → (v : R (Unit {0})) × ((run (script port s) l) .stand ≡ ended v)
+    → (v : R (Unit {0})) × ((run (script port s) l) .status ≡ ended v)
 script-finishes port s l h n w = run-ends (script port s) SCRIPT-STEPS l (script-ends port s h) n w
 
 -- a state that was handed out, with the script and any answer of the kind that its access awaits, is not refused
 pub script-accepts : (x : Access) (port : Port) (t : Attempt) (s : List ℕ) (a : Answer) → standsScript (Ask x (Going port t)) s
-    → judged s ≡ 0 → fits x a ≡ true → stepScript (Going port t) s a ≡ yes (tally 1 (restScript port s t a))
-unfolding standsScript stepScript steppedScript question
-script-accepts x port t s a h j e = judged-yes s _ j ∙ (rw (h .1, h .2, ← h .0, e))
+    → judged s ≡ 0 → fits x a ≡ true → stepScript (Going port t) s a ≡ yes (tally single (restScript port s t a))
+unfolding standsScript stepScript steppedScript admitting question
+script-accepts x port t s a h j e = judged-yes s _ j ∙ (rw (h .1, ← h .0, e))
 
 pub script-read-accepts : (b : ℕ) (x : Access) (port : Port) (t : Attempt) (s : List ℕ) (a : Answer) → standsScript (Read b x (Going port t)) s
-    → judged s ≡ 0 → fits x a ≡ true → stepScript (Going port t) s a ≡ yes (tally 1 (restScript port s t a))
-unfolding standsScript stepScript steppedScript question
-script-read-accepts b x port t s a h j e = judged-yes s _ j ∙ (rw (h .1, h .2, ← h .0, e))
+    → judged s ≡ 0 → fits x a ≡ true → stepScript (Going port t) s a ≡ yes (tally single (restScript port s t a))
+unfolding standsScript stepScript steppedScript admitting question
+script-read-accepts b x port t s a h j e = judged-yes s _ j ∙ (rw (h .1, ← h .0, e))

@@ -1,15 +1,16 @@
--- What the call of a script yields: a refusal by its number, or what is left of the call. Its result has the count of
--- transfers beside it.
+-- What the call of a script yields: a refusal by its number, or what is left of the call. Its result has the meter beside
+-- it.
 use Prim.Native.Nat.{ℕ}
 use mathlib.Core.Path.{_≡_}
-use mathlib.Core.Bool.{true}
+use mathlib.Core.Bool.{Bool, true, false}
 use mathlib.Core.List.{List}
 use lib.Dec.{eqb}
 use Rattle.hardware.specs.declared.Answer.{Answer}
+use Rattle.hardware.specs.declared.Meter.{Meter}
 use Rattle.hardware.specs.declared.Port.{Port}
-use Rattle.hardware.specs.Asked.{Asked, yes, no, question, andThen, openPort, validPort, fits}
+use Rattle.hardware.specs.Asked.{Asked, yes, no, question, andThen, openPort, validPort, admitting}
 use Rattle.hardware.specs.Numbers.{refusalNumber}
-use Rattle.hardware.specs.Prog.{Prog, ret, ask, give, R, Ok, Err, _>>=_, Counted, tally}
+use Rattle.hardware.specs.Prog.{Prog, ret, ask, give, R, Ok, Err, _>>=_, Counted, blank, tally, pick}
 use Rattle.hardware.specs.Registers.{outcome}
 use Rattle.bus.specs.declared.Taken.{Taken}
 use Rattle.bus.specs.Bus.{none}
@@ -21,7 +22,7 @@ use Rattle.transfer.specs.declared.calls.ScriptCall.{ScriptCall}
 use Rattle.transfer.specs.declared.calls.ScriptCall.the-variants.{Going, Over}
 use Rattle.transfer.specs.declared.calls.ScriptTold.{ScriptTold}
 use Rattle.transfer.specs.declared.calls.ScriptTold.the-variants.{Ask, Read, End, Refused}
-use Rattle.transfer.specs.Transfer.{loud, transfer}
+use Rattle.transfer.specs.Transfer.{handing, transfer}
 use Rattle.transfer.specs.Attempt.{attempt, accessAttempt, restAttempt, validAttempt}
 
 -- the result of a script has no bytes, they were handed out
@@ -35,11 +36,15 @@ dropped r = ret (without r)
 -- a script runs once: `attempt` over the `Bus` calls of its commands, for the device of its first address
 unfoldable pub script : Port → List ℕ → Prog (R (Unit {0}))
 script port s =
-    attempt Pulses (layoutOf (port .family)) (device s) (transfer loud (layoutOf (port .family)) (device s) (commands s) none) >>= dropped
+    attempt Pulses (layoutOf (port .family)) (device s) (transfer handing (layoutOf (port .family)) (device s) (commands s) none) >>= dropped
+
+-- once it has begun
+abbrev pub single : Meter
+single = record { transfers = 1 }
 
 -- what is left of it once the answer to a state's access is there
 unfoldable pub restScript : Port → List ℕ → Attempt → Answer → Prog (R (Unit {0}))
-restScript port s t a = restAttempt loud Pulses (layoutOf (port .family)) (device s) s t a >>= dropped
+restScript port s t a = restAttempt handing Pulses (layoutOf (port .family)) (device s) s t a >>= dropped
 
 -- the questions 5, 6 and 7 about the script, and what comes after
 unfoldable pub judgedThen : {A : Type 0} → List ℕ → Asked A → Asked A
@@ -47,14 +52,15 @@ judgedThen s k = question (eqb (judged s) 0) (judged s) k
 
 -- 1 and 2, then 5 to 7
 unfoldable pub openScript : ℕ → ℕ → ℕ → List ℕ → Asked (Prog (Counted (R (Unit {0}))))
-openScript family device lan s = andThen (openPort family device lan) (λ port. judgedThen s (yes (tally 0 (script port s))))
+openScript family device lan s = andThen (openPort family device lan) (λ port. judgedThen s (yes (tally blank (script port s))))
+
+unfoldable pub validScript : Port → List ℕ → Attempt → Bool
+validScript port s t = pick (validPort port) (validAttempt (layoutOf (port .family)) s t) false
 
 -- 10, 11, 12. The finished state is well formed
 unfoldable pub steppedScript : ScriptCall → List ℕ → Answer → Asked (Prog (Counted (R (Unit {0}))))
 steppedScript (Going port t) s a =
-    question (validPort port) 10
-    (question (validAttempt (layoutOf (port .family)) s t) 10
-    (question (fits (accessAttempt (layoutOf (port .family)) t) a) 12 (yes (tally 1 (restScript port s t a)))))
+    admitting (validScript port s t) (accessAttempt (layoutOf (port .family)) t) a (yes (tally single (restScript port s t a)))
 steppedScript Over s a = no 11
 
 -- a step: 5 to 7 again, of the script that is lent now
@@ -63,20 +69,18 @@ stepScript c s a = judgedThen s (steppedScript c s a)
 
 -- what was told, where the script s is lent on
 unfoldable pub saidScript : ScriptTold → List ℕ → Asked (Prog (Counted (R (Unit {0}))))
-saidScript (Ask x (Going port t)) s = yes (ask x (λ a. tally 1 (restScript port s t a)))
+saidScript (Ask x (Going port t)) s = yes (ask x (λ a. tally single (restScript port s t a)))
 saidScript (Ask x Over) s = no 0
-saidScript (Read b x (Going port t)) s = yes (give b (ask x (λ a. tally 1 (restScript port s t a))))
+saidScript (Read b x (Going port t)) s = yes (give b (ask x (λ a. tally single (restScript port s t a))))
 saidScript (Read b x Over) s = no 0
-saidScript (End o n) s = yes (ret (record { transfers = n; result = outcome o }))
+saidScript (End o m) s = yes (ret (record { meter = m; result = outcome o }))
 saidScript (Refused q) s = no (refusalNumber q)
 
 -- a state to go on from comes with the access it awaits, and passes question 10 with the script s
 unfoldable pub standsScript : ScriptTold → List ℕ → Type 0
-standsScript (Ask x (Going port t)) s =
-    (x ≡ accessAttempt (layoutOf (port .family)) t) × (validPort port ≡ true) × (validAttempt (layoutOf (port .family)) s t ≡ true)
+standsScript (Ask x (Going port t)) s = (x ≡ accessAttempt (layoutOf (port .family)) t) × (validScript port s t ≡ true)
 standsScript (Ask x Over) s = ⊥
-standsScript (Read b x (Going port t)) s =
-    (x ≡ accessAttempt (layoutOf (port .family)) t) × (validPort port ≡ true) × (validAttempt (layoutOf (port .family)) s t ≡ true)
+standsScript (Read b x (Going port t)) s = (x ≡ accessAttempt (layoutOf (port .family)) t) × (validScript port s t ≡ true)
 standsScript (Read b x Over) s = ⊥
-standsScript (End o n) s = Unit {0}
+standsScript (End o m) s = Unit {0}
 standsScript (Refused q) s = Unit {0}

@@ -8,7 +8,7 @@ use lib.ListN.{drop}
 use Rattle.hardware.specs.declared.Access.{Access}
 use Rattle.hardware.specs.declared.Answer.{Answer}
 use Rattle.hardware.specs.declared.Outcome.the-variants.{Ok as OutcomeOk, Err as OutcomeErr}
-use Rattle.hardware.specs.Prog.{Prog, ret, ask, note, give, Note, Attempt, Acquires, Acquired, Released, Lapsed, stays, erase, pick}
+use Rattle.hardware.specs.Prog.{Prog, ret, ask, note, give, Note, told, noteIf, stays, erase, pick}
 use Rattle.bus.specs.declared.Layout.{Layout}
 use Rattle.bus.specs.declared.Taken.{Taken}
 use Rattle.bus.specs.declared.command.Command.{Command}
@@ -22,31 +22,31 @@ use Rattle.transfer.specs.declared.transfer.TransferNext.the-variants.{G
 
 -- a script's caller takes the bytes; the Rust's four transfers keep them
 pub data Mode : Type 0 where
-  loud silent : Mode
+  handing keeping : Mode
 
 -- a byte goes out with the next access; where none follows it does not
 unfoldable pub tells : {A : Type 0} → Mode → ℕ → Prog A → Prog A
-tells silent b p = p
-tells loud b (ret v) = ret v
-tells loud b (ask x f) = give b (ask x f)
-tells loud b (note n p) = note n (tells loud b p)
-tells loud b (give d p) = give b p
+tells keeping b p = p
+tells handing b (ret v) = ret v
+tells handing b (ask x f) = give b (ask x f)
+tells handing b (note n p) = note n (tells handing b p)
+tells handing b (give d p) = give b p
 
-pub tells-stays : {A : Type 0} (b : ℕ) (n : Note) (p : Prog A) → stays n (tells loud b p) ≡ tells loud b (stays n p)
+pub tells-stays : {A : Type 0} (b : ℕ) (n : Note) (p : Prog A) → stays n (tells handing b p) ≡ tells handing b (stays n p)
 unfolding tells
-tells-stays b Attempt p = refl
-tells-stays b Acquires p = refl
-tells-stays b Acquired p = refl
-tells-stays b Released p = refl
-tells-stays b Lapsed p = refl
+tells-stays b n p = by (told n)
+  where
+    by : (k : Bool) → noteIf k n (tells handing b p) ≡ tells handing b (noteIf k n p)
+    by true = refl
+    by false = refl
 
 pub tells-erase : {A : Type 0} (m : Mode) (b : ℕ) (p : Prog A) → erase (tells m b p) ≡ tells m b (erase p)
 unfolding tells erase
-tells-erase silent b p = refl
-tells-erase loud b (ret v) = refl
-tells-erase loud b (ask x f) = refl
-tells-erase loud b (note n p) = ap (stays n) (tells-erase loud b p) ∙ tells-stays b n (erase p)
-tells-erase loud b (give d p) = refl
+tells-erase keeping b p = refl
+tells-erase handing b (ret v) = refl
+tells-erase handing b (ask x f) = refl
+tells-erase handing b (note n p) = ap (stays n) (tells-erase handing b p) ∙ tells-stays b n (erase p)
+tells-erase handing b (give d p) = refl
 
 -- a command as the Rust makes it; k is given the byte that was read
 unfoldable pub did : Layout → ℕ → Command → (ℕ → Bus) → Bus

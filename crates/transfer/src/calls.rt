@@ -5,7 +5,9 @@ use crate::attempt::AttemptNext;
 use crate::attempt::Got;
 use crate::attempt::Sequence;
 use hardware::Access;
+use hardware::Admitted;
 use hardware::Answer;
+use hardware::Meter;
 use hardware::Opening;
 use hardware::Outcome;
 use hardware::Port;
@@ -16,25 +18,26 @@ ghost use mathlib.Core.Path.{_≡_};
 ghost use mathlib.Core.Bool.{true};
 ghost use mathlib.Core.List.{List};
 ghost use Rattle.hardware.specs.Asked.{yes, validPort};
+ghost use Rattle.hardware.specs.Promise.{Keeps};
 ghost use Rattle.hardware.specs.Prog.{tally, followed};
 ghost use Rattle.hardware.specs.Registers.{outcome};
 ghost use Rattle.bus.specs.Layout.{layoutOf};
 ghost use Rattle.script.specs.Script.{device, onCommand};
 ghost use Rattle.transfer.specs.declared.attempt.Sequence.the-variants.{Pulses};
-ghost use Rattle.transfer.specs.Transfer.{loud};
+ghost use Rattle.transfer.specs.Transfer.{handing};
 ghost use Rattle.transfer.specs.Attempt.{got, attemptNext, validAttemptNext};
-ghost use Rattle.transfer.specs.Calls.{without, dropped, openScript, steppedScript, stepScript, saidScript, standsScript};
+ghost use Rattle.transfer.specs.Calls.{without, dropped, single, openScript, validScript, steppedScript, stepScript, saidScript, standsScript};
 
 pub enum ScriptCall {
     Going(Port, Attempt),
     Over,
 }
 
-// Read: a byte that was read is handed out with the next access. End: the result, and the count of transfers.
+// Read: a byte that was read is handed out with the next access. End: the result, and what was metered.
 pub enum ScriptTold {
     Ask(Access, ScriptCall),
     Read(u8, Access, ScriptCall),
-    End(Outcome, u32),
+    End(Outcome, Meter),
     Refused(Refusal),
 }
 
@@ -48,8 +51,7 @@ fn outcome_of(g: Got) -> Outcome
 }
 
 fn told(port: Port, n: AttemptNext) -> ScriptTold
-    ensures { λ r. ⌜ ((s : List ℕ) → saidScript r s ≡ yes (tally 1 (followed (attemptNext loud Pulses (layoutOf (port .family)) (device s) s n) dropped))) ⌝ }
-    ensures { λ r. ⌜ ((s : List ℕ) → validPort port ≡ true → validAttemptNext (layoutOf (port .family)) s n ≡ true → standsScript r s) ⌝ }
+    ensures { λ r. ⌜ Keeps ((s : List ℕ) → saidScript r s ≡ yes (tally single (followed (attemptNext handing Pulses (layoutOf (port .family)) (device s) s n) dropped))) ((s : List ℕ) → validPort port ≡ true → validAttemptNext (layoutOf (port .family)) s n ≡ true → standsScript r s) ⌝ }
 {
     let family = port.family;
     let l = bus::layout_of(family);
@@ -63,13 +65,12 @@ fn told(port: Port, n: AttemptNext) -> ScriptTold
             crate::attempt::access(l, t),
             ScriptCall::Going(port, t),
         ),
-        AttemptNext::End(g) => ScriptTold::End(outcome_of(g), 1),
+        AttemptNext::End(g) => ScriptTold::End(outcome_of(g), Meter { transfers: 1 }),
     }
 }
 
 pub fn script_open(family: u32, device: u16, lan: u32, script: &[u8]) -> ScriptTold
-    ensures { λ r. ⌜ saidScript r (now (script .entry)) ≡ openScript family device lan (now (script .entry)) ⌝ }
-    ensures { λ r. ⌜ standsScript r (now (script .entry)) ⌝ }
+    ensures { λ r. ⌜ Keeps (saidScript r (now (script .entry)) ≡ openScript family device lan (now (script .entry))) (standsScript r (now (script .entry))) ⌝ }
 {
     match hardware::open_port(family, device, lan) {
         Opening::Port(p) => match script::cursor::judge(script) {
@@ -80,30 +81,35 @@ pub fn script_open(family: u32, device: u16, lan: u32, script: &[u8]) -> ScriptT
     }
 }
 
-fn script_on(port: Port, t: Attempt, script: &[u8], a: Answer) -> ScriptTold
-    ensures { λ r. ⌜ saidScript r (now (script .entry)) ≡ steppedScript (ScriptCall.Going port t) (now (script .entry)) a ⌝ }
-    ensures { λ r. ⌜ (onCommand (now (script .entry)) 0 ≡ true → standsScript r (now (script .entry))) ⌝ }
+fn valid(port: Port, script: &[u8], t: Attempt) -> bool
+    ensures { λ r. ⌜ r ≡ validScript port (now (script .entry)) t ⌝ }
 {
     if hardware::valid_port(port) {
         let family = port.family;
-        let l = bus::layout_of(family);
-        if crate::attempt::valid(l, script, t) {
-            if hardware::awaited(crate::attempt::access(l, t), a) {
-                let device = script::cursor::device(script);
-                return told(
-                    port,
-                    crate::attempt::step(Sequence::Pulses, l, device, script, t, a),
-                );
-            }
-            return ScriptTold::Refused(Refusal::Kind);
-        }
+        return crate::attempt::valid(bus::layout_of(family), script, t);
     }
-    ScriptTold::Refused(Refusal::State)
+    false
+}
+
+fn script_on(port: Port, t: Attempt, script: &[u8], a: Answer) -> ScriptTold
+    ensures { λ r. ⌜ Keeps (saidScript r (now (script .entry)) ≡ steppedScript (ScriptCall.Going port t) (now (script .entry)) a) (onCommand (now (script .entry)) 0 ≡ true → standsScript r (now (script .entry))) ⌝ }
+{
+    let family = port.family;
+    let l = bus::layout_of(family);
+    match hardware::admit(valid(port, script, t), crate::attempt::access(l, t), a) {
+        Admitted::Yes => {
+            let device = script::cursor::device(script);
+            told(
+                port,
+                crate::attempt::step(Sequence::Pulses, l, device, script, t, a),
+            )
+        }
+        Admitted::No(q) => ScriptTold::Refused(q),
+    }
 }
 
 pub fn script_step(s: ScriptCall, script: &[u8], a: Answer) -> ScriptTold
-    ensures { λ r. ⌜ saidScript r (now (script .entry)) ≡ stepScript s (now (script .entry)) a ⌝ }
-    ensures { λ r. ⌜ standsScript r (now (script .entry)) ⌝ }
+    ensures { λ r. ⌜ Keeps (saidScript r (now (script .entry)) ≡ stepScript s (now (script .entry)) a) (standsScript r (now (script .entry))) ⌝ }
 {
     match script::cursor::judge(script) {
         Judged::Accepted => match s {

@@ -1,5 +1,5 @@
 // The host: I2CCTL is the bench module's, and at every other register locks and grants come at once.
-use bench::register::Desk;
+use bench::register::BenchState;
 use hardware::Access;
 use hardware::Answer;
 use hardware::Port;
@@ -17,73 +17,73 @@ pub const OFFSET: u8 = 0x2a;
 // More accesses than any of the calls makes.
 const BUDGET: u32 = 20_000;
 
-pub struct Met {
+pub struct Reply {
     pub answer: Answer,
-    pub desk: Desk,
+    pub state: BenchState,
 }
 
 // ended: the call came to its end, with the value and the transfers made.
-pub struct Ran {
+pub struct Outcome {
     pub ended: bool,
     pub value: Word,
     pub made: u32,
-    pub desk: Desk,
+    pub state: BenchState,
 }
 
-fn meet(port: Port, d: Desk, x: Access) -> Met
-    ensures { λ m. ⌜ m .desk ≡ accessed (layoutOf (port .family)) x d .desk ⌝ }
+fn meet(port: Port, d: BenchState, x: Access) -> Reply
+    ensures { λ m. ⌜ m .state ≡ accessed (layoutOf (port .family)) x d .state ⌝ }
     ensures { λ m. ⌜ m .answer ≡ pick (accessed (layoutOf (port .family)) x d .here) (accessed (layoutOf (port .family)) x d .answer) (atOnce x) ⌝ }
 {
     let family = port.family;
     let reply = bench::register::access(family, d, x);
-    let desk = reply.desk;
+    let state = reply.state;
     if reply.here {
         let answer = reply.answer;
-        return Met { answer, desk };
+        return Reply { answer, state };
     }
     let answer = bench::at_once::at_once(x);
-    Met { answer, desk }
+    Reply { answer, state }
 }
 
-fn unended(d: Desk) -> Ran {
+fn unended(d: BenchState) -> Outcome {
     let value = Word::Ok(0);
-    Ran {
+    Outcome {
         ended: false,
         value,
         made: 0,
-        desk: d,
+        state: d,
     }
 }
 
-fn run(port: Port, d: Desk, first: TransferTold) -> Ran {
-    let mut desk = d;
+fn run(port: Port, d: BenchState, first: TransferTold) -> Outcome {
+    let mut state = d;
     let mut told = first;
     let mut left = BUDGET;
     while 0 < left {
         match told {
             TransferTold::Ask(x, s) => {
-                let met = meet(port, desk, x);
-                let a = met.answer;
-                desk = met.desk;
+                let reply = meet(port, state, x);
+                let a = reply.answer;
+                state = reply.state;
                 told = i2c::calls::transfer_step(s, a);
             }
-            TransferTold::End(value, made) => {
-                return Ran {
+            TransferTold::End(value, m) => {
+                return Outcome {
                     ended: true,
                     value,
-                    made,
-                    desk,
+                    made: m.transfers,
+                    state,
                 };
             }
-            TransferTold::Refused(_) => return unended(desk),
+            TransferTold::Refused(_) => return unended(state),
         }
         left -= 1;
     }
-    unended(desk)
+    unended(state)
 }
 
 // `read_byte` of A0 under the lock, with the family's attempts; `number` is the port's family.
-pub(crate) fn read(number: u32, port: Port, d: Desk) -> Ran {
+pub(crate) fn read(number: u32, port: Port, d: BenchState) -> Outcome {
     let attempts = i2c::attempts(port);
     let lan = port.lan as u32;
     run(

@@ -1,10 +1,10 @@
 // The lines that are printed.
 use crate::host;
-use crate::host::Ran;
+use crate::host::Outcome;
 use crate::start;
 use crate::start::Row;
 use bench::receiver::Stage;
-use bench::register::Desk;
+use bench::register::BenchState;
 use hardware::Error;
 use hardware::Port;
 use hardware::Word;
@@ -71,7 +71,7 @@ fn value(w: Word) {
 }
 
 // The byte read or I2c, and the transfers made.
-fn result(r: Ran) {
+fn result(r: Outcome) {
     if r.ended {
         let v = r.value;
         value(v);
@@ -83,7 +83,7 @@ fn result(r: Ran) {
 }
 
 // The receiver at the end, the lines and the bytes.
-fn module(port: Port, before: Desk, after: Desk) {
+fn module(port: Port, before: BenchState, after: BenchState) {
     let family = port.family;
     let b = before.bench;
     let a = after.bench;
@@ -97,18 +97,18 @@ fn module(port: Port, before: Desk, after: Desk) {
 
 fn cell(number: u32, port: Port, row: Row, column: u8) {
     let family = port.family;
-    let before = start::desk(family, row, column);
-    let ran = host::read(number, port, before);
-    let after = ran.desk;
+    let before = start::state(family, row, column);
+    let outcome = host::read(number, port, before);
+    let after = outcome.state;
     text(b" | ");
-    result(ran);
+    result(outcome);
     module(port, before, after);
 }
 
 // The receiver at the start, and whether the module pulls SDA.
 fn label(port: Port, row: Row) {
     let family = port.family;
-    let d = start::desk(family, row, 0);
+    let d = start::state(family, row, 0);
     let bench = d.bench;
     let s = row.stage;
     stage(s);

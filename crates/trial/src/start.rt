@@ -4,7 +4,7 @@ use bench::Page;
 use bench::receiver::Chosen;
 use bench::receiver::Receiver;
 use bench::receiver::Stage;
-use bench::register::Desk;
+use bench::register::BenchState;
 use hardware::Family;
 use std::num::wrapping_add_u8;
 use std::num::wrapping_sub_u8;
@@ -140,7 +140,7 @@ fn counted(first: u8) -> [u8; 256]
 }
 
 // Byte i of A0 is i + 11, of A2 it is i + 91 (hexadecimal): at both offsets stands the row's byte.
-pub(crate) fn desk(family: Family, row: Row, column: u8) -> Desk
+pub(crate) fn state(family: Family, row: Row, column: u8) -> BenchState
     ensures { λ r. ⌜ ready (layoutOf family) (r .word) ≡ true ⌝ }
     ensures { λ r. ⌜ (under (r .bench .a0) ≡ row .sent) × (under (r .bench .a2) ≡ row .sent) ⌝ }
 {
@@ -156,7 +156,7 @@ pub(crate) fn desk(family: Family, row: Row, column: u8) -> Desk
         bytes: high,
     };
     let bench = Bench { receiver, a0, a2 };
-    Desk {
+    BenchState {
         word: word(family, column),
         bench,
     }

@@ -1,23 +1,28 @@
 -- Laws of `Always` for any call.
+use Prim.Native.Nat.{ℕ}
 use mathlib.Core.Bool.{Bool, true, false}
-use lib.Dec.{eqb}
 use Rattle.hardware.specs.declared.Access.{Access}
 use Rattle.hardware.specs.declared.Access.the-variants.{Read, Write, Wait}
 use Rattle.hardware.specs.declared.Answer.{Answer}
 use Rattle.hardware.specs.Prog.{Prog, ret, ask, note, give, Note, Attempt, Acquires, Acquired, Released, Lapsed, _>>=_}
 use Rattle.bus.specs.declared.Layout.{Layout}
-use Rattle.wire.specs.Always.{Side, World, Either, Answered, Kept, noted, Always}
+use Rattle.wire.specs.Machine.{Side, World, modelled, noted}
+use Rattle.wire.specs.Always.{Either, ByKind, Answered, Kept, Always}
 
-either-map : (b : Bool) {X Y X′ Y′ : Type 0} → (X → X′) → (Y → Y′) → Either b X Y → Either b X′ Y′
+pub either-map : (b : Bool) {X Y X′ Y′ : Type 0} → (X → X′) → (Y → Y′) → Either b X Y → Either b X′ Y′
 either-map true f g k = f k
 either-map false f g k = g k
+
+pub by-kind-map : (may : ℕ → ℕ → Type 0) (x : Access) (K L : Answer → Type 0) → ((a : Answer) → K a → L a) → ByKind may x K → ByKind may x L
+unfolding ByKind
+by-kind-map may (Read r) K L h k = λ v m. h _ (k v m)
+by-kind-map may (Write r v) K L h k = h _ k
+by-kind-map may (Wait n) K L h k = h _ k
 
 answered-map : (l : Layout) (o : Side) (x : Access) (K L : Answer → World o → Type 0) (w : World o) → ((a : Answer) (w′ : World o) → K a w′ → L a w′)
     → Answered l o x K w → Answered l o x L w
 unfolding Answered
-answered-map l o (Read r) K L w h = either-map (eqb r (l .reg)) (h _ _) (λ k v m. h _ _ (k v m))
-answered-map l o (Write r v) K L w h = either-map (eqb r (l .reg)) (λ k. (k .0, h _ _ (k .1))) (h _ _)
-answered-map l o (Wait n) K L w h = h _ _
+answered-map l o x K L w h = either-map (modelled l x) (λ k. (k .0, h _ _ (k .1))) (by-kind-map (o .may) x _ _ (λ a. h a w))
 
 kept-map : (n : Note) (X Y : Type 0) → (X → Y) → Kept n X → Kept n Y
 kept-map Attempt X Y f k = f k

@@ -10,7 +10,8 @@ use Rattle.bus.specs.declared.Layout.{Layout}
 use Rattle.bus.specs.declared.Taken.{Taken}
 use Rattle.bus.specs.Bus.{Bus, done, fail, isI2c, orQuiet, quieted, quiet, wait, sclHigh, sclLow, releaseSda, ackTries, sda, close, start, stop, outBit, inBit}
 use Rattle.wire.specs.Lines.{drawn, START, STOP, Fall, Bit, levels, edge, sclEdge, sdaEdge, Distinct}
-use Rattle.wire.specs.Always.{Side, takesAll, turn, Always, Claim, From, FromRest}
+use Rattle.wire.specs.Machine.{Side, takesAll, turn}
+use Rattle.wire.specs.Always.{Always, Claim, From, FromRest}
 use Rattle.wire.proofs.Always.{always-bind}
 use Rattle.wire.proofs.Lines as Lines
 use Rattle.wire.proofs.Lines.{edge-none, turn-none}

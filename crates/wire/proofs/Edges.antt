@@ -8,7 +8,8 @@ use Rattle.bus.specs.declared.Taken.{Taken}
 use Rattle.bus.specs.Layout.{L82599}
 use Rattle.bus.specs.Bus.{Bus, none, took, done, shifted, start, stop, outBit, inBit}
 use Rattle.wire.specs.Lines.{Pulls, drawn, Edge, START, STOP, Fall, Bit, banging, pullsSda, pullsScl, master, ready, Rests, Known, Distinct}
-use Rattle.wire.specs.Always.{Side, listener, nobody, takesAll, Always, Claim, From, FromRest, startLead, stopLead, Ended, Shows}
+use Rattle.wire.specs.Machine.{Side, takesAll}
+use Rattle.wire.specs.Always.{listener, nobody, Always, Claim, From, FromRest, startLead, stopLead, Ended, Shows}
 use Rattle.wire.proofs.Commands as Commands
 
 -- what is known of a word by itself: before a start, and with bit-banging enabled

@@ -3,3 +3,4 @@ pub mod Always
 pub mod Lines
 pub mod Commands
 pub mod Edges
+pub mod Run

@@ -13,7 +13,8 @@ use Rattle.hardware.specs.Registers.{noneOf, raw, written, flushed}
 use Rattle.bus.specs.declared.Layout.{Layout}
 use Rattle.bus.specs.Bus.{Bus, fail, orHeld, flushing, put, get, wait, sdaLevel, sclSeen, sclTries, sclHigh, sclLow, sdaSeen, sdaFree, sda, releaseSda, lookSeen, look, close, sampleSeen, sample, ackSeen, ackTries}
 use Rattle.wire.specs.Lines.{Pulls, drawn, OneMoves, master, levels, edge, sclEdge, sdaEdge, Drives, Rests, Known, Distinct}
-use Rattle.wire.specs.Always.{Side, World, takesAll, turn, wrote, reading, Either, Answered, Always, Claim, From, FromRest}
+use Rattle.wire.specs.Machine.{Side, World, takesAll, turn, wrote, reading, models, modelled, reply, after}
+use Rattle.wire.specs.Always.{Either, ByKind, Answered, Always, Claim, From, FromRest}
 use Rattle.wire.proofs.Words as Words
 
 pub first : (X Y : Type 0) (b : Bool) → b ≡ true → X → Either b X Y
@@ -46,20 +47,20 @@ flipped false = refl
 module _ (l : Layout) (g : Distinct l) (o : Side) where
   put-goes : (k : Bus) (v w : ℕ) (s : o .State) (Q : Claim o) → OneMoves (master l w) (master l v)
       → Always l o (k v) (wrote l o v (record { word = w; other = s })) Q → Always l o (put l k v) (record { word = w; other = s }) Q
-  unfolding Always Answered put flushing orHeld written flushed
+  unfolding Always Answered ByKind modelled models reply after wrote put flushing orHeld written flushed
   put-goes k v w s Q u h = first _ _ _ (eq-eqb (l .reg) (l .reg) refl) (u, second _ _ _ (g .reg) (λ _ _. h))
 
   pub get-goes : (k : ℕ → Bus) (ctl : ℕ) (w : World o) (Q : Claim o)
       → Always l o (k (reading l o w) ctl) w Q → Always l o (get l k ctl) w Q
-  unfolding Always Answered get orHeld raw
-  get-goes k ctl w Q h = first _ _ _ (eq-eqb (l .reg) (l .reg) refl) h
+  unfolding Always Answered modelled models reply after get orHeld raw
+  get-goes k ctl w Q h = first _ _ _ (eq-eqb (l .reg) (l .reg) refl) (inl refl, h)
 
   -- a program that goes by a Boolean u, which is t
   by-it : {t u : Bool} (f : Bool → Bus) (ctl : ℕ) (w : World o) (Q : Claim o) → u ≡ t → Always l o (f t ctl) w Q → Always l o (f u ctl) w Q
   by-it f ctl w Q e h = subst⁻¹ (λ (t : Bool). Always l o (f t ctl) w Q) e h
 
   wait-goes : (k : Bus) (us ctl : ℕ) (w : World o) (Q : Claim o) → Always l o (k ctl) w Q → Always l o (wait us k ctl) w Q
-  unfolding Always Answered wait
+  unfolding Always Answered ByKind modelled wait
   wait-goes k us ctl w Q h = h
 
   put-from : {m n : Pulls} {w : ℕ} (v : ℕ) (k : Bus) (s : o .State) (Q : Claim o) → Rests l m w → master l v ≡ n → OneMoves m n

@@ -3,7 +3,6 @@ use Prim.Native.Nat.{ℕ}
 use mathlib.Core.Path.{_≡_}
 use mathlib.Core.Bool.{Bool, true, false}
 use mathlib.Core.List.{List, [], _∷_, _++_}
-use lib.Dec.{eqb}
 use Rattle.hardware.specs.declared.Access.{Access}
 use Rattle.hardware.specs.declared.Access.the-variants.{Read, Write, Wait}
 use Rattle.hardware.specs.declared.Answer.{Answer}
@@ -12,16 +11,8 @@ use Rattle.hardware.specs.Prog.{Prog, ret, ask, note, give, Note, Attempt, Acqu
 use Rattle.bus.specs.declared.Layout.{Layout}
 use Rattle.bus.specs.declared.Taken.{Taken}
 use Rattle.bus.specs.Bus.{Held, Bus}
-use Rattle.wire.specs.Lines.{Pulls, drawn, OneMoves, Edge, START, STOP, Bit, master, levels, edge, inputs, Rests, Known}
-
--- The other side: its state, the lines that it then pulls, what an edge or a note of the call makes of it. Beside it
--- stands what a register other than I2CCTL may answer
-pub record Side : Type 1 where
-  pub State : Type 0
-  pub pulls : State → Pulls
-  pub takes : Edge → State → State
-  pub notes : Note → State → State
-  pub may : ℕ → ℕ → Type 0
+use Rattle.wire.specs.Lines.{Pulls, drawn, OneMoves, Edge, START, STOP, Bit, master, Rests, Known}
+use Rattle.wire.specs.Machine.{Side, World, modelled, reply, after, noted}
 
 -- Nobody pulls more or less than p, and every edge is written down, the newest last
 abbrev pub listener : Pulls → Side
@@ -37,35 +28,21 @@ listener p =
 abbrev pub nobody : Pulls
 nobody = drawn false false
 
--- I2CCTL as last written, and the other side
-pub record World (o : Side) : Type 0 where
-  pub word : ℕ
-  pub other : o .State
-
-unfoldable pub takesAll : (o : Side) → List Edge → o .State → o .State
-takesAll o [] s = s
-takesAll o (e ∷ es) s = takesAll o es (o .takes e s)
-
--- the other side takes what it sees of a write by which the master's pulls m become n
-unfoldable pub turn : (o : Side) → Pulls → Pulls → o .State → o .State
-turn o m n s = takesAll o (edge (levels m (o .pulls s)) (levels n (o .pulls s))) s
-
-unfoldable pub wrote : (l : Layout) (o : Side) → ℕ → World o → World o
-wrote l o v w = record { word = v; other = turn o (master l (w .word)) (master l v) (w .other) }
-
-unfoldable pub reading : (l : Layout) (o : Side) → World o → ℕ
-reading l o w = inputs l (levels (master l (w .word)) (o .pulls (w .other))) (w .word)
-
 abbrev pub Either : Bool → Type 0 → Type 0 → Type 0
 Either true X Y = X
 Either false X Y = Y
 
--- I2CCTL is written and read at the lines, and no write moves both; every other access gets an answer of its kind, a
--- read any value that it may get
+-- a register that the machine does not model answers by the access's kind, a read with any value that it may get
+unfoldable pub ByKind : (ℕ → ℕ → Type 0) → Access → (Answer → Type 0) → Type 0
+ByKind may (Read r) K = (v : ℕ) → may r v → K (Value v)
+ByKind may (Write r v) K = K Done
+ByKind may (Wait n) K = K Done
+
+-- the machine answers its own accesses, none of which moves both lines; every other gets any answer of its kind
 unfoldable pub Answered : (l : Layout) (o : Side) → Access → (Answer → World o → Type 0) → World o → Type 0
-Answered l o (Read r) K w = Either (eqb r (l .reg)) (K (Value (reading l o w)) w) ((v : ℕ) → o .may r v → K (Value v) w)
-Answered l o (Write r v) K w = Either (eqb r (l .reg)) (OneMoves (master l (w .word)) (master l v) × K Done (wrote l o v w)) (K Done w)
-Answered l o (Wait n) K w = K Done w
+Answered l o x K w =
+    Either (modelled l x) (OneMoves (master l (w .word)) (master l (after l o x w .word)) × K (reply l o x w) (after l o x w))
+    (ByKind (o .may) x (λ a. K a w))
 
 -- where a lock or a grant runs out there is nothing to show
 abbrev pub Kept : Note → Type 0 → Type 0
@@ -74,9 +51,6 @@ Kept Acquires X = X
 Kept Acquired X = X
 Kept Released X = X
 Kept Lapsed X = Unit {0}
-
-abbrev pub noted : (o : Side) → Note → World o → World o
-noted o n w = record { word = w .word; other = o .notes n (w .other) }
 
 -- the call ends, and then Q holds of its result, I2CCTL and the other side
 unfoldable pub Always : (l : Layout) (o : Side) {A : Type 0} → Prog A → World o → (A → World o → Type 0) → Type 0

@@ -1,3 +1,5 @@
 pub mod Bits
 pub mod Lines
+pub mod Machine
 pub mod Always
+pub mod Run

@@ -122,9 +122,9 @@ abbrev pub apart : List ℕ → Bool
 apart [] = true
 apart (m ∷ ms) = clearOf m ms && apart ms
 
-abbrev pub Each : (ℕ → Type 0) → List ℕ → Type 0
+abbrev pub Each : {X : Type 0} → (X → Type 0) → List X → Type 0
 Each P [] = Unit {0}
-Each P (m ∷ ms) = P m × Each P ms
+Each P (x ∷ xs) = P x × Each P xs
 
 -- All that the laws of the line calls need of a layout: each mask is one bit of 32 or 0, no two share a bit, the inputs
 -- and outputs are there, the three that only the X552 layout has are there together, and I2CCTL is not STATUS

@@ -22,8 +22,8 @@ stored-requires c κs = search needs
 enum-told-2 : tie.Need-enum-told-2
 enum-told-2 c = search needs
 
-onward-requires : tie.Need-onward-requires
-onward-requires c κs = search needs
+next-offset-requires : tie.Need-next-offset-requires
+next-offset-requires c κs = search needs
 
 at-requires-2 : tie.Need-at-requires-2
 at-requires-2 c κs = search needs
@@ -42,7 +42,7 @@ returns-3 c = rw (c .before .before .act2 .given .1) (c .stored .ensures)
 
 returns-4 : tie.Need-returns-4
 unfolding acted
-returns-4 c = rw (c .before .before .enum-told2 .given .1, ← c .before .onward .ensures) (c .at2 .ensures)
+returns-4 c = rw (c .before .before .enum-told2 .given .1, ← c .before .next-offset .ensures) (c .at2 .ensures)
 
 pub acted-spec : {M : Type 1} → statement M
 acted-spec =
@@ -54,7 +54,7 @@ acted-spec =
     enum-known-act-2
     stored-requires
     enum-told-2
-    onward-requires
+    next-offset-requires
     at-requires-2
     returns
     returns-2

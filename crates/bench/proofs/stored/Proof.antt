@@ -9,11 +9,11 @@ cast-place c = search needs
 array-write-bytes : tie.Need-array-write-bytes
 array-write-bytes c = search needs
 
-onward-requires : tie.Need-onward-requires
-onward-requires c κs = search needs
+next-offset-requires : tie.Need-next-offset-requires
+next-offset-requires c κs = search needs
 
 returns : tie.Need-returns
-returns c = rw (c .onward .ensures)
+returns c = rw (c .next-offset .ensures)
 
 pub stored-spec : {M : Type 1} → statement M
-stored-spec = tie.close (tie.spec cast-place array-write-bytes onward-requires returns)
+stored-spec = tie.close (tie.spec cast-place array-write-bytes next-offset-requires returns)

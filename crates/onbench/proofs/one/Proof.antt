@@ -1,7 +1,6 @@
 -- `one` meets its contract.
 use Rattle.bus.specs.Layout.{layoutOf}
 use Rattle.onbench.proofs.Laws.{one-ask, one-end, one-refused}
-use Rattle.onbench.specs.Run.{leftOf}
 use borrow.Author.Needs.{needs}
 use Rattle.onbench.proofs.one.Statement.{statement}
 use Rattle.onbench.proofs.one.Tie as tie
@@ -19,13 +18,13 @@ enum-known-told-3 : tie.Need-enum-known-told-3
 enum-known-told-3 c = search needs
 
 returns : tie.Need-returns
-returns c = one-ask (leftOf (layoutOf (c .before .before .before .before .before .before .args .family)) (c .before .before .before .before .before .before .args .answers .now)) (c .before .before .before .before .before .before .args .s) (c .visit .result) _ _ (c .before .before .told .given .1) (c .visit .ensures)
+returns c = let a = c .before .before .before .before .before .before .args in one-ask (layoutOf (a .family)) (a .origin) (a .answers .now) (a .s) (c .visit .result) _ _ (c .before .before .told .given .1) (c .visit .ensures)
 
 returns-2 : tie.Need-returns-2
-returns-2 c = λ _. one-end (layoutOf (c .before .before .before .before .before .args .family)) (c .before .before .before .before .before .args .s) (c .before .before .before .before .before .args .answers .now) _ _ (c .before .told2 .given .1)
+returns-2 c = let a = c .before .before .before .before .before .args in λ _. one-end (layoutOf (a .family)) (a .origin) (a .answers .now) (a .s) _ _ (c .before .told2 .given .1)
 
 returns-3 : tie.Need-returns-3
-returns-3 c = λ _. one-refused (layoutOf (c .before .before .before .before .before .args .family)) (c .before .before .before .before .before .args .s) (c .before .before .before .before .before .args .answers .now) _ (c .before .told3 .given .1)
+returns-3 c = let a = c .before .before .before .before .before .args in λ _. one-refused (layoutOf (a .family)) (a .origin) (a .answers .now) (a .s) _ (c .before .told3 .given .1)
 
 pub one-spec : {M : Type 1} → statement M
 one-spec =

@@ -1,28 +1,28 @@
 -- `play` meets its contract.
+use mathlib.Core.Path.{refl}
 use Rattle.bus.specs.Layout.{layoutOf}
 use Rattle.identify.specs.Calls.{saidIdentify, standsIdentify}
-use Rattle.onbench.proofs.Laws.{Keeps, keeps-first, keeps-next, keeps-stops, left-ends}
-use Rattle.onbench.specs.Run.{Bounded, leftOf}
 use borrow.Author.Needs.{needs}
-use mathlib.Core.Path.{refl}
+use Rattle.onbench.proofs.Laws.{Invariant, invariant-first, invariant-next, invariant-stops, invariant-ends}
+use Rattle.onbench.specs.Run.{Bounded}
 use Rattle.onbench.proofs.play.Statement.{statement}
 use Rattle.onbench.proofs.play.Tie as tie
 
 abbrev Inv-loop : tie.InvT-loop
-Inv-loop family answers s₀ left₀ s left =
-    standsIdentify (s₀ .told) → Bounded (saidIdentify (s₀ .told)) left₀ → Keeps (leftOf (layoutOf family) answers) s₀ left s
+Inv-loop family origin answers s₀ left₀ s left =
+    standsIdentify (s₀ .told) → Bounded (saidIdentify (s₀ .told)) left₀ → Invariant (layoutOf family) origin answers s₀ left s
 
 abbrev μ-loop : tie.MeasureT-loop
-μ-loop family answers s₀ left₀ s left = left
+μ-loop family origin answers s₀ left₀ s left = left
 
 loop-holds : tie.Need-loop-holds Inv-loop μ-loop
-loop-holds c = λ st b. keeps-first _ _ _ refl st b
+loop-holds c = λ st b. invariant-first _ _ _ _ _ refl st b
 
 finish-requires : tie.Need-finish-requires Inv-loop μ-loop
 finish-requires c κs = search needs
 
 returns : tie.Need-returns Inv-loop μ-loop
-returns c = λ st b. keeps-stops _ _ _ (c .before .before .before .loop .s) _ (c .before .before .before .loop .inv st b) (c .before .if1 .taken) (c .finish .ensures)
+returns c = λ st b. invariant-stops _ _ _ _ _ (c .before .before .before .loop .s) _ (c .before .before .before .loop .inv st b) (c .before .if1 .taken) (c .finish .ensures)
 
 one-requires : tie.Need-one-requires Inv-loop μ-loop
 one-requires c κs = search needs
@@ -34,13 +34,13 @@ loop-less : tie.Need-loop-less Inv-loop μ-loop
 loop-less c = search needs
 
 loop-again : tie.Need-loop-again Inv-loop μ-loop
-loop-again c = λ st b. keeps-next _ _ _ (c .before .before .before .loop .s) (c .one .result) (c .before .before .before .loop .inv st b) (c .before .if1 .left) (c .before .before .loop-test .taken) (c .one .ensures)
+loop-again c = λ st b. invariant-next _ _ _ _ _ (c .before .before .before .loop .s) (c .one .result) (c .before .before .before .loop .inv st b) (c .before .if1 .left) (c .before .before .loop-test .taken) (c .one .ensures)
 
 finish-requires-2 : tie.Need-finish-requires-2 Inv-loop μ-loop
 finish-requires-2 c κs = search needs
 
 returns-2 : tie.Need-returns-2 Inv-loop μ-loop
-returns-2 c = λ st b. left-ends _ _ _ _ (c .before .before .loop .s) _ (c .before .before .loop .inv st b) (c .before .loop-test .left) (c .finish2 .ensures)
+returns-2 c = λ st b. invariant-ends _ _ _ _ _ (c .before .before .loop .s) _ (c .before .before .loop .inv st b) (c .before .loop-test .left) (c .finish2 .ensures)
 
 pub play-spec : {M : Type 1} → statement M
 play-spec =

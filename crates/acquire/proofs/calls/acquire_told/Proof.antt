@@ -1,6 +1,7 @@
 -- `acquire_told` meets its contract.
 use Rattle.acquire.specs.Acquire.{acquireNext, validAcquireNext}
-use Rattle.acquire.specs.Calls.{saidAcquire, standsAcquire}
+use Rattle.acquire.specs.Calls.{saidAcquire, standsAcquire, validAcquireCall}
+use Rattle.hardware.specs.Prog.{pick}
 use borrow.Author.Needs.{needs}
 use Rattle.acquire.proofs.calls.acquire_told.Statement.{statement}
 use Rattle.acquire.proofs.calls.acquire_told.Tie as tie
@@ -15,12 +16,12 @@ enum-known-n-2 : tie.Need-enum-known-n-2
 enum-known-n-2 c = search needs
 
 returns : tie.Need-returns
-unfolding saidAcquire acquireNext standsAcquire validAcquireNext
-returns c = (rw (c .before .before .n .given .1, ← c .access .ensures), λ p h. (c .access .ensures, p, rw (c .before .before .n .given .1) at h))
+unfolding saidAcquire acquireNext standsAcquire validAcquireNext validAcquireCall pick
+returns c = record { yields = rw (c .before .before .n .given .1, ← c .access .ensures); limits = λ p h. (c .access .ensures, rw p (rw (c .before .before .n .given .1) at h)) }
 
 returns-2 : tie.Need-returns-2
 unfolding saidAcquire acquireNext standsAcquire
-returns-2 c = (rw (c .before .n2 .given .1), λ p h. tt)
+returns-2 c = record { yields = rw (c .before .n2 .given .1); limits = λ p h. tt }
 
 pub acquire-told-spec : {M : Type 1} → statement M
 acquire-told-spec =

@@ -27,11 +27,11 @@ enum-known-q c = search needs
 
 returns : tie.Need-returns
 unfolding openRelease andThen portOpened
-returns c = (rw (← c .before .before .before .before .before .before .open-port .ensures, c .before .before .before .before .p .given .1) (rw (c .before .before .hw .ensures) at (c .release-told .ensures .0) ∙ ap yes (c .before .«open» .ensures .0)), c .release-told .ensures .1 (opened-valid _ _ _ (c .before .before .before .before .p .given .1) (c .before .before .before .before .before .before .open-port .ensures)) (c .before .«open» .ensures .1))
+returns c = record { yields = rw (← c .before .before .before .before .before .before .open-port .ensures, c .before .before .before .before .p .given .1) (rw (c .before .before .hw .ensures) at (c .release-told .ensures .yields) ∙ ap yes (c .before .«open» .ensures .0)); limits = c .release-told .ensures .limits (opened-valid _ _ _ (c .before .before .before .before .p .given .1) (c .before .before .before .before .before .before .open-port .ensures)) (c .before .«open» .ensures .1) }
 
 returns-2 : tie.Need-returns-2
 unfolding openRelease andThen portOpened saidRelease standsRelease
-returns-2 c = (rw (← c .before .before .before .open-port .ensures, c .before .q .given .1), tt)
+returns-2 c = record { yields = rw (← c .before .before .before .open-port .ensures, c .before .q .given .1); limits = tt }
 
 pub release-open-spec : {M : Type 1} → statement M
 release-open-spec =

@@ -1,5 +1,7 @@
 -- `access` meets its contract.
 use Rattle.bench.specs.Register.{accessed}
+use Rattle.hardware.specs.Prog.{pick}
+use Rattle.wire.specs.Machine.{modelled}
 use borrow.Author.Needs.{needs}
 use Rattle.bench.proofs.register.access.Statement.{statement}
 use Rattle.bench.proofs.register.access.Tie as tie
@@ -32,7 +34,7 @@ returns-2 : tie.Need-returns-2
 returns-2 c = rw (c .before .before .x2 .given .1, ← c .before .before .before .before .layout-of .ensures) (c .write-at .ensures)
 
 returns-3 : tie.Need-returns-3
-unfolding accessed
+unfolding accessed modelled pick
 returns-3 c = rw (c .before .enum-told .given .1) (c .elsewhere .ensures)
 
 pub access-spec : {M : Type 1} → statement M

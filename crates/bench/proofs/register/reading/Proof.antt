@@ -1,5 +1,5 @@
 -- `reading` meets its contract.
-use Rattle.wire.specs.Always.{reading}
+use Rattle.wire.specs.Machine.{reading}
 use Rattle.wire.specs.Lines.{inputs, levels, master}
 use borrow.Author.Needs.{needs}
 use mathlib.Core.Path.{_∙_}

@@ -1,6 +1,6 @@
 -- `scl_moves` meets its contract.
 use Rattle.bench.specs.Edges.{edgeOf}
-use Rattle.wire.specs.Always.{takesAll}
+use Rattle.wire.specs.Machine.{takesAll}
 use Rattle.wire.specs.Lines.{sclEdge}
 use borrow.Author.Needs.{needs}
 use Rattle.bench.proofs.register.scl_moves.Statement.{statement}

@@ -1,6 +1,6 @@
 -- `sda_moves` meets its contract.
 use Rattle.bench.specs.Edges.{edgeOf}
-use Rattle.wire.specs.Always.{takesAll}
+use Rattle.wire.specs.Machine.{takesAll}
 use Rattle.wire.specs.Lines.{sdaEdge}
 use borrow.Author.Needs.{needs}
 use Rattle.bench.proofs.register.sda_moves.Statement.{statement}

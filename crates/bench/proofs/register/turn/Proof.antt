@@ -1,7 +1,7 @@
 -- `turn` meets its contract.
 use Rattle.bench.proofs.Laws.{takes-append}
 use Rattle.bench.specs.Register.{side}
-use Rattle.wire.specs.Always.{turn}
+use Rattle.wire.specs.Machine.{turn}
 use Rattle.wire.specs.Lines.{edge, levels, master}
 use borrow.Author.Needs.{needs}
 use mathlib.Core.Path.{_∙_, sym}

@@ -1,5 +1,5 @@
 -- `write` meets its contract.
-use Rattle.wire.specs.Always.{wrote}
+use Rattle.wire.specs.Machine.{wrote}
 use borrow.Author.Needs.{needs}
 use Rattle.bench.proofs.register.write.Statement.{statement}
 use Rattle.bench.proofs.register.write.Tie as tie

@@ -15,7 +15,7 @@ viewed-requires : tie.Need-viewed-requires
 viewed-requires c κs = search needs
 
 add-end : tie.Need-add-end
-add-end c = omega (arith, rw (page-a2 (c .before .before .before .before .before .args .a0 .now) (c .before .before .before .before .before .args .a2 .now) _ (c .if2 .taken)) at (viewed-fits (c .before .before .before .before .before .args .a0 .now) (c .before .before .before .before .before .args .a2 .now) (c .before .before .before .before .before .args .device) (c .before .before .before .before .before .args .first) (c .before .before .before .before .before .args .length) (sym (c .before .before .viewed .ensures) ∙ c .before .if1 .taken)))
+add-end c = omega (arith, rw (page-a2 (c .before .before .before .before .before .args .a0 .now) (c .before .before .before .before .before .args .a2 .now) _ (c .if2 .taken)) at (viewed-fits (c .before .before .before .before .before .args .a0 .now) (c .before .before .before .before .before .args .a2 .now) (c .before .before .before .before .before .args .device) (c .before .before .before .before .before .args .first) (c .before .before .before .before .before .args .size) (sym (c .before .before .viewed .ensures) ∙ c .before .if1 .taken)))
 
 sub-result : tie.Need-sub-result
 sub-result c = search needs
@@ -24,14 +24,14 @@ part-result-start : tie.Need-part-result-start
 part-result-start c = search needs
 
 part-result-end : tie.Need-part-result-end
-part-result-end c = omega (arith, rw (page-a2 (c .before .before .before .before .before .args .a0 .now) (c .before .before .before .before .before .args .a2 .now) _ (c .if2 .taken)) at (viewed-fits (c .before .before .before .before .before .args .a0 .now) (c .before .before .before .before .before .args .a2 .now) (c .before .before .before .before .before .args .device) (c .before .before .before .before .before .args .first) (c .before .before .before .before .before .args .length) (sym (c .before .before .viewed .ensures) ∙ c .before .if1 .taken)))
+part-result-end c = omega (arith, rw (page-a2 (c .before .before .before .before .before .args .a0 .now) (c .before .before .before .before .before .args .a2 .now) _ (c .if2 .taken)) at (viewed-fits (c .before .before .before .before .before .args .a0 .now) (c .before .before .before .before .before .args .a2 .now) (c .before .before .before .before .before .args .device) (c .before .before .before .before .before .args .first) (c .before .before .before .before .before .args .size) (sym (c .before .before .viewed .ensures) ∙ c .before .if1 .taken)))
 
 returns : tie.Need-returns
 unfolding view viewAt pick
-returns c = (rw (← c .before .before .before .viewed .ensures, c .before .before .if1 .taken, page-a2 (c .before .before .before .before .before .before .args .a0 .now) (c .before .before .before .before .before .before .args .a2 .now) _ (c .before .if2 .taken), part-size (c .before .before .before .before .before .before .args .first) (c .before .before .before .before .before .before .args .length)), rw (← c .before .before .before .viewed .ensures, c .before .before .if1 .taken, eq-eqb _ _ (c .before .if2 .taken)))
+returns c = (rw (← c .before .before .before .viewed .ensures, c .before .before .if1 .taken, page-a2 (c .before .before .before .before .before .before .args .a0 .now) (c .before .before .before .before .before .before .args .a2 .now) _ (c .before .if2 .taken), part-size (c .before .before .before .before .before .before .args .first) (c .before .before .before .before .before .before .args .size)), rw (← c .before .before .before .viewed .ensures, c .before .before .if1 .taken, eq-eqb _ _ (c .before .if2 .taken)))
 
 add-end-2 : tie.Need-add-end-2
-add-end-2 c = omega (arith, rw (page-a0 (c .before .before .before .before .before .args .a0 .now) (c .before .before .before .before .before .args .a2 .now) _ (c .if2 .left)) at (viewed-fits (c .before .before .before .before .before .args .a0 .now) (c .before .before .before .before .before .args .a2 .now) (c .before .before .before .before .before .args .device) (c .before .before .before .before .before .args .first) (c .before .before .before .before .before .args .length) (sym (c .before .before .viewed .ensures) ∙ c .before .if1 .taken)))
+add-end-2 c = omega (arith, rw (page-a0 (c .before .before .before .before .before .args .a0 .now) (c .before .before .before .before .before .args .a2 .now) _ (c .if2 .left)) at (viewed-fits (c .before .before .before .before .before .args .a0 .now) (c .before .before .before .before .before .args .a2 .now) (c .before .before .before .before .before .args .device) (c .before .before .before .before .before .args .first) (c .before .before .before .before .before .args .size) (sym (c .before .before .viewed .ensures) ∙ c .before .if1 .taken)))
 
 sub-result-2 : tie.Need-sub-result-2
 sub-result-2 c = search needs
@@ -40,11 +40,11 @@ part-result-start-2 : tie.Need-part-result-start-2
 part-result-start-2 c = search needs
 
 part-result-end-2 : tie.Need-part-result-end-2
-part-result-end-2 c = omega (arith, rw (page-a0 (c .before .before .before .before .before .args .a0 .now) (c .before .before .before .before .before .args .a2 .now) _ (c .if2 .left)) at (viewed-fits (c .before .before .before .before .before .args .a0 .now) (c .before .before .before .before .before .args .a2 .now) (c .before .before .before .before .before .args .device) (c .before .before .before .before .before .args .first) (c .before .before .before .before .before .args .length) (sym (c .before .before .viewed .ensures) ∙ c .before .if1 .taken)))
+part-result-end-2 c = omega (arith, rw (page-a0 (c .before .before .before .before .before .args .a0 .now) (c .before .before .before .before .before .args .a2 .now) _ (c .if2 .left)) at (viewed-fits (c .before .before .before .before .before .args .a0 .now) (c .before .before .before .before .before .args .a2 .now) (c .before .before .before .before .before .args .device) (c .before .before .before .before .before .args .first) (c .before .before .before .before .before .args .size) (sym (c .before .before .viewed .ensures) ∙ c .before .if1 .taken)))
 
 returns-2 : tie.Need-returns-2
 unfolding view viewAt pick
-returns-2 c = (rw (← c .before .before .before .viewed .ensures, c .before .before .if1 .taken, page-a0 (c .before .before .before .before .before .before .args .a0 .now) (c .before .before .before .before .before .before .args .a2 .now) _ (c .before .if2 .left), part-size (c .before .before .before .before .before .before .args .first) (c .before .before .before .before .before .before .args .length)), rw (← c .before .before .before .viewed .ensures, c .before .before .if1 .taken, ne-eqb _ _ (c .before .if2 .left)))
+returns-2 c = (rw (← c .before .before .before .viewed .ensures, c .before .before .if1 .taken, page-a0 (c .before .before .before .before .before .before .args .a0 .now) (c .before .before .before .before .before .before .args .a2 .now) _ (c .before .if2 .left), part-size (c .before .before .before .before .before .before .args .first) (c .before .before .before .before .before .before .args .size)), rw (← c .before .before .before .viewed .ensures, c .before .before .if1 .taken, ne-eqb _ _ (c .before .if2 .left)))
 
 sub-result-3 : tie.Need-sub-result-3
 sub-result-3 c = search needs

@@ -15,11 +15,11 @@ sub-result c = search needs
 
 returns : tie.Need-returns
 unfolding within
-returns c = left-fits (c .before .args .first) (c .before .args .length) (length (c .before .args .page .now)) (c .if1 .taken)
+returns c = left-fits (c .before .args .first) (c .before .args .size) (length (c .before .args .page .now)) (c .if1 .taken)
 
 returns-2 : tie.Need-returns-2
 unfolding within
-returns-2 c = sym (lt-leb (c .before .args .first + c .before .args .length) (length (c .before .args .page .now)) (omega (arith, c .if1 .left)))
+returns-2 c = sym (lt-leb (c .before .args .first + c .before .args .size) (length (c .before .args .page .now)) (omega (arith, c .if1 .left)))
 
 pub within-spec : {M : Type 1} → statement M
 within-spec = tie.close (tie.spec sub-result returns returns-2)

@@ -1,59 +1,64 @@
 -- `command_on` meets its contract.
-use Rattle.hostif.specs.Calls.{asked, saidCommand, standsCommand, stepped}
+use Rattle.hardware.proofs.Laws.{admits-no, admits-valid, admits-yes, both-true}
+use Rattle.hardware.specs.Asked.{validPort}
+use Rattle.hostif.specs.Calls.{lent, saidCommand, standsCommand, stepped, validCommandCall}
 use borrow.Author.Needs.{needs}
-use mathlib.Core.Path.{_∙_, sym}
+use mathlib.Core.Path.{_∙_, ap, sym}
 use Rattle.hostif.proofs.calls.command_on.Statement.{statement}
 use Rattle.hostif.proofs.calls.command_on.Tie as tie
 
-valid-port-requires : tie.Need-valid-port-requires
-valid-port-requires c κs = search needs
-
-valid-requires : tie.Need-valid-requires
-valid-requires c κs = search needs
+valid-command-requires : tie.Need-valid-command-requires
+valid-command-requires c κs = search needs
 
 access-requires : tie.Need-access-requires
 access-requires c κs = search needs
 
-awaited-requires : tie.Need-awaited-requires
-awaited-requires c κs = search needs
+admit-requires : tie.Need-admit-requires
+admit-requires c κs = search needs
+
+enum-told : tie.Need-enum-told
+enum-told c = search needs
 
 go-requires : tie.Need-go-requires
 go-requires c κs = search needs
+
+enum-known-q : tie.Need-enum-known-q
+enum-known-q c = search needs
 
 same-length : tie.Need-same-length
 same-length c = search needs
 
 returns : tie.Need-returns
-unfolding stepped asked
-returns c = (rw (← c .before .before .before .before .before .before .before .before .before .before .before .valid-port .ensures, c .before .before .before .before .before .before .before .before .before .before .if1 .taken, ← c .before .before .before .before .before .before .before .before .before .valid .ensures, c .before .before .before .before .before .before .before .before .if2 .taken, ← c .before .before .before .before .before .before .access .ensures, ← c .before .before .before .before .before .awaited .ensures, c .before .before .before .before .if3 .taken) (c .before .before .go .ensures .0), c .before .before .go .ensures .1 (sym (c .before .before .before .before .before .before .before .before .before .before .before .valid-port .ensures) ∙ c .before .before .before .before .before .before .before .before .before .before .if1 .taken) (sym (c .before .before .before .before .before .before .before .before .before .valid .ensures) ∙ c .before .before .before .before .before .before .before .before .if2 .taken))
+unfolding stepped lent validCommandCall
+returns c =
+    let e = c .before .before .before .before .enum-told .given .1 in
+    let h = rw (c .before .before .before .before .before .before .before .before .before .valid-command .ensures, c .before .before .before .before .before .before .before .access .ensures) at (c .before .before .before .before .before .before .admit .ensures) in
+    let v = both-true (validPort _) _ (admits-valid _ _ _ e h) in
+    record {
+      yields = c .before .before .go .ensures .yields ∙ ap (lent _) (sym (admits-yes _ _ _ _ e h));
+      limits = c .before .before .go .ensures .limits (v .0) (v .1);
+    }
 
 same-length-2 : tie.Need-same-length-2
 same-length-2 c = search needs
 
 returns-2 : tie.Need-returns-2
-unfolding stepped asked saidCommand standsCommand
-returns-2 c = (rw (← c .before .before .before .before .before .before .before .valid-port .ensures, c .before .before .before .before .before .before .if1 .taken, ← c .before .before .before .before .before .valid .ensures, c .before .before .before .before .if2 .taken, ← c .before .before .access .ensures, ← c .before .awaited .ensures, c .if3 .left), tt)
-
-returns-3 : tie.Need-returns-3
-unfolding stepped asked saidCommand standsCommand
-returns-3 c = (rw (← c .before .before .before .valid-port .ensures, c .before .before .if1 .taken, ← c .before .valid .ensures, c .if2 .left), tt)
-
-returns-4 : tie.Need-returns-4
-unfolding stepped asked saidCommand standsCommand
-returns-4 c = (rw (← c .before .valid-port .ensures, c .if1 .left), tt)
+unfolding stepped lent saidCommand standsCommand
+returns-2 c =
+    let h = rw (c .before .before .before .before .before .before .valid-command .ensures, c .before .before .before .before .access .ensures) at (c .before .before .before .admit .ensures) in
+    record { yields = ap (lent _) (sym (admits-no _ _ _ _ (c .before .q .given .1) h)); limits = tt }
 
 pub command-on-spec : {M : Type 1} → statement M
 command-on-spec =
     tie.close
     (tie.spec
-    valid-port-requires
-    valid-requires
+    valid-command-requires
     access-requires
-    awaited-requires
+    admit-requires
+    enum-told
     go-requires
+    enum-known-q
     same-length
     returns
     same-length-2
-    returns-2
-    returns-3
-    returns-4)
+    returns-2)

@@ -1,7 +1,7 @@
 -- `command_open` meets its contract.
 use Rattle.hardware.proofs.Laws.{opened-valid}
-use Rattle.hardware.specs.Asked.{portOpened}
-use Rattle.hostif.specs.Calls.{asked, goes, openCommand, openedBlock, saidCommand, standsCommand}
+use Rattle.hardware.specs.Asked.{andThen, portOpened, question}
+use Rattle.hostif.specs.Calls.{goes, lent, openCommand, saidCommand, standsCommand}
 use borrow.Author.Needs.{needs}
 use mathlib.Core.Path.{_∙_, ap, refl}
 use Rattle.hostif.proofs.calls.command_open.Statement.{statement}
@@ -23,19 +23,19 @@ command-told-requires : tie.Need-command-told-requires
 command-told-requires c κs = search needs
 
 returns : tie.Need-returns
-unfolding openCommand openedBlock asked portOpened
-returns c = (rw (← c .before .before .before .before .before .before .before .open-port .ensures, c .before .before .before .before .before .p .given .1, ← c .before .before .before .fits2 .ensures _ refl, c .before .before .if1 .taken) (c .command-told .ensures .0 ∙ ap goes (c .before .«open» .ensures .0 _)), c .command-told .ensures .1 (opened-valid _ _ _ (c .before .before .before .before .before .p .given .1) (c .before .before .before .before .before .before .before .open-port .ensures)) (c .before .«open» .ensures .1 _))
+unfolding openCommand lent andThen question portOpened
+returns c = record { yields = rw (← c .before .before .before .before .before .before .before .open-port .ensures, c .before .before .before .before .before .p .given .1, ← c .before .before .before .fits2 .ensures _ refl, c .before .before .if1 .taken) (c .command-told .ensures .yields ∙ ap goes (c .before .«open» .ensures .0 _)); limits = c .command-told .ensures .limits (opened-valid _ _ _ (c .before .before .before .before .before .p .given .1) (c .before .before .before .before .before .before .before .open-port .ensures)) (c .before .«open» .ensures .1 _) }
 
 enum-known-q : tie.Need-enum-known-q
 enum-known-q c = search needs
 
 returns-2 : tie.Need-returns-2
-unfolding openCommand openedBlock asked portOpened saidCommand standsCommand
-returns-2 c = (rw (← c .before .before .before .before .before .open-port .ensures, c .before .before .before .p .given .1, ← c .before .fits2 .ensures _ refl, c .if1 .left), tt)
+unfolding openCommand lent andThen question portOpened saidCommand standsCommand
+returns-2 c = record { yields = rw (← c .before .before .before .before .before .open-port .ensures, c .before .before .before .p .given .1, ← c .before .fits2 .ensures _ refl, c .if1 .left); limits = tt }
 
 returns-3 : tie.Need-returns-3
-unfolding openCommand openedBlock portOpened saidCommand standsCommand
-returns-3 c = (rw (← c .before .before .before .open-port .ensures, c .before .q .given .1), tt)
+unfolding openCommand lent andThen portOpened saidCommand standsCommand
+returns-3 c = record { yields = rw (← c .before .before .before .open-port .ensures, c .before .q .given .1); limits = tt }
 
 pub command-open-spec : {M : Type 1} → statement M
 command-open-spec =

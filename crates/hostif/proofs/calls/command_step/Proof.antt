@@ -1,6 +1,7 @@
 -- `command_step` meets its contract.
+use Rattle.hardware.specs.Asked.{question}
 use Rattle.hostif.proofs.Laws.{block-fits}
-use Rattle.hostif.specs.Calls.{asked, saidCommand, standsCommand, stepCommand, stepped}
+use Rattle.hostif.specs.Calls.{lent, saidCommand, standsCommand, stepCommand, stepped}
 use borrow.Author.Needs.{needs}
 use mathlib.Core.Path.{_∙_, refl, sym}
 use Rattle.hostif.proofs.calls.command_step.Statement.{statement}
@@ -22,16 +23,16 @@ same-length : tie.Need-same-length
 same-length c = search needs
 
 returns : tie.Need-returns
-unfolding stepCommand asked
-returns c = (rw (← c .before .before .before .before .before .before .before .before .fits2 .ensures _ refl, c .before .before .before .before .before .before .before .if1 .taken, c .before .before .before .before .before .s .given .1) (c .before .before .command-on .ensures .0), c .before .before .command-on .ensures .1)
+unfolding stepCommand lent question
+returns c = record { yields = rw (← c .before .before .before .before .before .before .before .before .fits2 .ensures _ refl, c .before .before .before .before .before .before .before .if1 .taken, c .before .before .before .before .before .s .given .1) (c .before .before .command-on .ensures .yields); limits = c .before .before .command-on .ensures .limits }
 
 returns-2 : tie.Need-returns-2
-unfolding stepCommand asked stepped saidCommand standsCommand
-returns-2 c = (rw (← c .before .before .before .fits2 .ensures _ refl, c .before .before .if1 .taken, c .enum-told .given .1), tt)
+unfolding stepCommand lent question stepped saidCommand standsCommand
+returns-2 c = record { yields = rw (← c .before .before .before .fits2 .ensures _ refl, c .before .before .if1 .taken, c .enum-told .given .1); limits = tt }
 
 returns-3 : tie.Need-returns-3
-unfolding stepCommand asked saidCommand standsCommand
-returns-3 c = (rw (← c .before .fits2 .ensures _ refl, c .if1 .left), tt)
+unfolding stepCommand lent question saidCommand standsCommand
+returns-3 c = record { yields = rw (← c .before .fits2 .ensures _ refl, c .if1 .left); limits = tt }
 
 pub command-step-spec : {M : Type 1} → statement M
 command-step-spec =

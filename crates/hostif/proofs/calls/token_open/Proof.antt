@@ -24,11 +24,11 @@ enum-known-q c = search needs
 
 returns : tie.Need-returns
 unfolding openToken andThen portOpened
-returns c = (rw (← c .before .before .before .before .before .open-port .ensures, c .before .before .before .p .given .1) (c .token-told .ensures .0 ∙ ap yes (c .before .«open» .ensures .0)), c .token-told .ensures .1 (opened-valid _ _ _ (c .before .before .before .p .given .1) (c .before .before .before .before .before .open-port .ensures)) (c .before .«open» .ensures .1))
+returns c = record { yields = rw (← c .before .before .before .before .before .open-port .ensures, c .before .before .before .p .given .1) (c .token-told .ensures .yields ∙ ap yes (c .before .«open» .ensures .0)); limits = c .token-told .ensures .limits (opened-valid _ _ _ (c .before .before .before .p .given .1) (c .before .before .before .before .before .open-port .ensures)) (c .before .«open» .ensures .1) }
 
 returns-2 : tie.Need-returns-2
 unfolding openToken andThen portOpened saidToken standsToken
-returns-2 c = (rw (← c .before .before .before .open-port .ensures, c .before .q .given .1), tt)
+returns-2 c = record { yields = rw (← c .before .before .before .open-port .ensures, c .before .q .given .1); limits = tt }
 
 pub token-open-spec : {M : Type 1} → statement M
 token-open-spec =

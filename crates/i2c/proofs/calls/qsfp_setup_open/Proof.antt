@@ -10,7 +10,7 @@ setup-told-requires c κs = search needs
 
 returns : tie.Need-returns
 unfolding updateNext accessUpdate restUpdate change erase _>>=_
-returns c = (c .setup-told .ensures .0, c .setup-told .ensures .1)
+returns c = record { yields = c .setup-told .ensures .yields; limits = c .setup-told .ensures .limits }
 
 pub qsfp-setup-open-spec : {M : Type 1} → statement M
 qsfp-setup-open-spec = tie.close (tie.spec setup-told-requires returns)

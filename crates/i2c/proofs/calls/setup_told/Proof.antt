@@ -19,11 +19,11 @@ enum-known-n-2 c = search needs
 
 returns : tie.Need-returns
 unfolding saidSetup updateNext standsSetup
-returns c = (rw (c .before .before .before .n .given .1, c .access .ensures, c .before .setup-bus .ensures), rw (c .before .setup-bus .ensures) at (c .access .ensures))
+returns c = record { yields = rw (c .before .before .before .n .given .1, c .access .ensures, c .before .setup-bus .ensures); limits = rw (c .before .setup-bus .ensures) at (c .access .ensures) }
 
 returns-2 : tie.Need-returns-2
 unfolding saidSetup updateNext standsSetup
-returns-2 c = (rw (c .before .n2 .given .1), tt)
+returns-2 c = record { yields = rw (c .before .n2 .given .1); limits = tt }
 
 pub setup-told-spec : {M : Type 1} → statement M
 setup-told-spec =

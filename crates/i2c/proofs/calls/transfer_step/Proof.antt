@@ -1,8 +1,10 @@
 -- `transfer_step` meets its contract.
-use Rattle.hardware.specs.Asked.{question, yes}
+use Rattle.bus.proofs.Laws.{picked-first, picked-second}
+use Rattle.hardware.proofs.Laws.{admits-no, admits-valid, admits-yes}
+use Rattle.hardware.specs.Asked.{validPort, yes}
 use Rattle.hardware.specs.Prog.{over-tally}
 use Rattle.i2c.proofs.Laws.{fits-below, limit-most, valid-fits}
-use Rattle.i2c.specs.Calls.{limitOf, restCall, saidTransfer, standsTransfer, stepTransfer}
+use Rattle.i2c.specs.Calls.{limitOf, restCall, saidTransfer, standsTransfer, stepTransfer, validCall}
 use borrow.Author.Needs.{needs}
 use mathlib.Core.Path.{_∙_, ap, refl, sym}
 use native.Mathlib.Omega.{arith}
@@ -12,20 +14,17 @@ use Rattle.i2c.proofs.calls.transfer_step.Tie as tie
 enum-known-s : tie.Need-enum-known-s
 enum-known-s c = search needs
 
-valid-port-requires : tie.Need-valid-port-requires
-valid-port-requires c κs = search needs
-
-limit-requires : tie.Need-limit-requires
-limit-requires c κs = search needs
-
-valid-request-requires : tie.Need-valid-request-requires
-valid-request-requires c κs = search needs
+valid-requires : tie.Need-valid-requires
+valid-requires c κs = search needs
 
 access-requires : tie.Need-access-requires
 access-requires c κs = search needs
 
-awaited-requires : tie.Need-awaited-requires
-awaited-requires c κs = search needs
+admit-requires : tie.Need-admit-requires
+admit-requires c κs = search needs
+
+enum-told : tie.Need-enum-told
+enum-told c = search needs
 
 step-requires : tie.Need-step-requires
 step-requires c κs = search needs
@@ -33,44 +32,48 @@ step-requires c κs = search needs
 told-requires : tie.Need-told-requires
 told-requires c κs = search needs
 
+enum-known-q : tie.Need-enum-known-q
+enum-known-q c = search needs
+
+enum-told-2 : tie.Need-enum-told-2
+enum-told-2 c = search needs
+
 returns : tie.Need-returns
-unfolding stepTransfer question restCall
-returns c = (rw (c .before .before .before .before .before .before .before .before .before .before .before .s .given .1, ← c .before .before .before .before .before .before .before .before .before .valid-port .ensures, c .before .before .before .before .before .before .before .before .if1 .taken, ← c .before .before .before .before .before .before .before .limit .ensures, ← c .before .before .before .before .before .before .valid-request .ensures, c .before .before .before .before .before .if2 .taken, ← c .before .before .before .before .access .ensures, ← c .before .before .before .awaited .ensures, c .before .before .if3 .taken) (c .told .ensures .0 (fits-below _ _ _ _ _ _ (limit-most _) (sym (rw (c .before .before .before .before .before .before .before .limit .ensures) at (c .before .before .before .before .before .before .valid-request .ensures)) ∙ c .before .before .before .before .before .if2 .taken)) ∙ ap yes (over-tally _ _ _ refl (c .before .step .ensures .0))), c .told .ensures .1 (sym (c .before .before .before .before .before .before .before .before .before .valid-port .ensures) ∙ c .before .before .before .before .before .before .before .before .if1 .taken) (c .before .step .ensures .1 .0 (limitOf _) (valid-fits _ _ _ _ _ _ (sym (rw (c .before .before .before .before .before .before .before .limit .ensures) at (c .before .before .before .before .before .before .valid-request .ensures)) ∙ c .before .before .before .before .before .if2 .taken) .counters)) (omega (arith, valid-fits _ _ _ _ _ _ (sym (rw (c .before .before .before .before .before .before .before .limit .ensures) at (c .before .before .before .before .before .before .valid-request .ensures)) ∙ c .before .before .before .before .before .if2 .taken) .all, c .before .step .ensures .1 .1)))
+unfolding stepTransfer restCall validCall
+returns c =
+    let e = c .before .before .enum-told .given .1 in
+    let h = rw (c .before .before .before .before .before .before .valid .ensures, c .before .before .before .before .before .access .ensures) at (c .before .before .before .before .admit .ensures) in
+    let v = admits-valid _ _ _ e h in
+    let fits = valid-fits _ _ _ _ _ _ (picked-second (validPort _) _ v) in
+    rw (c .before .before .before .before .before .before .before .before .s .given .1)
+    (record {
+      yields = c .told .ensures .yields (fits-below _ _ _ _ _ _ (limit-most _) (picked-second (validPort _) _ v)) ∙ ap yes (over-tally _ _ _ refl (c .before .step .ensures .yields)) ∙ sym (admits-yes _ _ _ _ e h);
+      limits = c .told .ensures .limits (picked-first (validPort _) _ v) (c .before .step .ensures .limits (limitOf _) (fits .counters)) (omega (arith, fits .all, c .before .step .ensures .due));
+    })
 
 returns-2 : tie.Need-returns-2
-unfolding stepTransfer question saidTransfer standsTransfer
-returns-2 c = (rw (c .before .before .before .before .before .before .before .before .before .s .given .1, ← c .before .before .before .before .before .before .before .valid-port .ensures, c .before .before .before .before .before .before .if1 .taken, ← c .before .before .before .before .before .limit .ensures, ← c .before .before .before .before .valid-request .ensures, c .before .before .before .if2 .taken, ← c .before .before .access .ensures, ← c .before .awaited .ensures, c .if3 .left), tt)
-
-enum-told : tie.Need-enum-told
-enum-told c = search needs
+unfolding stepTransfer saidTransfer standsTransfer
+returns-2 c =
+    let h = rw (c .before .before .before .before .before .valid .ensures, c .before .before .before .before .access .ensures) at (c .before .before .before .admit .ensures) in
+    rw (c .before .before .before .before .before .before .before .s .given .1) (record { yields = sym (admits-no _ _ _ _ (c .before .q .given .1) h); limits = tt })
 
 returns-3 : tie.Need-returns-3
-unfolding stepTransfer question saidTransfer standsTransfer
-returns-3 c = (rw (c .before .before .before .before .before .before .s .given .1, ← c .before .before .before .before .valid-port .ensures, c .before .before .before .if1 .taken, ← c .before .before .limit .ensures, ← c .before .valid-request .ensures, c .if2 .left), tt)
-
-returns-4 : tie.Need-returns-4
-unfolding stepTransfer question saidTransfer standsTransfer
-returns-4 c = (rw (c .before .before .before .s .given .1, ← c .before .valid-port .ensures, c .if1 .left), tt)
-
-returns-5 : tie.Need-returns-5
-unfolding stepTransfer question saidTransfer standsTransfer
-returns-5 c = (rw (c .enum-told .given .1), tt)
+unfolding stepTransfer saidTransfer standsTransfer
+returns-3 c = rw (c .enum-told2 .given .1) (record { yields = refl; limits = tt })
 
 pub transfer-step-spec : {M : Type 1} → statement M
 transfer-step-spec =
     tie.close
     (tie.spec
     enum-known-s
-    valid-port-requires
-    limit-requires
-    valid-request-requires
+    valid-requires
     access-requires
-    awaited-requires
+    admit-requires
+    enum-told
     step-requires
     told-requires
+    enum-known-q
+    enum-told-2
     returns
     returns-2
-    enum-told
-    returns-3
-    returns-4
-    returns-5)
+    returns-3)

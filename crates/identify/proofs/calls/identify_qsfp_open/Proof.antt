@@ -1,12 +1,12 @@
 -- `identify_qsfp_open` meets its contract.
 use Rattle.hardware.proofs.Laws.{opened-valid}
-use Rattle.hardware.specs.Asked.{andThen, portOpened, yes}
-use Rattle.hardware.specs.Prog.{pick, tally, tally-erase}
+use Rattle.hardware.specs.Asked.{andThen, portOpened}
+use Rattle.hardware.specs.Prog.{pick}
 use Rattle.identify.specs.Calls.{openQsfp, saidIdentify, standsIdentify}
 use Rattle.identify.specs.Place.{capAt, most, onAt, placed, triesAt, validPlace}
 use Rattle.sfp.specs.Qsfp.{identifyQsfp}
 use borrow.Author.Needs.{needs}
-use mathlib.Core.Path.{_∙_, ap, refl}
+use mathlib.Core.Path.{refl}
 use native.Mathlib.Omega.{arith}
 use Rattle.identify.proofs.calls.identify_qsfp_open.Statement.{statement}
 use Rattle.identify.proofs.calls.identify_qsfp_open.Tie as tie
@@ -17,31 +17,25 @@ open-port-requires c κs = search needs
 enum-known-p : tie.Need-enum-known-p
 enum-known-p c = search needs
 
-begin-requires : tie.Need-begin-requires
-begin-requires c κs = search needs
-
-told-requires : tie.Need-told-requires
-told-requires c κs = search needs
+opened-requires : tie.Need-opened-requires
+opened-requires c κs = search needs
 
 enum-known-q : tie.Need-enum-known-q
 enum-known-q c = search needs
 
 returns : tie.Need-returns
 unfolding openQsfp identifyQsfp andThen portOpened placed triesAt most onAt validPlace capAt pick
-returns c = (rw (← c .before .before .before .before .before .open-port .ensures, c .before .before .before .p .given .1) (c .told .ensures .0 (omega arith) ∙ ap yes (ap (tally 0) (c .before .begin .ensures .0) ∙ tally-erase 0 _)), c .told .ensures .1 (opened-valid _ _ _ (c .before .before .before .p .given .1) (c .before .before .before .before .before .open-port .ensures)) (c .before .begin .ensures .1 0 refl (omega arith)))
+returns c =
+    record {
+      yields = rw (← c .before .before .before .before .open-port .ensures, c .before .before .p .given .1) (c .opened .ensures .yields);
+      limits = c .opened .ensures .limits (opened-valid _ _ _ (c .before .before .p .given .1) (c .before .before .before .before .open-port .ensures)) refl (omega arith);
+    }
 
 returns-2 : tie.Need-returns-2
 unfolding openQsfp andThen portOpened saidIdentify standsIdentify
-returns-2 c = (rw (← c .before .before .before .open-port .ensures, c .before .q .given .1), tt)
+returns-2 c = record { yields = rw (← c .before .before .before .open-port .ensures, c .before .q .given .1); limits = tt }
 
 pub identify-qsfp-open-spec : {M : Type 1} → statement M
 identify-qsfp-open-spec =
     tie.close
-    (tie.spec
-    open-port-requires
-    enum-known-p
-    begin-requires
-    told-requires
-    enum-known-q
-    returns
-    returns-2)
+    (tie.spec open-port-requires enum-known-p opened-requires enum-known-q returns returns-2)

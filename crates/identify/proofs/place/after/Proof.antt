@@ -1,5 +1,6 @@
 -- `after` meets its contract.
 use Rattle.i2c.specs.I2c.{read-off, valueOf}
+use Rattle.i2c.specs.Handshake.{valued}
 use Rattle.identify.specs.Place.{requestAt, toldAt}
 use Rattle.sfp.specs.Identify.{orAbsent}
 use Rattle.transfer.specs.Attempt.{got}
@@ -20,12 +21,12 @@ failed-requires : tie.Need-failed-requires
 failed-requires c κs = search needs
 
 returns : tie.Need-returns
-unfolding toldAt got valueOf read-off orAbsent requestAt
-returns c = (λ port. rw (c .before .before .g .given .1) (c .on .ensures .0 port), c .on .ensures .1)
+unfolding toldAt valued got valueOf read-off orAbsent requestAt
+returns c = record { yields = λ q port. rw (c .before .before .g .given .1) (c .on .ensures .yields q port); limits = c .on .ensures .limits }
 
 returns-2 : tie.Need-returns-2
-unfolding toldAt got valueOf
-returns-2 c = (λ port. rw (c .before .before .g2 .given .1) (c .failed .ensures .0 port _), λ port h. c .failed .ensures .1 port _)
+unfolding toldAt valued got valueOf
+returns-2 c = record { yields = λ q port. rw (c .before .before .g2 .given .1) (c .failed .ensures .yields q port _); limits = λ port h. c .failed .ensures .limits port _ }
 
 pub after-spec : {M : Type 1} → statement M
 after-spec =

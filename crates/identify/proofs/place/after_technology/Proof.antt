@@ -14,7 +14,7 @@ qsfp-found-requires c κs = search needs
 
 returns : tie.Need-returns
 unfolding onAt
-returns c = (λ port. c .qsfp-found .ensures .0 port ∙ technology-is _ _ _ _ (c .before .cable-of .ensures), c .qsfp-found .ensures .1)
+returns c = record { yields = λ q port. c .qsfp-found .ensures .yields q port ∙ technology-is _ _ _ _ (c .before .cable-of .ensures); limits = c .qsfp-found .ensures .limits }
 
 pub after-technology-spec : {M : Type 1} → statement M
 after-technology-spec = tie.close (tie.spec cable-of-requires qsfp-found-requires returns)

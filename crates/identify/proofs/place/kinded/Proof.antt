@@ -1,7 +1,7 @@
 -- `kinded` meets its contract.
 use Rattle.hardware.specs.Prog.{pick}
 use Rattle.identify.proofs.Laws.{kinded-known, kinded-open}
-use Rattle.identify.specs.Place.{Later, capAt, most, onward, triesAt, validPlace}
+use Rattle.identify.specs.Place.{Later, capAt, most, restThen, triesAt, validPlace}
 use borrow.Author.Needs.{needs}
 use mathlib.Core.Path.{_∙_, refl, sym}
 use Rattle.identify.proofs.place.kinded.Statement.{statement}
@@ -20,11 +20,11 @@ enum-told : tie.Need-enum-told
 enum-told c = search needs
 
 returns : tie.Need-returns
-returns c = (λ port. c .found .ensures .0 port ∙ kinded-known port _ _ _ (sym (c .before .before .before .before .coded .ensures) ∙ c .before .before .kind .given .1), λ port n h. c .found .ensures .1 port n)
+returns c = record { yields = λ q port. c .found .ensures .yields q port ∙ kinded-known q port _ _ _ (sym (c .before .before .before .before .coded .ensures) ∙ c .before .before .kind .given .1); limits = λ port n h. c .found .ensures .limits port n }
 
 returns-2 : tie.Need-returns-2
-unfolding onward Later triesAt validPlace pick capAt most
-returns-2 c = (λ port. kinded-open port _ _ (sym (c .before .before .coded .ensures) ∙ c .enum-told .given .1), λ port n h. (refl, h))
+unfolding restThen Later triesAt validPlace pick capAt most
+returns-2 c = record { yields = λ q port. kinded-open q port _ _ (sym (c .before .before .coded .ensures) ∙ c .enum-told .given .1); limits = λ port n h. (refl, h) }
 
 pub kinded-spec : {M : Type 1} → statement M
 kinded-spec =

@@ -1,6 +1,6 @@
 -- `on` meets its contract.
 use Rattle.hardware.specs.Prog.{pick}
-use Rattle.identify.specs.Place.{Later, capAt, most, onAt, onward, placed, triesAt, validPlace}
+use Rattle.identify.specs.Place.{Later, capAt, most, onAt, restThen, placed, triesAt, validPlace}
 use borrow.Author.Needs.{needs}
 use mathlib.Core.Path.{refl}
 use native.Mathlib.Omega.{arith}
@@ -86,58 +86,58 @@ after-technology-requires : tie.Need-after-technology-requires
 after-technology-requires c κs = search needs
 
 returns : tie.Need-returns
-returns c = rw (c .before .before .p .given .1) (c .after-identifier .ensures)
+returns c = rw (c .before .before .p .given .1) ((c .after-identifier .ensures))
 
 returns-2 : tie.Need-returns-2
-unfolding onward Later placed triesAt validPlace pick onAt capAt most
-returns-2 c = rw (c .enum-told .given .1) (λ port. refl, λ port h. (refl, omega arith))
+unfolding restThen Later placed triesAt validPlace pick onAt capAt most
+returns-2 c = rw (c .enum-told .given .1) (record { yields = λ q port. refl; limits = λ port h. (refl, omega arith) })
 
 returns-3 : tie.Need-returns-3
-unfolding onward Later placed triesAt validPlace pick onAt capAt most
-returns-3 c = rw (c .before .p2 .given .1) (λ port. refl, λ port h. (refl, omega arith))
+unfolding restThen Later placed triesAt validPlace pick onAt capAt most
+returns-3 c = rw (c .before .p2 .given .1) (record { yields = λ q port. refl; limits = λ port h. (refl, omega arith) })
 
 returns-4 : tie.Need-returns-4
 unfolding onAt capAt most
-returns-4 c = rw (c .before .before .p3 .given .1) (c .after-cable .ensures .0, λ port h. c .after-cable .ensures .1 port)
+returns-4 c = rw (c .before .before .p3 .given .1) (record { yields = c .after-cable .ensures .yields; limits = λ port h. c .after-cable .ensures .limits port })
 
 returns-5 : tie.Need-returns-5
 unfolding capAt most
-returns-5 c = rw (c .before .before .p4 .given .1) (c .after-rate .ensures .0, λ port h. c .after-rate .ensures .1 port)
+returns-5 c = rw (c .before .before .p4 .given .1) (record { yields = c .after-rate .ensures .yields; limits = λ port h. c .after-rate .ensures .limits port })
 
 returns-6 : tie.Need-returns-6
-unfolding onward Later placed triesAt validPlace pick onAt capAt most
-returns-6 c = rw (c .before .p5 .given .1) (λ port. refl, λ port h. (refl, omega arith))
+unfolding restThen Later placed triesAt validPlace pick onAt capAt most
+returns-6 c = rw (c .before .p5 .given .1) (record { yields = λ q port. refl; limits = λ port h. (refl, omega arith) })
 
 returns-7 : tie.Need-returns-7
 unfolding onAt capAt most
-returns-7 c = rw (c .before .before .before .p6 .given .1) (λ port. rw (← c .before .reach .ensures) (c .kinded .ensures .0 port), λ port h. c .kinded .ensures .1 port _ (omega arith))
+returns-7 c = rw (c .before .before .before .p6 .given .1) (record { yields = λ q port. rw (← c .before .reach .ensures) (c .kinded .ensures .yields q port); limits = λ port h. c .kinded .ensures .limits port _ (omega arith) })
 
 returns-8 : tie.Need-returns-8
 unfolding onAt
-returns-8 c = rw (c .before .before .before .p7 .given .1) (λ port. rw (← c .before .cable-of .ensures) (c .found .ensures .0 port), λ port h. c .found .ensures .1 port _)
+returns-8 c = rw (c .before .before .before .p7 .given .1) (record { yields = λ q port. rw (← c .before .cable-of .ensures) (c .found .ensures .yields q port); limits = λ port h. c .found .ensures .limits port _ })
 
 returns-9 : tie.Need-returns-9
 unfolding onAt capAt most
-returns-9 c = rw (c .before .enum-told2 .given .1) (c .after-qsfp-identifier .ensures .0, λ port h. c .after-qsfp-identifier .ensures .1 port)
+returns-9 c = rw (c .before .enum-told2 .given .1) (record { yields = c .after-qsfp-identifier .ensures .yields; limits = λ port h. c .after-qsfp-identifier .ensures .limits port })
 
 returns-10 : tie.Need-returns-10
-unfolding onward Later placed triesAt validPlace pick onAt capAt most
-returns-10 c = rw (c .enum-told3 .given .1) (λ port. refl, λ port h. (refl, omega arith))
+unfolding restThen Later placed triesAt validPlace pick onAt capAt most
+returns-10 c = rw (c .enum-told3 .given .1) (record { yields = λ q port. refl; limits = λ port h. (refl, omega arith) })
 
 returns-11 : tie.Need-returns-11
 unfolding onAt capAt most
-returns-11 c = rw (c .before .before .p8 .given .1) (c .qsfp-codes .ensures .0, λ port h. c .qsfp-codes .ensures .1 port)
+returns-11 c = rw (c .before .before .p8 .given .1) (record { yields = c .qsfp-codes .ensures .yields; limits = λ port h. c .qsfp-codes .ensures .limits port })
 
 returns-12 : tie.Need-returns-12
 unfolding capAt most
-returns-12 c = rw (c .before .before .p9 .given .1) (c .after-connector .ensures .0, λ port h. c .after-connector .ensures .1 port)
+returns-12 c = rw (c .before .before .p9 .given .1) (record { yields = c .after-connector .ensures .yields; limits = λ port h. c .after-connector .ensures .limits port })
 
 returns-13 : tie.Need-returns-13
 unfolding capAt most
-returns-13 c = rw (c .before .before .p10 .given .1) (c .after-length .ensures .0, λ port h. c .after-length .ensures .1 port)
+returns-13 c = rw (c .before .before .p10 .given .1) (record { yields = c .after-length .ensures .yields; limits = λ port h. c .after-length .ensures .limits port })
 
 returns-14 : tie.Need-returns-14
-returns-14 c = rw (c .before .before .p11 .given .1) (c .after-technology .ensures .0, λ port h. c .after-technology .ensures .1 port _)
+returns-14 c = rw (c .before .before .p11 .given .1) (record { yields = c .after-technology .ensures .yields; limits = λ port h. c .after-technology .ensures .limits port _ })
 
 pub on-spec : {M : Type 1} → statement M
 on-spec =

@@ -1,7 +1,7 @@
 -- `qsfp_codes` meets its contract.
 use Rattle.hardware.specs.Prog.{pick}
 use Rattle.identify.proofs.Laws.{qsfp-known, qsfp-open}
-use Rattle.identify.specs.Place.{Later, capAt, most, onward, triesAt, validPlace}
+use Rattle.identify.specs.Place.{Later, capAt, most, restThen, triesAt, validPlace}
 use borrow.Author.Needs.{needs}
 use mathlib.Core.Path.{_∙_, refl, sym}
 use native.Mathlib.Omega.{arith}
@@ -21,11 +21,11 @@ enum-told : tie.Need-enum-told
 enum-told c = search needs
 
 returns : tie.Need-returns
-returns c = (λ port. c .qsfp-found .ensures .0 port ∙ qsfp-known port _ _ _ (sym (c .before .before .before .before .coded .ensures) ∙ c .before .before .kind .given .1), λ port. c .qsfp-found .ensures .1 port _)
+returns c = record { yields = λ q port. c .qsfp-found .ensures .yields q port ∙ qsfp-known q port _ _ _ (sym (c .before .before .before .before .coded .ensures) ∙ c .before .before .kind .given .1); limits = λ port. c .qsfp-found .ensures .limits port _ }
 
 returns-2 : tie.Need-returns-2
-unfolding onward Later triesAt validPlace pick capAt most
-returns-2 c = (λ port. qsfp-open port _ _ (sym (c .before .before .coded .ensures) ∙ c .enum-told .given .1), λ port. (refl, omega arith))
+unfolding restThen Later triesAt validPlace pick capAt most
+returns-2 c = record { yields = λ q port. qsfp-open q port _ _ (sym (c .before .before .coded .ensures) ∙ c .enum-told .given .1); limits = λ port. (refl, omega arith) }
 
 pub qsfp-codes-spec : {M : Type 1} → statement M
 qsfp-codes-spec =

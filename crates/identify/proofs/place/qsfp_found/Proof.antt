@@ -1,6 +1,6 @@
 -- `qsfp_found` meets its contract.
 use Rattle.hardware.specs.Prog.{Ok, ret}
-use Rattle.identify.specs.Place.{Later, onward}
+use Rattle.identify.specs.Place.{Later, restThen}
 use borrow.Author.Needs.{needs}
 use mathlib.Core.Path.{ap}
 use Rattle.identify.proofs.place.qsfp_found.Statement.{statement}
@@ -10,8 +10,8 @@ qsfp-recorded-requires : tie.Need-qsfp-recorded-requires
 qsfp-recorded-requires c κs = search needs
 
 returns : tie.Need-returns
-unfolding onward Later
-returns c = (λ port. ap (λ m. ret (Ok m)) (c .qsfp-recorded .ensures), λ port n. tt)
+unfolding restThen Later
+returns c = record { yields = λ q port. ap (λ m. ret (Ok m)) (c .qsfp-recorded .ensures); limits = λ port n. tt }
 
 pub qsfp-found-spec : {M : Type 1} → statement M
 qsfp-found-spec = tie.close (tie.spec qsfp-recorded-requires returns)

@@ -1,7 +1,7 @@
 -- `tries` meets its contract.
 use Rattle.hardware.specs.Prog.{pick}
 use Rattle.identify.specs.Place.{triesAt}
-use Rattle.sfp.proofs.Ends.{attempts-few}
+use Rattle.i2c.proofs.Laws.{attempts-few}
 use borrow.Author.Needs.{fits-under, needs}
 use borrow.Author.Tests.{ne-eqb}
 use native.Mathlib.Omega.{arith}

@@ -1,6 +1,6 @@
 -- `conclude` meets its contract.
 use Rattle.hardware.specs.Prog.{erase}
-use Rattle.identify.specs.Place.{Later, onward}
+use Rattle.identify.specs.Place.{Later, restThen}
 use Rattle.identify.specs.Walk.{foundOf, identifyNext, validIdentifyNext}
 use borrow.Author.Needs.{needs}
 use mathlib.Core.Path.{refl}
@@ -21,16 +21,16 @@ enum-known-t-3 : tie.Need-enum-known-t-3
 enum-known-t-3 c = search needs
 
 returns : tie.Need-returns
-unfolding onward Later
-returns c = rw (c .before .before .t .given .1) (c .begin .ensures .0, λ made n k l. c .begin .ensures .1 made (l .0) (omega (arith, k, l .1)))
+unfolding restThen Later
+returns c = rw (c .before .before .t .given .1) (record { yields = c .begin .ensures .yields; limits = λ m n k l. c .begin .ensures .limits m (l .0) (omega (arith, k, l .1)) })
 
 returns-2 : tie.Need-returns-2
-unfolding onward identifyNext foundOf erase validIdentifyNext
-returns-2 c = rw (c .before .t2 .given .1) (refl, λ made n k l. refl)
+unfolding restThen identifyNext foundOf erase validIdentifyNext
+returns-2 c = rw (c .before .t2 .given .1) (record { yields = refl; limits = λ m n k l. refl })
 
 returns-3 : tie.Need-returns-3
-unfolding onward identifyNext foundOf erase validIdentifyNext
-returns-3 c = rw (c .before .t3 .given .1) (refl, λ made n k l. refl)
+unfolding restThen identifyNext foundOf erase validIdentifyNext
+returns-3 c = rw (c .before .t3 .given .1) (record { yields = refl; limits = λ m n k l. refl })
 
 pub conclude-spec : {M : Type 1} → statement M
 conclude-spec =

@@ -1,9 +1,11 @@
 -- `moved` meets its contract.
+use Rattle.hardware.specs.Marks.{going-on}
 use Rattle.bus.proofs.Laws.{picked}
 use Rattle.hardware.specs.Prog.{_>>=_, erase, followed}
-use Rattle.i2c.proofs.Laws.{fits-valid, going-on}
-use Rattle.i2c.specs.Moves.{dueMovesNext, movesNext, validMovesNext}
+use Rattle.i2c.proofs.Laws.{fits-valid}
+use Rattle.i2c.specs.Handshake.{dueHandshakeNext, handshakeNext, restRequest, validHandshakeNext}
 use Rattle.identify.proofs.Laws.{cap-most}
+use Rattle.identify.specs.Place.{toldAt}
 use Rattle.identify.specs.Walk.{accessIdentify, identifyNext, restIdentify, validIdentify, validIdentifyNext}
 use borrow.Author.Needs.{needs}
 use mathlib.Core.Path.{_∙_, ap}
@@ -24,12 +26,12 @@ conclude-requires : tie.Need-conclude-requires
 conclude-requires c κs = search needs
 
 returns : tie.Need-returns
-unfolding identifyNext accessIdentify restIdentify movesNext validMovesNext dueMovesNext validIdentifyNext validIdentify
-returns c = rw (c .before .n .given .1) (going-on _ _ _ _, λ made p v all. picked _ _ p (fits-valid _ _ _ _ _ made _ (cap-most _ _) v all))
+unfolding identifyNext accessIdentify restIdentify restRequest toldAt handshakeNext validHandshakeNext dueHandshakeNext validIdentifyNext validIdentify
+returns c = rw (c .before .n .given .1) (record { yields = going-on _ _ _ _; limits = λ m p v all. picked _ _ p (fits-valid _ _ _ _ _ m _ (cap-most _ _) v all) })
 
 returns-2 : tie.Need-returns-2
-unfolding movesNext dueMovesNext followed _>>=_
-returns-2 c = rw (c .before .before .before .n2 .given .1) (c .conclude .ensures .0 ∙ ap erase (c .before .after .ensures .0 _), λ made p v all. c .conclude .ensures .1 made _ (omega (arith, all)) (c .before .after .ensures .1 _ p))
+unfolding handshakeNext dueHandshakeNext followed _>>=_
+returns-2 c = rw (c .before .before .before .n2 .given .1) (record { yields = c .conclude .ensures .yields ∙ ap erase (c .before .after .ensures .yields _ _); limits = λ m p v all. c .conclude .ensures .limits m _ (omega (arith, all)) (c .before .after .ensures .limits _ p) })
 
 pub moved-spec : {M : Type 1} → statement M
 moved-spec =

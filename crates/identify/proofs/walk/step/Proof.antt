@@ -2,7 +2,8 @@
 use Rattle.bus.proofs.Laws.{picked-first, picked-second}
 use Rattle.hardware.specs.Prog.{over}
 use Rattle.i2c.proofs.Laws.{valid-fits}
-use Rattle.identify.specs.Place.{validPlace}
+use Rattle.i2c.specs.Handshake.{restRequest}
+use Rattle.identify.specs.Place.{toldAt, validPlace}
 use Rattle.identify.specs.Walk.{restIdentify, validIdentify}
 use borrow.Author.Needs.{needs}
 use native.Mathlib.Omega.{arith}
@@ -19,8 +20,8 @@ moved-requires : tie.Need-moved-requires
 moved-requires c κs = search needs
 
 returns : tie.Need-returns
-unfolding restIdentify validIdentify
-returns c = (over _ _ (c .moved .ensures .0) (rw (← c .before .before .request .ensures) (c .before .step .ensures .0)), λ made h. c .moved .ensures .1 made (picked-first (validPlace (c .before .before .before .args .s .place)) _ h) (rw (← c .before .before .request .ensures) (c .before .step .ensures .1 .0 _ (rw (c .before .before .request .ensures) (valid-fits _ _ _ _ _ _ (picked-second (validPlace (c .before .before .before .args .s .place)) _ h) .counters)))) (omega (arith, (rw (c .before .before .request .ensures) at (c .before .step .ensures .1 .1)), (valid-fits _ _ _ _ _ _ (picked-second (validPlace (c .before .before .before .args .s .place)) _ h) .all))))
+unfolding restIdentify restRequest toldAt validIdentify
+returns c = record { yields = over _ _ (c .moved .ensures .yields) (rw (← c .before .before .request .ensures) (c .before .step .ensures .yields)); limits = λ m h. c .moved .ensures .limits m (picked-first (validPlace (c .before .before .before .args .s .place)) _ h) (rw (← c .before .before .request .ensures) (c .before .step .ensures .limits _ (rw (c .before .before .request .ensures) (valid-fits _ _ _ _ _ _ (picked-second (validPlace (c .before .before .before .args .s .place)) _ h) .counters)))) (omega (arith, (rw (c .before .before .request .ensures) at (c .before .step .ensures .due)), (valid-fits _ _ _ _ _ _ (picked-second (validPlace (c .before .before .before .args .s .place)) _ h) .all))) }
 
 pub step-spec : {M : Type 1} → statement M
 step-spec = tie.close (tie.spec request-requires step-requires moved-requires returns)

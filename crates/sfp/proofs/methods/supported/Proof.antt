@@ -17,11 +17,11 @@ x550em-requires c κs = search needs
 
 returns : tie.Need-returns
 unfolding isSupported
-returns c = rw (← c .before .before .before .before .known .ensures, c .before .before .before .if1 .taken, ← c .before .before .same .ensures, c .before .if2 .taken) (ap not (c .x550em .ensures))
+returns c = rw (← c .before .before .before .before .before .known .ensures, c .before .before .before .before .if1 .taken, ← c .before .before .same .ensures, c .before .if2 .taken) (ap not (c .x550em .ensures))
 
 returns-2 : tie.Need-returns-2
 unfolding isSupported
-returns-2 c = rw (← c .before .before .before .known .ensures, c .before .before .if1 .taken, ← c .before .same .ensures, c .if2 .left)
+returns-2 c = rw (← c .before .before .before .before .known .ensures, c .before .before .before .if1 .taken, ← c .before .same .ensures, c .if2 .left)
 
 returns-3 : tie.Need-returns-3
 unfolding isSupported

@@ -1,18 +1,17 @@
 -- `soft_rate_select_step` meets its contract.
-use Rattle.hardware.specs.Asked.{question, yes}
+use Rattle.bus.proofs.Laws.{picked-first, picked-second}
+use Rattle.hardware.proofs.Laws.{admits-no, admits-valid, admits-yes}
+use Rattle.hardware.specs.Asked.{validPort, yes}
 use Rattle.hardware.specs.Prog.{tally, tally-erase}
 use Rattle.softrate.proofs.Laws.{valid-below}
-use Rattle.softrate.specs.Calls.{saidRate, standsRate, stepRate}
+use Rattle.softrate.specs.Calls.{saidRate, standsRate, stepRate, validCall}
 use borrow.Author.Needs.{needs}
-use mathlib.Core.Path.{_∙_, ap, sym}
+use mathlib.Core.Path.{_∙_, ap, refl, sym}
 use Rattle.softrate.proofs.calls.soft_rate_select_step.Statement.{statement}
 use Rattle.softrate.proofs.calls.soft_rate_select_step.Tie as tie
 
 enum-known-s : tie.Need-enum-known-s
 enum-known-s c = search needs
-
-valid-port-requires : tie.Need-valid-port-requires
-valid-port-requires c κs = search needs
 
 valid-requires : tie.Need-valid-requires
 valid-requires c κs = search needs
@@ -20,8 +19,11 @@ valid-requires c κs = search needs
 access-requires : tie.Need-access-requires
 access-requires c κs = search needs
 
-awaited-requires : tie.Need-awaited-requires
-awaited-requires c κs = search needs
+admit-requires : tie.Need-admit-requires
+admit-requires c κs = search needs
+
+enum-told : tie.Need-enum-told
+enum-told c = search needs
 
 step-requires : tie.Need-step-requires
 step-requires c κs = search needs
@@ -29,43 +31,47 @@ step-requires c κs = search needs
 told-requires : tie.Need-told-requires
 told-requires c κs = search needs
 
+enum-known-n : tie.Need-enum-known-n
+enum-known-n c = search needs
+
+enum-told-2 : tie.Need-enum-told-2
+enum-told-2 c = search needs
+
 returns : tie.Need-returns
-unfolding stepRate question
-returns c = (rw (c .before .before .before .before .before .before .before .before .before .before .s .given .1, ← c .before .before .before .before .before .before .before .before .valid-port .ensures, c .before .before .before .before .before .before .before .if1 .taken, ← c .before .before .before .before .before .before .valid .ensures, c .before .before .before .before .before .if2 .taken, ← c .before .before .before .before .access .ensures, ← c .before .before .before .awaited .ensures, c .before .before .if3 .taken) (c .told .ensures .0 (valid-below _ _ _ _ (sym (c .before .before .before .before .before .before .valid .ensures) ∙ c .before .before .before .before .before .if2 .taken)) ∙ ap yes (ap (tally _) (c .before .step .ensures .0) ∙ tally-erase _ _)), c .told .ensures .1 (sym (c .before .before .before .before .before .before .before .before .valid-port .ensures) ∙ c .before .before .before .before .before .before .before .if1 .taken) (c .before .step .ensures .1 _ (sym (c .before .before .before .before .before .before .valid .ensures) ∙ c .before .before .before .before .before .if2 .taken)))
+unfolding stepRate validCall
+returns c =
+    let e = c .before .before .enum-told .given .1 in
+    let h = rw (c .before .before .before .before .before .before .valid .ensures, c .before .before .before .before .before .access .ensures) at (c .before .before .before .before .admit .ensures) in
+    let v = admits-valid _ _ _ e h in
+    rw (c .before .before .before .before .before .before .before .before .s .given .1)
+    (record {
+      yields = c .told .ensures .yields (valid-below _ _ _ _ (picked-second (validPort _) _ v)) ∙ ap yes (ap (tally _) (c .before .step .ensures .yields) ∙ tally-erase _ _) ∙ sym (admits-yes _ _ _ _ e h);
+      limits = c .told .ensures .limits (picked-first (validPort _) _ v) (c .before .step .ensures .limits _ (picked-second (validPort _) _ v));
+    })
 
 returns-2 : tie.Need-returns-2
-unfolding stepRate question saidRate standsRate
-returns-2 c = (rw (c .before .before .before .before .before .before .before .before .s .given .1, ← c .before .before .before .before .before .before .valid-port .ensures, c .before .before .before .before .before .if1 .taken, ← c .before .before .before .before .valid .ensures, c .before .before .before .if2 .taken, ← c .before .before .access .ensures, ← c .before .awaited .ensures, c .if3 .left), tt)
-
-enum-told : tie.Need-enum-told
-enum-told c = search needs
+unfolding stepRate saidRate standsRate
+returns-2 c =
+    let h = rw (c .before .before .before .before .before .valid .ensures, c .before .before .before .before .access .ensures) at (c .before .before .before .admit .ensures) in
+    rw (c .before .before .before .before .before .before .before .s .given .1) (record { yields = sym (admits-no _ _ _ _ (c .before .n .given .1) h); limits = tt })
 
 returns-3 : tie.Need-returns-3
-unfolding stepRate question saidRate standsRate
-returns-3 c = (rw (c .before .before .before .before .before .s .given .1, ← c .before .before .before .valid-port .ensures, c .before .before .if1 .taken, ← c .before .valid .ensures, c .if2 .left), tt)
-
-returns-4 : tie.Need-returns-4
-unfolding stepRate question saidRate standsRate
-returns-4 c = (rw (c .before .before .before .s .given .1, ← c .before .valid-port .ensures, c .if1 .left), tt)
-
-returns-5 : tie.Need-returns-5
-unfolding stepRate question saidRate standsRate
-returns-5 c = (rw (c .enum-told .given .1), tt)
+unfolding stepRate saidRate standsRate
+returns-3 c = rw (c .enum-told2 .given .1) (record { yields = refl; limits = tt })
 
 pub soft-rate-select-step-spec : {M : Type 1} → statement M
 soft-rate-select-step-spec =
     tie.close
     (tie.spec
     enum-known-s
-    valid-port-requires
     valid-requires
     access-requires
-    awaited-requires
+    admit-requires
+    enum-told
     step-requires
     told-requires
+    enum-known-n
+    enum-told-2
     returns
     returns-2
-    enum-told
-    returns-3
-    returns-4
-    returns-5)
+    returns-3)

@@ -1,8 +1,9 @@
 -- `told` meets its contract.
+use Rattle.bus.proofs.Laws.{picked}
+use Rattle.hardware.specs.Marks.{asked-on}
 use Rattle.hardware.specs.Asked.{yes}
 use Rattle.hardware.specs.Prog.{tally}
-use Rattle.i2c.proofs.Laws.{asked-on}
-use Rattle.softrate.specs.Calls.{saidRate, standsRate}
+use Rattle.softrate.specs.Calls.{saidRate, standsRate, validCall}
 use Rattle.softrate.specs.Walk.{rateNext, validRateNext}
 use borrow.Author.Needs.{needs}
 use mathlib.Core.Path.{ap, refl}
@@ -15,21 +16,21 @@ enum-known-n c = search needs
 access-requires : tie.Need-access-requires
 access-requires c κs = search needs
 
-count-requires : tie.Need-count-requires
-count-requires c κs = search needs
+meter-on-requires : tie.Need-meter-on-requires
+meter-on-requires c κs = search needs
 
 enum-known-n-2 : tie.Need-enum-known-n-2
 enum-known-n-2 c = search needs
 
 returns : tie.Need-returns
-unfolding saidRate rateNext standsRate validRateNext
-returns c = rw (c .before .before .before .n .given .1, ← c .before .access .ensures, c .count .ensures) (λ h. ap yes (asked-on _ _ _ _ h), λ p v. (refl, p, v))
+unfolding saidRate rateNext standsRate validCall validRateNext
+returns c = rw (c .before .before .before .n .given .1, ← c .before .access .ensures, c .meter-on .ensures) (record { yields = λ h. ap yes (asked-on _ _ _ _ h); limits = λ p v. (refl, picked _ _ p v) })
 
 returns-2 : tie.Need-returns-2
 unfolding saidRate rateNext tally standsRate
-returns-2 c = rw (c .before .n2 .given .1) (λ h. refl, λ p v. tt)
+returns-2 c = rw (c .before .n2 .given .1) (record { yields = λ h. refl; limits = λ p v. tt })
 
 pub told-spec : {M : Type 1} → statement M
 told-spec =
     tie.close
-    (tie.spec enum-known-n access-requires count-requires enum-known-n-2 returns returns-2)
+    (tie.spec enum-known-n access-requires meter-on-requires enum-known-n-2 returns returns-2)

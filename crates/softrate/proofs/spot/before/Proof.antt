@@ -1,6 +1,6 @@
 -- `before` meets its contract.
 use Rattle.hardware.specs.Prog.{pick}
-use Rattle.sfp.proofs.Ends.{attempts-few}
+use Rattle.i2c.proofs.Laws.{attempts-few}
 use Rattle.softrate.specs.Spot.{before}
 use borrow.Author.Needs.{fits-under, needs}
 use native.Mathlib.Omega.{arith}

@@ -1,5 +1,5 @@
 -- `cap` meets its contract.
-use Rattle.sfp.proofs.Ends.{attempts-few}
+use Rattle.i2c.proofs.Laws.{attempts-few}
 use Rattle.softrate.proofs.Laws.{before-fits, up-done}
 use Rattle.softrate.specs.Spot.{capAt}
 use borrow.Author.Needs.{fits-under, needs}

@@ -1,5 +1,5 @@
 -- `up_to` meets its contract.
-use Rattle.sfp.proofs.Ends.{attempts-few}
+use Rattle.i2c.proofs.Laws.{attempts-few}
 use Rattle.softrate.specs.Spot.{upTo}
 use borrow.Author.Needs.{fits-under, needs}
 use native.Mathlib.Omega.{arith}

@@ -21,11 +21,11 @@ failed-requires c κs = search needs
 
 returns : tie.Need-returns
 unfolding got
-returns c = (rw (c .before .before .g .given .1) (c .on .ensures .0 ∙ ap erase (on-told _ _ _ _)), c .on .ensures .1)
+returns c = record { yields = rw (c .before .before .g .given .1) (c .on .ensures .yields ∙ ap erase (on-told _ _ _ _ _)); limits = c .on .ensures .limits }
 
 returns-2 : tie.Need-returns-2
 unfolding got
-returns-2 c = (rw (c .before .before .g2 .given .1) (c .failed .ensures .0), λ made v h. c .failed .ensures .1 made h)
+returns-2 c = record { yields = rw (c .before .before .g2 .given .1) (c .failed .ensures .yields); limits = λ m v h. c .failed .ensures .limits m h }
 
 pub concluded-spec : {M : Type 1} → statement M
 concluded-spec =

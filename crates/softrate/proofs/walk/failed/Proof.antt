@@ -4,6 +4,7 @@ use Rattle.hardware.specs.Registers.{flag}
 use Rattle.i2c.specs.I2c.{valueOf}
 use Rattle.sfp.specs.Rate.{orNot}
 use Rattle.softrate.proofs.Laws.{cap-done}
+use Rattle.i2c.specs.Handshake.{valued}
 use Rattle.softrate.specs.Spot.{toldAt}
 use Rattle.softrate.specs.Walk.{rateNext, validRateNext}
 use borrow.Author.Needs.{needs}
@@ -19,12 +20,12 @@ next-byte-requires : tie.Need-next-byte-requires
 next-byte-requires c κs = search needs
 
 returns : tie.Need-returns
-unfolding toldAt valueOf orNot pick
-returns c = (rw (← c .before .before .is-i2c .ensures, c .before .if1 .taken) (c .next-byte .ensures .0), λ made h. c .next-byte .ensures .1 made (omega (arith, h, cap-done (c .before .before .before .args .port) (c .before .before .before .args .s))))
+unfolding toldAt valued valueOf orNot pick
+returns c = record { yields = rw (← c .before .before .is-i2c .ensures, c .before .if1 .taken) (c .next-byte .ensures .yields); limits = λ m h. c .next-byte .ensures .limits m (omega (arith, h, cap-done (c .before .before .before .args .port) (c .before .before .before .args .s))) }
 
 returns-2 : tie.Need-returns-2
-unfolding toldAt valueOf orNot pick rateNext flag erase validRateNext
-returns-2 c = (rw (← c .before .is-i2c .ensures, c .if1 .left), λ made h. refl)
+unfolding toldAt valued valueOf orNot pick rateNext flag erase validRateNext
+returns-2 c = record { yields = rw (← c .before .is-i2c .ensures, c .if1 .left); limits = λ m h. refl }
 
 pub failed-spec : {M : Type 1} → statement M
 failed-spec = tie.close (tie.spec is-i2c-requires next-byte-requires returns returns-2)

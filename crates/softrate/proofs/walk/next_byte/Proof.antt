@@ -11,14 +11,14 @@ use Rattle.softrate.proofs.walk.next_byte.Tie as tie
 
 returns : tie.Need-returns
 unfolding rateNext nextByte flag erase validRateNext
-returns c = rw (c .if1 .taken) (refl, λ made h. refl)
+returns c = rw (c .if1 .taken) (record { yields = refl; limits = λ m h. refl })
 
 begin-requires : tie.Need-begin-requires
 begin-requires c κs = search needs
 
 returns-2 : tie.Need-returns-2
 unfolding validSpot pick
-returns-2 c = rw (c .before .if1 .left) (c .begin .ensures .0 ∙ ap erase (next-placed _ _ _), λ made h. c .begin .ensures .1 made refl (cap-next _ _ _ h))
+returns-2 c = rw (c .before .if1 .left) (record { yields = c .begin .ensures .yields ∙ ap erase (next-placed _ _ _ _); limits = λ m h. c .begin .ensures .limits m refl (cap-next _ _ _ h) })
 
 pub next-byte-spec : {M : Type 1} → statement M
 next-byte-spec = tie.close (tie.spec returns begin-requires returns-2)

@@ -22,11 +22,11 @@ next-byte-requires c κs = search needs
 
 returns : tie.Need-returns
 unfolding validSpot
-returns c = (c .begin .ensures .0 ∙ ap erase (rw (c .before .enum-told .given .1) (write-placed _ _ _ _ _)), λ made v h. c .begin .ensures .1 made v (read-room (c .before .before .before .args .port) (c .before .before .before .args .s) _ _ (c .before .enum-told .given .1) h))
+returns c = record { yields = c .begin .ensures .yields ∙ ap erase (rw (c .before .enum-told .given .1) (write-placed _ _ _ _ _ _)); limits = λ m v h. c .begin .ensures .limits m v (read-room (c .before .before .before .args .port) (c .before .before .before .args .s) _ _ (c .before .enum-told .given .1) h) }
 
 returns-2 : tie.Need-returns-2
 unfolding onPlace
-returns-2 c = (rw (c .before .enum-told2 .given .1) (c .next-byte .ensures .0), λ made v h. c .next-byte .ensures .1 made (omega (arith, h, cap-done (c .before .before .before .args .port) (c .before .before .before .args .s))))
+returns-2 c = record { yields = rw (c .before .enum-told2 .given .1) (c .next-byte .ensures .yields); limits = λ m v h. c .next-byte .ensures .limits m (omega (arith, h, cap-done (c .before .before .before .args .port) (c .before .before .before .args .s))) }
 
 pub on-spec : {M : Type 1} → statement M
 on-spec =

@@ -23,11 +23,11 @@ enum-known-q c = search needs
 
 returns : tie.Need-returns
 unfolding openLock andThen familyOpened
-returns c = (rw (← c .before .before .before .before .before .open-family .ensures, c .before .before .before .f .given .1) (c .lock-told .ensures .0 ∙ ap yes (c .before .«open» .ensures .0)), c .lock-told .ensures .1 (c .before .«open» .ensures .1))
+returns c = record { yields = rw (← c .before .before .before .before .before .open-family .ensures, c .before .before .before .f .given .1) (c .lock-told .ensures .yields ∙ ap yes (c .before .«open» .ensures .0)); limits = c .lock-told .ensures .limits (c .before .«open» .ensures .1) }
 
 returns-2 : tie.Need-returns-2
 unfolding saidLock openLock andThen familyOpened standsLock
-returns-2 c = (rw (← c .before .before .before .open-family .ensures, c .before .q .given .1), tt)
+returns-2 c = record { yields = rw (← c .before .before .before .open-family .ensures, c .before .q .given .1); limits = tt }
 
 pub lock-open-spec : {M : Type 1} → statement M
 lock-open-spec =

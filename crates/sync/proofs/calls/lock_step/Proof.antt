@@ -1,8 +1,9 @@
 -- `lock_step` meets its contract.
-use Rattle.hardware.specs.Asked.{question, yes}
+use Rattle.hardware.proofs.Laws.{admits-no, admits-valid, admits-yes}
+use Rattle.hardware.specs.Asked.{yes}
 use Rattle.sync.specs.Calls.{saidLock, standsLock, stepLock}
 use borrow.Author.Needs.{needs}
-use mathlib.Core.Path.{_∙_, ap, sym}
+use mathlib.Core.Path.{_∙_, ap, refl, sym}
 use Rattle.sync.proofs.calls.lock_step.Statement.{statement}
 use Rattle.sync.proofs.calls.lock_step.Tie as tie
 
@@ -15,8 +16,11 @@ valid-requires c κs = search needs
 access-requires : tie.Need-access-requires
 access-requires c κs = search needs
 
-awaited-requires : tie.Need-awaited-requires
-awaited-requires c κs = search needs
+admit-requires : tie.Need-admit-requires
+admit-requires c κs = search needs
+
+enum-told : tie.Need-enum-told
+enum-told c = search needs
 
 step-requires : tie.Need-step-requires
 step-requires c κs = search needs
@@ -24,24 +28,32 @@ step-requires c κs = search needs
 lock-told-requires : tie.Need-lock-told-requires
 lock-told-requires c κs = search needs
 
+enum-known-q : tie.Need-enum-known-q
+enum-known-q c = search needs
+
+enum-told-2 : tie.Need-enum-told-2
+enum-told-2 c = search needs
+
 returns : tie.Need-returns
-unfolding stepLock question
-returns c = (rw (c .before .before .before .before .before .before .before .before .s .given .1, ← c .before .before .before .before .before .before .valid .ensures, c .before .before .before .before .before .if1 .taken, ← c .before .before .before .before .access .ensures, ← c .before .before .before .awaited .ensures, c .before .before .if2 .taken) (c .lock-told .ensures .0 ∙ ap yes (c .before .step .ensures .0)), c .lock-told .ensures .1 (c .before .step .ensures .1 (sym (c .before .before .before .before .before .before .valid .ensures) ∙ c .before .before .before .before .before .if1 .taken)))
+unfolding stepLock
+returns c =
+    let e = c .before .before .enum-told .given .1 in
+    let h = rw (c .before .before .before .before .before .before .valid .ensures, c .before .before .before .before .before .access .ensures) at (c .before .before .before .before .admit .ensures) in
+    rw (c .before .before .before .before .before .before .before .before .s .given .1)
+    (record {
+      yields = c .lock-told .ensures .yields ∙ ap yes (c .before .step .ensures .0) ∙ sym (admits-yes _ _ _ _ e h);
+      limits = c .lock-told .ensures .limits (c .before .step .ensures .1 (admits-valid _ _ _ e h));
+    })
 
 returns-2 : tie.Need-returns-2
-unfolding stepLock saidLock question standsLock
-returns-2 c = (rw (c .before .before .before .before .before .before .s .given .1, ← c .before .before .before .before .valid .ensures, c .before .before .before .if1 .taken, ← c .before .before .access .ensures, ← c .before .awaited .ensures, c .if2 .left), tt)
-
-enum-told : tie.Need-enum-told
-enum-told c = search needs
+unfolding stepLock saidLock standsLock
+returns-2 c =
+    let h = rw (c .before .before .before .before .before .valid .ensures, c .before .before .before .before .access .ensures) at (c .before .before .before .admit .ensures) in
+    rw (c .before .before .before .before .before .before .before .s .given .1) (record { yields = sym (admits-no _ _ _ _ (c .before .q .given .1) h); limits = tt })
 
 returns-3 : tie.Need-returns-3
-unfolding saidLock stepLock question standsLock
-returns-3 c = (rw (c .before .before .before .s .given .1, ← c .before .valid .ensures, c .if1 .left), tt)
-
-returns-4 : tie.Need-returns-4
-unfolding saidLock stepLock standsLock
-returns-4 c = (rw (c .enum-told .given .1), tt)
+unfolding stepLock saidLock standsLock
+returns-3 c = rw (c .enum-told2 .given .1) (record { yields = refl; limits = tt })
 
 pub lock-step-spec : {M : Type 1} → statement M
 lock-step-spec =
@@ -50,11 +62,12 @@ lock-step-spec =
     enum-known-s
     valid-requires
     access-requires
-    awaited-requires
+    admit-requires
+    enum-told
     step-requires
     lock-told-requires
+    enum-known-q
+    enum-told-2
     returns
     returns-2
-    enum-told
-    returns-3
-    returns-4)
+    returns-3)

@@ -16,11 +16,11 @@ enum-known-n-2 c = search needs
 
 returns : tie.Need-returns
 unfolding saidLock lockNext standsLock validLockNext
-returns c = (rw (c .before .before .n .given .1, ← c .access .ensures), λ h. (c .access .ensures, rw (c .before .before .n .given .1) at h))
+returns c = record { yields = rw (c .before .before .n .given .1, ← c .access .ensures); limits = λ h. (c .access .ensures, rw (c .before .before .n .given .1) at h) }
 
 returns-2 : tie.Need-returns-2
 unfolding saidLock lockNext standsLock
-returns-2 c = (rw (c .before .n2 .given .1), λ h. tt)
+returns-2 c = record { yields = rw (c .before .n2 .given .1); limits = λ h. tt }
 
 pub lock-told-spec : {M : Type 1} → statement M
 lock-told-spec = tie.close (tie.spec enum-known-n access-requires enum-known-n-2 returns returns-2)

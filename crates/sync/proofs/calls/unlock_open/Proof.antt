@@ -23,11 +23,11 @@ enum-known-q c = search needs
 
 returns : tie.Need-returns
 unfolding openUnlock andThen familyOpened
-returns c = (rw (← c .before .before .before .before .before .open-family .ensures, c .before .before .before .f .given .1) (c .unlock-told .ensures .0 ∙ ap yes (c .before .«open» .ensures)), c .unlock-told .ensures .1)
+returns c = record { yields = rw (← c .before .before .before .before .before .open-family .ensures, c .before .before .before .f .given .1) (c .unlock-told .ensures .yields ∙ ap yes (c .before .«open» .ensures)); limits = c .unlock-told .ensures .limits }
 
 returns-2 : tie.Need-returns-2
 unfolding saidUnlock openUnlock andThen familyOpened standsUnlock
-returns-2 c = (rw (← c .before .before .before .open-family .ensures, c .before .q .given .1), tt)
+returns-2 c = record { yields = rw (← c .before .before .before .open-family .ensures, c .before .q .given .1); limits = tt }
 
 pub unlock-open-spec : {M : Type 1} → statement M
 unlock-open-spec =

@@ -16,11 +16,11 @@ enum-known-n-2 c = search needs
 
 returns : tie.Need-returns
 unfolding saidUnlock unlockNext standsUnlock
-returns c = (rw (c .before .before .n .given .1, ← c .access .ensures), c .access .ensures)
+returns c = record { yields = rw (c .before .before .n .given .1, ← c .access .ensures); limits = c .access .ensures }
 
 returns-2 : tie.Need-returns-2
 unfolding saidUnlock unlockNext standsUnlock
-returns-2 c = (rw (c .before .n2 .given .1), tt)
+returns-2 c = record { yields = rw (c .before .n2 .given .1); limits = tt }
 
 pub unlock-told-spec : {M : Type 1} → statement M
 unlock-told-spec =

@@ -1,15 +1,13 @@
 -- `script_on` meets its contract.
-use Rattle.hardware.specs.Asked.{question, yes}
+use Rattle.hardware.proofs.Laws.{admits-no, admits-valid, admits-yes, both-true}
+use Rattle.hardware.specs.Asked.{validPort, yes}
 use Rattle.transfer.proofs.Laws.{script-rest}
-use Rattle.transfer.specs.Calls.{saidScript, standsScript, steppedScript}
-use Rattle.transfer.specs.Transfer.{loud}
+use Rattle.transfer.specs.Calls.{saidScript, standsScript, steppedScript, validScript}
+use Rattle.transfer.specs.Transfer.{handing}
 use borrow.Author.Needs.{needs}
 use mathlib.Core.Path.{_∙_, ap, sym}
 use Rattle.transfer.proofs.calls.script_on.Statement.{statement}
 use Rattle.transfer.proofs.calls.script_on.Tie as tie
-
-valid-port-requires : tie.Need-valid-port-requires
-valid-port-requires c κs = search needs
 
 layout-of-requires : tie.Need-layout-of-requires
 layout-of-requires c κs = search needs
@@ -20,8 +18,11 @@ valid-requires c κs = search needs
 access-requires : tie.Need-access-requires
 access-requires c κs = search needs
 
-awaited-requires : tie.Need-awaited-requires
-awaited-requires c κs = search needs
+admit-requires : tie.Need-admit-requires
+admit-requires c κs = search needs
+
+enum-told : tie.Need-enum-told
+enum-told c = search needs
 
 device-requires : tie.Need-device-requires
 device-requires c κs = search needs
@@ -32,35 +33,40 @@ step-requires c κs = search needs
 told-requires : tie.Need-told-requires
 told-requires c κs = search needs
 
+enum-known-q : tie.Need-enum-known-q
+enum-known-q c = search needs
+
 returns : tie.Need-returns
-unfolding steppedScript question
-returns c = (rw (← c .before .before .before .before .before .before .before .before .before .before .valid-port .ensures, c .before .before .before .before .before .before .before .before .before .if1 .taken, ← c .before .before .before .before .before .before .before .before .layout-of .ensures, ← c .before .before .before .before .before .before .before .valid .ensures, c .before .before .before .before .before .before .if2 .taken, ← c .before .before .before .before .before .access .ensures, ← c .before .before .before .before .awaited .ensures, c .before .before .before .if3 .taken) (c .told .ensures .0 (c .before .before .before .before .before .before .before .before .before .before .before .before .args .script .now) ∙ ap yes (script-rest (c .before .before .before .before .before .before .before .before .before .before .before .before .args .port) (c .before .before .before .before .before .before .before .before .before .before .before .before .args .script .now) (c .before .before .before .before .before .before .before .before .before .before .before .before .args .t) (c .before .before .before .before .before .before .before .before .before .before .before .before .args .a) _ (rw (c .before .before .before .before .before .before .before .before .layout-of .ensures, c .before .before .device .ensures) at (c .before .step .ensures .0 loud)))), λ h. c .told .ensures .1 (c .before .before .before .before .before .before .before .before .before .before .before .before .args .script .now) (sym (c .before .before .before .before .before .before .before .before .before .before .valid-port .ensures) ∙ c .before .before .before .before .before .before .before .before .before .if1 .taken) (rw (c .before .before .before .before .before .before .before .before .layout-of .ensures) at (c .before .step .ensures .1 h (sym (c .before .before .before .before .before .before .before .valid .ensures) ∙ c .before .before .before .before .before .before .if2 .taken))))
+unfolding steppedScript validScript
+returns c =
+    let args = c .before .before .before .before .before .before .before .before .before .before .args in
+    let l = c .before .before .before .before .before .before .before .before .layout-of .ensures in
+    let e = c .before .before .before .enum-told .given .1 in
+    let h = rw (c .before .before .before .before .before .before .before .valid .ensures, c .before .before .before .before .before .before .access .ensures, l) at (c .before .before .before .before .before .admit .ensures) in
+    let v = both-true (validPort _) _ (admits-valid _ _ _ e h) in
+    record {
+      yields = c .told .ensures .yields (args .script .now) ∙ ap yes (script-rest (args .port) (args .script .now) (args .t) (args .a) _ (rw (l, c .before .before .device .ensures) at (c .before .step .ensures .0 handing))) ∙ sym (admits-yes _ _ _ _ e h);
+      limits = λ f. c .told .ensures .limits (args .script .now) (v .0) (rw l at (c .before .step .ensures .1 f (rw l (v .1))));
+    }
 
 returns-2 : tie.Need-returns-2
-unfolding steppedScript question saidScript standsScript
-returns-2 c = (rw (← c .before .before .before .before .before .before .before .valid-port .ensures, c .before .before .before .before .before .before .if1 .taken, ← c .before .before .before .before .before .layout-of .ensures, ← c .before .before .before .before .valid .ensures, c .before .before .before .if2 .taken, ← c .before .before .access .ensures, ← c .before .awaited .ensures, c .if3 .left), λ h. tt)
-
-returns-3 : tie.Need-returns-3
-unfolding steppedScript question saidScript standsScript
-returns-3 c = (rw (← c .before .before .before .before .valid-port .ensures, c .before .before .before .if1 .taken, ← c .before .before .layout-of .ensures, ← c .before .valid .ensures, c .if2 .left), λ h. tt)
-
-returns-4 : tie.Need-returns-4
-unfolding steppedScript question saidScript standsScript
-returns-4 c = (rw (← c .before .valid-port .ensures, c .if1 .left), λ h. tt)
+unfolding steppedScript saidScript standsScript
+returns-2 c =
+    let h = rw (c .before .before .before .before .before .valid .ensures, c .before .before .before .before .access .ensures, c .before .before .before .before .before .before .layout-of .ensures) at (c .before .before .before .admit .ensures) in
+    record { yields = sym (admits-no _ _ _ _ (c .before .q .given .1) h); limits = λ f. tt }
 
 pub script-on-spec : {M : Type 1} → statement M
 script-on-spec =
     tie.close
     (tie.spec
-    valid-port-requires
     layout-of-requires
     valid-requires
     access-requires
-    awaited-requires
+    admit-requires
+    enum-told
     device-requires
     step-requires
     told-requires
+    enum-known-q
     returns
-    returns-2
-    returns-3
-    returns-4)
+    returns-2)

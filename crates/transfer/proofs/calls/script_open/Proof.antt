@@ -32,15 +32,15 @@ enum-known-q-2 c = search needs
 
 returns : tie.Need-returns
 unfolding openScript andThen portOpened validAttemptNext validAttempt
-returns c = (rw (← c .before .before .before .before .before .before .before .open-port .ensures, c .before .before .before .before .before .p .given .1) (c .told .ensures .0 (c .before .before .before .before .before .before .before .before .before .args .script .now) ∙ ap yes (script-begins _ (c .before .before .before .before .before .before .before .before .before .args .script .now)) ∙ sym (judged-yes (c .before .before .before .before .before .before .before .before .before .args .script .now) _ (judged-accepted (c .before .before .before .before .before .before .before .before .before .args .script .now) (c .before .enum-told .given .1) (c .before .before .before .judge .ensures)))), c .told .ensures .1 (c .before .before .before .before .before .before .before .before .before .args .script .now) (opened-valid _ _ _ (c .before .before .before .before .before .p .given .1) (c .before .before .before .before .before .before .before .open-port .ensures)) refl)
+returns c = record { yields = rw (← c .before .before .before .before .before .before .before .open-port .ensures, c .before .before .before .before .before .p .given .1) (c .told .ensures .yields (c .before .before .before .before .before .before .before .before .before .args .script .now) ∙ ap yes (script-begins _ (c .before .before .before .before .before .before .before .before .before .args .script .now)) ∙ sym (judged-yes (c .before .before .before .before .before .before .before .before .before .args .script .now) _ (judged-accepted (c .before .before .before .before .before .before .before .before .before .args .script .now) (c .before .enum-told .given .1) (c .before .before .before .judge .ensures)))); limits = c .told .ensures .limits (c .before .before .before .before .before .before .before .before .before .args .script .now) (opened-valid _ _ _ (c .before .before .before .before .before .p .given .1) (c .before .before .before .before .before .before .before .open-port .ensures)) refl }
 
 returns-2 : tie.Need-returns-2
 unfolding openScript andThen portOpened saidScript standsScript
-returns-2 c = (rw (← c .before .before .before .before .before .before .before .open-port .ensures, c .before .before .before .before .before .p .given .1) (sym (judged-no (c .before .before .before .before .before .before .before .before .before .args .script .now) _ (c .before .q .given .1) (c .before .before .before .judge .ensures))), tt)
+returns-2 c = record { yields = rw (← c .before .before .before .before .before .before .before .open-port .ensures, c .before .before .before .before .before .p .given .1) (sym (judged-no (c .before .before .before .before .before .before .before .before .before .args .script .now) _ (c .before .q .given .1) (c .before .before .before .judge .ensures))); limits = tt }
 
 returns-3 : tie.Need-returns-3
 unfolding openScript andThen portOpened saidScript standsScript
-returns-3 c = (rw (← c .before .before .before .open-port .ensures, c .before .q2 .given .1), tt)
+returns-3 c = record { yields = rw (← c .before .before .before .open-port .ensures, c .before .q2 .given .1); limits = tt }
 
 pub script-open-spec : {M : Type 1} → statement M
 script-open-spec =

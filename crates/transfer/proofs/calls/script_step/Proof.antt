@@ -27,15 +27,15 @@ enum-known-q c = search needs
 
 returns : tie.Need-returns
 unfolding stepScript
-returns c = (rw (c .before .before .s .given .1) (c .script-on .ensures .0 ∙ sym (judged-yes (c .before .before .before .before .before .before .before .before .args .script .now) _ (judged-accepted (c .before .before .before .before .before .before .before .before .args .script .now) (c .before .before .before .before .enum-told .given .1) (c .before .before .before .before .before .before .judge .ensures)))), c .script-on .ensures .1 (on-first (c .before .before .before .before .before .before .before .before .args .script .now) (judged-accepted (c .before .before .before .before .before .before .before .before .args .script .now) (c .before .before .before .before .enum-told .given .1) (c .before .before .before .before .before .before .judge .ensures))))
+returns c = record { yields = rw (c .before .before .s .given .1) (c .script-on .ensures .yields ∙ sym (judged-yes (c .before .before .before .before .before .before .before .before .args .script .now) _ (judged-accepted (c .before .before .before .before .before .before .before .before .args .script .now) (c .before .before .before .before .enum-told .given .1) (c .before .before .before .before .before .before .judge .ensures)))); limits = c .script-on .ensures .limits (on-first (c .before .before .before .before .before .before .before .before .args .script .now) (judged-accepted (c .before .before .before .before .before .before .before .before .args .script .now) (c .before .before .before .before .enum-told .given .1) (c .before .before .before .before .before .before .judge .ensures))) }
 
 returns-2 : tie.Need-returns-2
 unfolding stepScript steppedScript saidScript standsScript
-returns-2 c = (rw (c .enum-told2 .given .1) (sym (judged-yes (c .before .before .before .before .before .before .args .script .now) _ (judged-accepted (c .before .before .before .before .before .before .args .script .now) (c .before .before .enum-told .given .1) (c .before .before .before .before .judge .ensures)))), tt)
+returns-2 c = record { yields = rw (c .enum-told2 .given .1) (sym (judged-yes (c .before .before .before .before .before .before .args .script .now) _ (judged-accepted (c .before .before .before .before .before .before .args .script .now) (c .before .before .enum-told .given .1) (c .before .before .before .before .judge .ensures)))); limits = tt }
 
 returns-3 : tie.Need-returns-3
 unfolding stepScript saidScript standsScript
-returns-3 c = (sym (judged-no (c .before .before .before .before .before .args .script .now) _ (c .before .q .given .1) (c .before .before .before .judge .ensures)), tt)
+returns-3 c = record { yields = sym (judged-no (c .before .before .before .before .before .args .script .now) _ (c .before .q .given .1) (c .before .before .before .judge .ensures)); limits = tt }
 
 pub script-step-spec : {M : Type 1} → statement M
 script-step-spec =

@@ -1,9 +1,9 @@
 -- `told` meets its contract.
 use Rattle.hardware.specs.Asked.{yes}
-use Rattle.hardware.specs.Prog.{_>>=_, erase, followed, going-tally, tally}
+use Rattle.hardware.specs.Prog.{_>>=_, erase, followed, going-tally, pick, tally}
 use Rattle.transfer.proofs.Laws.{told-tally}
 use Rattle.transfer.specs.Attempt.{attemptNext, awaiting, validAttemptNext}
-use Rattle.transfer.specs.Calls.{dropped, restScript, saidScript, standsScript}
+use Rattle.transfer.specs.Calls.{dropped, restScript, saidScript, standsScript, single, validScript}
 use borrow.Author.Needs.{needs}
 use mathlib.Core.Path.{ap}
 use Rattle.transfer.proofs.calls.told.Statement.{statement}
@@ -31,16 +31,16 @@ outcome-of-requires : tie.Need-outcome-of-requires
 outcome-of-requires c κs = search needs
 
 returns : tie.Need-returns
-unfolding saidScript restScript attemptNext awaiting standsScript validAttemptNext
-returns c = (λ s. rw (c .before .before .n .given .1, (rw (c .before .before .before .before .layout-of .ensures) at (c .access .ensures))) (ap yes (going-tally 1 _ _ _)), λ s p h. ((rw (c .before .before .before .before .layout-of .ensures) at (c .access .ensures)), p, rw (c .before .before .n .given .1) at h))
+unfolding saidScript restScript attemptNext awaiting standsScript validAttemptNext validScript pick
+returns c = record { yields = λ s. rw (c .before .before .n .given .1, (rw (c .before .before .before .before .layout-of .ensures) at (c .access .ensures))) (ap yes (going-tally single _ _ _)); limits = λ s p h. ((rw (c .before .before .before .before .layout-of .ensures) at (c .access .ensures)), rw p (rw (c .before .before .n .given .1) at h)) }
 
 returns-2 : tie.Need-returns-2
-unfolding saidScript restScript attemptNext awaiting standsScript validAttemptNext
-returns-2 c = (λ s. rw (c .before .before .n2 .given .1, (rw (c .before .before .before .before .layout-of .ensures) at (c .access2 .ensures))) (ap yes (told-tally 1 _ _ _ _)), λ s p h. ((rw (c .before .before .before .before .layout-of .ensures) at (c .access2 .ensures)), p, rw (c .before .before .n2 .given .1) at h))
+unfolding saidScript restScript attemptNext awaiting standsScript validAttemptNext validScript pick
+returns-2 c = record { yields = λ s. rw (c .before .before .n2 .given .1, (rw (c .before .before .before .before .layout-of .ensures) at (c .access2 .ensures))) (ap yes (told-tally single _ _ _ _)); limits = λ s p h. ((rw (c .before .before .before .before .layout-of .ensures) at (c .access2 .ensures)), rw p (rw (c .before .before .n2 .given .1) at h)) }
 
 returns-3 : tie.Need-returns-3
 unfolding saidScript attemptNext followed _>>=_ erase dropped tally standsScript
-returns-3 c = (λ s. rw (c .before .before .n3 .given .1, c .outcome-of .ensures), λ s p h. tt)
+returns-3 c = record { yields = λ s. rw (c .before .before .n3 .given .1, c .outcome-of .ensures); limits = λ s p h. tt }
 
 pub told-spec : {M : Type 1} → statement M
 told-spec =

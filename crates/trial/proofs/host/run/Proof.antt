@@ -4,10 +4,10 @@ use Rattle.trial.proofs.host.run.Statement.{statement}
 use Rattle.trial.proofs.host.run.Tie as tie
 
 abbrev Inv-loop : tie.InvT-loop
-Inv-loop port desk₀ told₀ left₀ desk told left = Unit {0}
+Inv-loop port state₀ told₀ left₀ state told left = Unit {0}
 
 abbrev μ-loop : tie.MeasureT-loop
-μ-loop port desk₀ told₀ left₀ desk told left = left
+μ-loop port state₀ told₀ left₀ state told left = left
 
 loop-holds : tie.Need-loop-holds Inv-loop μ-loop
 loop-holds c = search needs

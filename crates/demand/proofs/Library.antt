@@ -1,0 +1,107 @@
+-- What the library's call comes to on the bench is what the Rust's comes to there, where the answers meet the premises; and
+-- so with no list lent, where every lock and grant comes at once.
+use Prim.Native.Nat.{ℕ, _≤_}
+use mathlib.Core.Path.{_≡_, refl, ap, _∙_, sym, subst, subst⁻¹}
+use mathlib.Core.List.{List, [], _∷_}
+use lib.ListN.{length}
+use Rattle.i2c.specs.I2c.{standard}
+use Rattle.hardware.specs.declared.Answer.{Answer}
+use Rattle.hardware.specs.declared.Port.{Port}
+use Rattle.hardware.specs.Asked.{yes}
+use Rattle.hardware.specs.Prog.{R, Counted}
+use Rattle.bus.specs.declared.Layout.{Layout}
+use Rattle.bus.specs.Layout.{layoutOf}
+use Rattle.wire.specs.Lines.{Each}
+use Rattle.wire.specs.Machine.{World}
+use Rattle.wire.specs.Run.{Source, listed, fixed, awaited, Event, moved, answered, noticed, Outcome, ended, short, stopped, Finished, Run, run}
+use Rattle.wire.proofs.Run.{Fits, fixed-awaited, awaited-run, fixed-finishes}
+use Rattle.bench.specs.declared.Bench.{Bench}
+use Rattle.bench.specs.AtOnce.{atOnce}
+use Rattle.bench.specs.Register.{side}
+use Rattle.sfp.specs.declared.Identity.{Identity}
+use Rattle.sfp.specs.Identify.{identify}
+use Rattle.sfp.proofs.Ends.{IDENTIFY-STEPS, identify-ends}
+use Rattle.demand.specs.Claim.{CountedBench, machine, benchRun, Premise, atStart, Claimed, Starts, Premises}
+use Rattle.demand.specs.Library.{identifyRun, Shown, Demand3, Demand3AtOnce}
+use Rattle.demand.proofs.Runs.{works-fits, ends-run, Sees, told, tally-run}
+use Rattle.demand.proofs.Claim.{identified-ended}
+use Rattle.demand.proofs.AtOnce.{at-once-fits}
+use Rattle.demand.proofs.Possible.{prompt, promptAnswers, prompt-replayed, at-once-meets}
+
+all-fit : (es : List Event) → Each Premise es → Each Fits es
+unfolding Premise Fits
+all-fit [] m = tt
+all-fit (moved old new ∷ es) m = (tt, all-fit es (m .1))
+all-fit (answered x a ∷ es) m = (works-fits x a (m .0), all-fit es (m .1))
+all-fit (noticed n ∷ es) m = (tt, all-fit es (m .1))
+
+-- the module alone, the count of transfers being the result's
+abbrev alone : CountedBench → Bench
+alone m = m .bench
+
+alone-sees : Sees side alone
+alone-sees = record { pulls = λ m. refl; takes = λ e m. refl; notes = λ n m. refl }
+
+abbrev counted : Outcome machine (R Identity) → Outcome side (Counted (R Identity))
+counted o = told side alone alone-sees o
+
+counted-finished : (o : Outcome machine (R Identity)) → Finished o → Finished (counted o)
+unfolding Finished told
+counted-finished (ended a w) f = tt
+counted-finished (short w) f = absurd f
+counted-finished (stopped n w) f = absurd f
+
+shown : (l : Layout) (b : Bench) (o : Outcome machine (R Identity)) → Finished (counted o)
+    → ((a : R Identity) (w : World machine) → o ≡ ended a w → Claimed l b (record { meter = w .other .meter; result = a }) w) → Shown l b o (counted o)
+unfolding Finished Shown told
+shown l b (ended a w) f h = (refl, h a w refl)
+shown l b (short w) f h = absurd f
+shown l b (stopped n w) f h = absurd f
+
+module _ (port : Port) (b : Bench) (word : ℕ) where
+  -- the library's run, wherever the answers come from
+  abbrev pub library : Source → List Answer → Outcome side (Counted (R Identity))
+  library s answers = identifyRun s (yes port) (record { word = word; other = b }) answers
+
+  library-counts : (s : Source) (answers : List Answer)
+      → library s answers ≡ counted (run (layoutOf (port .family)) machine (awaited s) (identify standard port) (atStart word b) answers .outcome)
+  unfolding identifyRun
+  library-counts s answers = tally-run side alone alone-sees (layoutOf (port .family)) (awaited s) (identify standard port) (atStart word b) answers
+
+  module _ (answers : List Answer) (s : Starts port b word) (m : Premises port b word answers) where
+    -- whatever comes to the same as the Rust's run, and to its end
+    demand-of : (o : Outcome side (Counted (R Identity))) → o ≡ counted (benchRun port (identify standard port) b word answers .outcome) → Finished o → Demand3 port b word answers o
+    unfolding Demand3
+    demand-of o e f =
+        subst⁻¹ (Shown (layoutOf (port .family)) b _) e (shown (layoutOf (port .family)) b _ (subst Finished e f) (identified-ended port b word answers s m))
+
+    same : library listed answers ≡ counted (benchRun port (identify standard port) b word answers .outcome)
+    unfolding Premises
+    same =
+        library-counts listed answers
+        ∙ ap (λ (r : Run machine (R Identity)). counted (r .outcome)) (awaited-run (layoutOf (port .family)) machine listed (identify standard port) (atStart word b) answers (all-fit (benchRun port (identify standard port) b word answers .trace) m))
+
+    -- Demand 3 of the library's `identify` on the bench, whenever it has come to its end
+    pub demand-3-ended : Finished (library listed answers) → Demand3 port b word answers (library listed answers)
+    demand-3-ended f = demand-of _ same f
+
+    -- as it has for every list that is long enough
+    pub demand-3 : IDENTIFY-STEPS (port .family) ≤ length answers → Demand3 port b word answers (library listed answers)
+    unfolding Premises
+    demand-3 n =
+        demand-3-ended (subst⁻¹ Finished same (counted-finished _ (ends-run (layoutOf (port .family)) (identify standard port) _ (identify-ends standard port) (atStart word b) answers n m)))
+
+  -- Demand 3 where every lock and grant comes at once
+  pub demand-3-at-once : Starts port b word → Demand3AtOnce port b word (library (fixed atOnce) [])
+  unfolding Demand3AtOnce
+  demand-3-at-once s = (
+    promptAnswers port b word,
+    at-once-meets port b word,
+    demand-of (promptAnswers port b word) s (at-once-meets port b word) _ (as-prompt ∙ ap (λ (r : Run machine (R Identity)). counted (r .outcome)) (sym (prompt-replayed port b word)))
+        (subst⁻¹ Finished as-prompt (counted-finished _ (fixed-finishes (layoutOf (port .family)) machine atOnce (identify standard port) (atStart word b) []))),
+  )
+    where
+      as-prompt : library (fixed atOnce) [] ≡ counted (prompt port b word .outcome)
+      as-prompt =
+          library-counts (fixed atOnce) []
+          ∙ ap (λ (t : Source). counted (run (layoutOf (port .family)) machine t (identify standard port) (atStart word b) [] .outcome)) (fixed-awaited atOnce at-once-fits)

@@ -1,0 +1,196 @@
+-- From what always holds of a call to its runs on the bench, wherever the other registers' answers come from.
+use Prim.Native.Nat.{ℕ, _≤_, suc, zero}
+use mathlib.Core.Path.{_≡_, refl, ap, _∙_, sym}
+use mathlib.Core.Bool.{Bool, true, false}
+use mathlib.Core.List.{List, [], _∷_}
+use native.Mathlib.Omega.{arith}
+use lib.Dec.{T}
+use lib.ListN.{length}
+use Rattle.hardware.specs.declared.Access.{Access}
+use Rattle.hardware.specs.declared.Access.the-variants.{Read, Write, Wait}
+use Rattle.hardware.specs.declared.Answer.{Answer}
+use Rattle.hardware.specs.declared.Answer.the-variants.{Value, Done, Failed}
+use Rattle.hardware.specs.Asked.{fits}
+use Rattle.hardware.specs.Prog.{Prog, ret, ask, note, give, Note, Attempt, Acquires, Acquired, Released, Lapsed, pick, Counted, metered, tally}
+use Rattle.hardware.specs.Runs.{Ends}
+use Rattle.bus.specs.declared.Layout.{Layout}
+use Rattle.wire.specs.Lines.{Edge, OneMoves, master, Each}
+use Rattle.wire.specs.Machine.{Side, World, takesAll, turn, wrote, reading, modelled, reply, after, noted}
+use Rattle.wire.specs.Always.{ByKind, Answered, Always}
+use Rattle.wire.specs.Run.{Given, given, nothing, refused, Source, listed, Event, moved, answered, noticed, Outcome, ended, short, stopped, Finished, Run, fed, run}
+use Rattle.wire.proofs.Run.{reply-fits}
+use Rattle.demand.specs.Claim.{CountedBench, machine, staysIn, Works, Premise}
+
+-- Q holds at the end, if the run comes to it
+unfoldable pub Ending : {A : Type 0} → (A → World machine → Type 0) → Outcome machine A → Type 0
+Ending Q (ended a w) = Q a w
+Ending Q (short w) = Unit {0}
+Ending Q (stopped n w) = Unit {0}
+
+-- no write of I2CCTL moves both lines
+unfoldable pub Steady : Layout → Event → Type 0
+Steady l (moved old new) = OneMoves (master l old) (master l new)
+Steady l (answered x a) = Unit {0}
+Steady l (noticed n) = Unit {0}
+
+-- a run that moves no two lines at once, and Q at its end
+pub record Sound {A : Type 0} (l : Layout) (Q : A → World machine → Type 0) (r : Run machine A) : Type 0 where
+  pub ending : Ending Q (r .outcome)
+  pub steady : Each (Steady l) (r .trace)
+
+-- what holds of every answer of the kind that may come holds of one that works
+works-kind : (x : Access) (a : Answer) (K : Answer → Type 0) → ByKind staysIn x K → Works x a → K a
+unfolding ByKind
+works-kind (Read r) (Value v) K k m = k v m
+works-kind (Read r) Done K k m = absurd m
+works-kind (Read r) Failed K k m = absurd m
+works-kind (Write r v) (Value u) K k m = absurd m
+works-kind (Write r v) Done K k m = k
+works-kind (Write r v) Failed K k m = absurd m
+works-kind (Wait n) (Value v) K k m = absurd m
+works-kind (Wait n) Done K k m = k
+works-kind (Wait n) Failed K k m = absurd m
+
+pub works-fits : (x : Access) (a : Answer) → Works x a → T (fits x a)
+unfolding fits ByKind
+works-fits (Read r) a m = works-kind (Read r) a (λ b. T (fits (Read r) b)) (λ v _. tt) m
+works-fits (Write r v) a m = works-kind (Write r v) a (λ b. T (fits (Write r v) b)) tt m
+works-fits (Wait n) a m = works-kind (Wait n) a (λ b. T (fits (Wait n) b)) tt m
+
+-- what always holds of a call holds of each of its runs whose answers meet the premises
+module _ (l : Layout) (s : Source) {A : Type 0} (Q : A → World machine → Type 0) where
+  abbrev Goes : Prog A → World machine → List Answer → Type 0
+  Goes p w answers = Always l machine p w Q → Each Premise (run l machine s p w answers .trace) → Sound l Q (run l machine s p w answers)
+
+  always-fed : (x : Access) (f : Answer → Prog A) (w : World machine) (g : Given) → ((a : Answer) (rest : List Answer) → Goes (f a) w rest)
+      → ByKind staysIn x (λ a. Always l machine (f a) w Q) → Each Premise (fed x w (λ a rest. run l machine s (f a) w rest) g .trace)
+      → Sound l Q (fed x w (λ a rest. run l machine s (f a) w rest) g)
+  unfolding fed Ending Premise Steady
+  always-fed x f w (given a rest) h k m =
+      let r = h a rest (works-kind x a (λ b. Always l machine (f b) w Q) k (m .0)) (m .1) in record { ending = r .ending; steady = (tt, r .steady) }
+  always-fed x f w nothing h k m = record { ending = tt; steady = tt }
+  always-fed x f w (refused n) h k m = record { ending = tt; steady = tt }
+
+  always-at : (x : Access) (b : Bool) (f : Answer → Prog A) (w : World machine) (answers : List Answer) → modelled l x ≡ b
+      → ((a : Answer) (w′ : World machine) (rest : List Answer) → Goes (f a) w′ rest) → Goes (ask x f) w answers
+  unfolding run Always Answered pick Steady
+  always-at x true f w answers e h k m =
+      rw e (let r = h _ _ answers ((rw e at k) .1) ((rw e at m) .1) in record { ending = r .ending; steady = ((rw e at k) .0, r .steady) })
+  always-at x false f w answers e h k m = rw e (always-fed x f w (s x answers) (λ a rest. h a w rest) (rw e at k) (rw e at m))
+
+  after-note : (n : Note) (r : Run machine A) → Sound l Q r → Sound l Q (record { trace = noticed n ∷ r .trace; outcome = r .outcome })
+  unfolding Steady
+  after-note n r h = record { ending = h .ending; steady = (tt, h .steady) }
+
+  pub always-run : (p : Prog A) (w : World machine) (answers : List Answer) → Goes p w answers
+  unfolding run Always Ending Premise
+  always-run (ret a) w answers k m = record { ending = k; steady = tt }
+  always-run (ask x f) w answers k m = always-at x (modelled l x) f w answers refl (λ a w′ rest. always-run (f a) w′ rest) k m
+  always-run (note Attempt p) w answers k m = after-note Attempt _ (always-run p (noted machine Attempt w) answers k (m .1))
+  always-run (note Acquires p) w answers k m = after-note Acquires _ (always-run p (noted machine Acquires w) answers k (m .1))
+  always-run (note Acquired p) w answers k m = after-note Acquired _ (always-run p (noted machine Acquired w) answers k (m .1))
+  always-run (note Released p) w answers k m = after-note Released _ (always-run p (noted machine Released w) answers k (m .1))
+  always-run (note Lapsed p) w answers k m = absurd (m .0)
+  always-run (give b p) w answers k m = always-run p w answers k m
+
+-- as many answers as a call has accesses bring its run to the end
+module _ (l : Layout) {A : Type 0} where
+  abbrev Reaches : Prog A → World machine → List Answer → Type 0
+  Reaches p w answers = Each Premise (run l machine listed p w answers .trace) → Finished (run l machine listed p w answers .outcome)
+
+  ends-fed : (x : Access) (f : Answer → Prog A) (n : ℕ) (w : World machine) (answers : List Answer)
+      → ((a : Answer) (rest : List Answer) → T (fits x a) → n ≤ length rest → Reaches (f a) w rest) → suc n ≤ length answers
+      → Each Premise (fed x w (λ a rest. run l machine listed (f a) w rest) (listed x answers) .trace)
+      → Finished (fed x w (λ a rest. run l machine listed (f a) w rest) (listed x answers) .outcome)
+  unfolding fed listed Premise
+  ends-fed x f n w [] h b m = absurd (omega (arith, b))
+  ends-fed x f n w (a ∷ rest) h b m = h a rest (works-fits x a (m .0)) (omega (arith, b)) (m .1)
+
+  ends-at : (x : Access) (b : Bool) (f : Answer → Prog A) (n : ℕ) (w : World machine) (answers : List Answer) → modelled l x ≡ b
+      → ((a : Answer) (w′ : World machine) (rest : List Answer) → T (fits x a) → n ≤ length rest → Reaches (f a) w′ rest) → suc n ≤ length answers
+      → Reaches (ask x f) w answers
+  unfolding run pick
+  ends-at x true f n w answers e h b m = rw e (h _ _ answers (reply-fits l machine x w) (omega (arith, b)) ((rw e at m) .1))
+  ends-at x false f n w answers e h b m = rw e (ends-fed x f n w answers (λ a rest. h a w rest) b (rw e at m))
+
+  pub ends-run : (p : Prog A) (n : ℕ) → Ends p n → (w : World machine) (answers : List Answer) → n ≤ length answers → Reaches p w answers
+  unfolding Ends run Finished
+  ends-run (ret a) n e w answers b m = tt
+  ends-run (ask x f) zero e w answers b m = absurd e
+  ends-run (ask x f) (suc n) e w answers b m = ends-at x (modelled l x) f n w answers refl (λ a w′ rest u. ends-run (f a) n (e a u) w′ rest) b m
+  ends-run (note k p) n e w answers b m = ends-run p n e (noted machine k w) answers b (m .1)
+  ends-run (give k p) n e w answers b m = ends-run p n e w answers b m
+
+-- a side on which the module is as on the machine, seen past the count of transfers
+pub record Sees (o : Side) (see : CountedBench → o .State) : Type 0 where
+  pub pulls : (m : CountedBench) → o .pulls (see m) ≡ machine .pulls m
+  pub takes : (e : Edge) (m : CountedBench) → o .takes e (see m) ≡ see (machine .takes e m)
+  pub notes : (n : Note) (m : CountedBench) → see (machine .notes n m) ≡ see m
+
+takes-meter : (es : List Edge) (m : CountedBench) → takesAll machine es m .meter ≡ m .meter
+unfolding takesAll
+takes-meter [] m = refl
+takes-meter (e ∷ es) m = takes-meter es (machine .takes e m)
+
+-- an access of the machine's own begins no transfer
+after-meter : (l : Layout) (x : Access) (w : World machine) → after l machine x w .other .meter ≡ w .other .meter
+unfolding after wrote turn
+after-meter l (Read r) w = refl
+after-meter l (Write r v) w = takes-meter _ (w .other)
+after-meter l (Wait n) w = refl
+
+module _ (o : Side) (see : CountedBench → o .State) (same : Sees o see) where
+  abbrev pub seen : World machine → World o
+  seen w = record { word = w .word; other = see (w .other) }
+
+  takes-seen : (es : List Edge) (m : CountedBench) → takesAll o es (see m) ≡ see (takesAll machine es m)
+  unfolding takesAll
+  takes-seen [] m = refl
+  takes-seen (e ∷ es) m = ap (takesAll o es) (same .takes e m) ∙ takes-seen es (machine .takes e m)
+
+  after-seen : (l : Layout) (x : Access) (w : World machine) → after l o x (seen w) ≡ seen (after l machine x w)
+  unfolding after wrote turn
+  after-seen l (Read r) w = refl
+  after-seen l (Write r v) w = rw (same .pulls (w .other)) (ap (λ t. record { word = v; other = t }) (takes-seen _ (w .other)))
+  after-seen l (Wait n) w = refl
+
+  reply-seen : (l : Layout) (x : Access) (w : World machine) → reply l o x (seen w) ≡ reply l machine x w
+  unfolding reply reading
+  reply-seen l (Read r) w = rw (same .pulls (w .other))
+  reply-seen l (Write r v) w = refl
+  reply-seen l (Wait n) w = refl
+
+  -- the outcome as the library gives it: the count of transfers beside the result
+  unfoldable pub told : {A : Type 0} → Outcome machine A → Outcome o (Counted A)
+  told (ended a w) = ended (record { meter = w .other .meter; result = a }) (seen w)
+  told (short w) = short (seen w)
+  told (stopped n w) = stopped n (seen w)
+
+  -- `tally` tells the transfers that the run began, and changes nothing else
+  module _ (l : Layout) (s : Source) {A : Type 0} where
+    abbrev Tells : Prog A → World machine → List Answer → Type 0
+    Tells p w answers = run l o s (tally (w .other .meter) p) (seen w) answers .outcome ≡ told (run l machine s p w answers .outcome)
+
+    tally-fed : (x : Access) (f : Answer → Prog A) (w : World machine) (g : Given) → ((a : Answer) (rest : List Answer) → Tells (f a) w rest)
+        → fed x (seen w) (λ a rest. run l o s (tally (w .other .meter) (f a)) (seen w) rest) g .outcome ≡ told (fed x w (λ a rest. run l machine s (f a) w rest) g .outcome)
+    unfolding fed told
+    tally-fed x f w (given a rest) h = h a rest
+    tally-fed x f w nothing h = refl
+    tally-fed x f w (refused n) h = refl
+
+    tally-at : (x : Access) (b : Bool) (f : Answer → Prog A) (w : World machine) (answers : List Answer) → modelled l x ≡ b
+        → ((a : Answer) (w′ : World machine) (rest : List Answer) → Tells (f a) w′ rest) → Tells (ask x f) w answers
+    unfolding run pick tally
+    tally-at x true f w answers e h =
+        rw (e, reply-seen l x w, after-seen l x w)
+        (ap (λ n. run l o s (tally n (f (reply l machine x w))) (seen (after l machine x w)) answers .outcome) (sym (after-meter l x w)) ∙ h _ _ answers)
+    tally-at x false f w answers e h = rw e (tally-fed x f w (s x answers) (λ a rest. h a w rest))
+
+    pub tally-run : (p : Prog A) (w : World machine) (answers : List Answer) → Tells p w answers
+    unfolding tally run told
+    tally-run (ret a) w answers = refl
+    tally-run (ask x f) w answers = tally-at x (modelled l x) f w answers refl (λ a w′ rest. tally-run (f a) w′ rest)
+    tally-run (note k p) w answers =
+        ap (λ t. run l o s (tally (metered k (w .other .meter)) p) (record { word = w .word; other = t }) answers .outcome) (sym (same .notes k (w .other)))
+        ∙ tally-run p (noted machine k w) answers
+    tally-run (give b p) w answers = tally-run p w answers

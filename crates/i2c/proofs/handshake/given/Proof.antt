@@ -1,0 +1,40 @@
+-- `given` meets its contract.
+use Rattle.hardware.specs.Marks.{marked, more}
+use Rattle.hardware.specs.Change.{updateNext}
+use Rattle.hardware.specs.Prog.{_>>=_, erase, followed, going, orErr, pick}
+use Rattle.hardware.specs.Registers.{outcome}
+use Rattle.i2c.specs.Handshake.{accessHandshake, dueHandshake, dueHandshakeNext, handshakeNext, restHandshake, validHandshake, validHandshakeNext}
+use Rattle.transfer.specs.Attempt.{got}
+use borrow.Author.Needs.{needs}
+use mathlib.Core.Path.{refl}
+use Rattle.i2c.proofs.handshake.given.Statement.{statement}
+use Rattle.i2c.proofs.handshake.given.Tie as tie
+
+enum-known-n : tie.Need-enum-known-n
+enum-known-n c = search needs
+
+enum-known-n-2 : tie.Need-enum-known-n-2
+enum-known-n-2 c = search needs
+
+enum-told : tie.Need-enum-told
+enum-told c = search needs
+
+enum-known-o : tie.Need-enum-known-o
+enum-known-o c = search needs
+
+returns : tie.Need-returns
+unfolding marked handshakeNext accessHandshake restHandshake validHandshakeNext validHandshake dueHandshakeNext dueHandshake more pick updateNext
+returns c = record { yields = λ port r how. rw (c .before .n .given .1) (going _ _ _); limits = λ most port r. refl; due = λ r. refl }
+
+returns-2 : tie.Need-returns-2
+unfolding handshakeNext followed _>>=_ orErr outcome erase got validHandshakeNext dueHandshakeNext updateNext
+returns-2 c = record { yields = λ port r how. rw (c .before .before .before .n2 .given .1, c .enum-told .given .1); limits = λ most port r. refl; due = λ r. refl }
+
+returns-3 : tie.Need-returns-3
+unfolding handshakeNext followed _>>=_ orErr outcome erase got validHandshakeNext dueHandshakeNext updateNext
+returns-3 c = record { yields = λ port r how. rw (c .before .before .before .before .n2 .given .1, c .before .o .given .1); limits = λ most port r. refl; due = λ r. refl }
+
+pub given-spec : {M : Type 1} → statement M
+given-spec =
+    tie.close
+    (tie.spec enum-known-n enum-known-n-2 enum-told enum-known-o returns returns-2 returns-3)

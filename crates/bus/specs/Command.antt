@@ -105,17 +105,17 @@ unfoldable pub commanded : Layout → ℕ → Command → (ℕ → Bus) → Bus
 commanded l device c k = callsLeft l device c (callCount l c) k 0
 
 unfoldable pub accessJob : Layout → Job → Access
-accessJob l s = accessLine l (s .wire)
+accessJob l s = accessLine l (s .state)
 
 unfoldable pub restJob : Layout → ℕ → Command → Job → Answer → (ℕ → Bus) → Prog Held
-restJob l device c s a k = restLine l (s .wire) a (callsLeft l device c (s .left) k)
+restJob l device c s a k = restLine l (s .state) a (callsLeft l device c (s .left) k)
 
 unfoldable pub jobNext : Layout → ℕ → Command → JobNext → (ℕ → Bus) → Prog Held
 jobNext l device c (Going s) k = ask (accessJob l s) (λ a. erase (restJob l device c s a k))
 jobNext l device c (End ctl b) k = erase (orHeld k ctl (byte b))
 
 unfoldable pub validJob : Layout → Command → Job → Bool
-validJob l c s = pick (ltb (s .left) (callCount l c)) (validLine (s .wire .line)) false
+validJob l c s = pick (ltb (s .left) (callCount l c)) (validLine (s .state .line)) false
 
 unfoldable pub validJobNext : Layout → Command → JobNext → Bool
 validJobNext l c (Going s) = validJob l c s

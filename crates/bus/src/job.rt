@@ -20,7 +20,7 @@ ghost use Rattle.bus.specs.Command.{callAt, callCount, finished, callsLe
 // left: the line calls after this one.
 pub struct Job {
     pub left: u8,
-    pub wire: LineState,
+    pub state: LineState,
 }
 
 // The end: the control word, and the byte that was heard.
@@ -54,7 +54,7 @@ fn begin(l: Layout, c: Command, ctl: u32, bits: u8, left: u8) -> Job
 {
     Job {
         left,
-        wire: crate::line::open(l, crate::command::call(l, c, left), ctl, bits),
+        state: crate::line::open(l, crate::command::call(l, c, left), ctl, bits),
     }
 }
 
@@ -74,7 +74,7 @@ fn lined(l: Layout, device: u8, c: Command, left: u8, n: LineNext) -> JobNext
     ensures { λ r. ⌜ (ltb left (callCount l c) ≡ true → validLineNext n ≡ true → validJobNext l c r ≡ true) ⌝ }
 {
     match n {
-        LineNext::Going(wire) => JobNext::Going(Job { left, wire }),
+        LineNext::Going(state) => JobNext::Going(Job { left, state }),
         LineNext::End(ctl, bits, o) => match o {
             Outcome::Ok => from(l, device, c, ctl, bits, left),
             Outcome::Err(e) => JobNext::End(ctl, Byte::Err(e)),
@@ -92,23 +92,23 @@ pub fn open(l: Layout, c: Command, ctl: u32) -> Job
 pub fn access(l: Layout, s: Job) -> Access
     ensures { λ r. ⌜ r ≡ accessJob l s ⌝ }
 {
-    let wire = s.wire;
-    crate::line::access(l, wire)
+    let state = s.state;
+    crate::line::access(l, state)
 }
 
 pub fn step(l: Layout, device: u8, c: Command, s: Job, a: Answer) -> JobNext
     ensures { λ r. ⌜ ((k : ℕ → Bus) → jobNext l device c r k ≡ erase (restJob l device c s a k)) ⌝ }
     ensures { λ r. ⌜ (validJob l c s ≡ true → validJobNext l c r ≡ true) ⌝ }
 {
-    let wire = s.wire;
-    lined(l, device, c, s.left, crate::line::step(l, wire, a))
+    let state = s.state;
+    lined(l, device, c, s.left, crate::line::step(l, state, a))
 }
 
 pub fn valid(l: Layout, c: Command, s: Job) -> bool
     ensures { λ r. ⌜ r ≡ validJob l c s ⌝ }
 {
-    let wire = s.wire;
-    let line = wire.line;
+    let state = s.state;
+    let line = state.line;
     if s.left < crate::command::count(l, c) {
         return crate::line::valid(line);
     }

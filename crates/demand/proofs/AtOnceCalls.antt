@@ -107,16 +107,16 @@ module _ (port : Port) where
       (at-once-try _ _ _ _ _ _ (granted-at-once 199) (bind-at-once _ _ (at-once-pick _ _ _ _ _ _ h (ret-at-once _)) given-at-once)))
       h
 
-  shaken-at-once : (r : Request) (p : Prog (R Taken)) → AtOnces port p → AtOnces port (handshaken port r p)
+  handshake-at-once : (r : Request) (p : Prog (R Taken)) → AtOnces port p → AtOnces port (handshaken port r p)
   unfolding handshaken
-  shaken-at-once (ReadByte device offset) p h = bus-at-once device p h
-  shaken-at-once (WriteByte device offset value) p h = bus-at-once device p h
-  shaken-at-once (ReadCombined device reg) p h = h
-  shaken-at-once (WriteCombined device reg value) p h = h
+  handshake-at-once (ReadByte device offset) p h = bus-at-once device p h
+  handshake-at-once (WriteByte device offset value) p h = bus-at-once device p h
+  handshake-at-once (ReadCombined device reg) p h = h
+  handshake-at-once (WriteCombined device reg value) p h = h
 
   pub transferred-at-once : (r : Request) (how : How) (n : ℕ) → AtOnces port (transferred port r how n)
   unfolding transferred givesValue
-  transferred-at-once r how n = bind-at-once _ _ (shaken-at-once r _ (retried-at-once r how n)) (λ result. ret-at-once _)
+  transferred-at-once r how n = bind-at-once _ _ (handshake-at-once r _ (retried-at-once r how n)) (λ result. ret-at-once _)
 
   -- whatever is read, and whatever follows it
   absent-at-once : (k : ℕ → Prog (R Identity)) → ((v : ℕ) → AtOnces port (k v)) → (r : R ℕ) → AtOnces port (orAbsent k r)

@@ -26,7 +26,7 @@ use Rattle.sfp.specs.declared.Kind.the-variants.{Unknown}
 use Rattle.sfp.specs.declared.Identity.{Identity}
 use Rattle.sfp.specs.Classes.{Bytes, SFP, kindOf, multispeedOf, Class, classOf, requests}
 use Rattle.sfp.specs.Identify.{absent, other, identify}
-use Rattle.sfp.specs.Kinds.{is}
+use Rattle.sfp.specs.Kinds.{isKind}
 use Rattle.sfp.specs.Module.{isPresent}
 use Rattle.sfp.specs.Finds.{identityOf}
 use Rattle.sfp.proofs.Finds.{module-class}
@@ -46,13 +46,13 @@ pick-present true x y e f = e
 pick-present false x y e f = f
 
 kind-present : (at : Bytes) → isPresent (kindOf at) ≡ true
-unfolding kindOf is
+unfolding kindOf isKind
 kind-present at =
     pick-present _ _ _ refl (pick-present _ _ _ (pick-present _ _ _ refl refl)
     (pick-present _ _ _ refl (pick-present _ _ _ refl (pick-present _ _ _ refl (pick-present _ _ _ refl (pick-present _ _ _ refl (pick-present _ _ _ refl refl)))))))
 
 class-present : (at : Bytes) → isPresent (classOf at .kind) ≡ true
-unfolding classOf is pick
+unfolding classOf isKind pick
 class-present at = by (eqb (at 0) SFP)
   where
     by : (b : Bool) → isPresent ((pick {A = Class} b (record { kind = kindOf at; multispeed = multispeedOf at }) (record { kind = Unknown; multispeed = false })) .kind) ≡ true
@@ -61,7 +61,7 @@ class-present at = by (eqb (at 0) SFP)
 
 -- so the four facts and NotPresent shut each other out
 never-both : (at : Bytes) (r : R Identity) → Says r (classOf at) → Absent r → ⊥
-unfolding Says Absent is
+unfolding Says Absent isKind
 never-both at (Ok m) s a = false≢true (ap isPresent (sym a) ∙ ap isPresent (s .0) ∙ class-present at)
 never-both at (Err e) s a = s
 

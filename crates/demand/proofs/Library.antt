@@ -13,7 +13,7 @@ use Rattle.bus.specs.declared.Layout.{Layout}
 use Rattle.bus.specs.Layout.{layoutOf}
 use Rattle.wire.specs.Lines.{Each}
 use Rattle.wire.specs.Machine.{World}
-use Rattle.wire.specs.Run.{Source, listed, fixed, awaited, Event, moved, answered, noticed, Outcome, ended, short, stopped, Finished, Run, run}
+use Rattle.wire.specs.Run.{Source, listed, fixed, awaited, Event, atMachine, answered, noticed, Outcome, ended, short, stopped, Finished, Run, run}
 use Rattle.wire.proofs.Run.{Fits, fixed-awaited, awaited-run, fixed-finishes}
 use Rattle.bench.specs.declared.Bench.{Bench}
 use Rattle.bench.specs.AtOnce.{atOnce}
@@ -31,7 +31,7 @@ use Rattle.demand.proofs.Possible.{prompt, promptAnswers, prompt-replay
 all-fit : (es : List Event) → Each Premise es → Each Fits es
 unfolding Premise Fits
 all-fit [] m = tt
-all-fit (moved old new ∷ es) m = (tt, all-fit es (m .1))
+all-fit (atMachine old new ∷ es) m = (tt, all-fit es (m .1))
 all-fit (answered x a ∷ es) m = (works-fits x a (m .0), all-fit es (m .1))
 all-fit (noticed n ∷ es) m = (tt, all-fit es (m .1))
 

@@ -17,7 +17,7 @@ use Rattle.bus.specs.declared.Layout.{Layout}
 use Rattle.wire.specs.Lines.{Edge, OneMoves, master, Each}
 use Rattle.wire.specs.Machine.{Side, World, takesAll, turn, wrote, reading, modelled, reply, after, noted}
 use Rattle.wire.specs.Always.{ByKind, Answered, Always}
-use Rattle.wire.specs.Run.{Given, given, nothing, refused, Source, listed, Event, moved, answered, noticed, Outcome, ended, short, stopped, Finished, Run, fed, run}
+use Rattle.wire.specs.Run.{Given, given, nothing, refused, Source, listed, Event, atMachine, answered, noticed, Outcome, ended, short, stopped, Finished, Run, fed, run}
 use Rattle.wire.proofs.Run.{reply-fits}
 use Rattle.demand.specs.Claim.{CountedBench, machine, staysIn, Works, Premise}
 
@@ -29,7 +29,7 @@ Ending Q (stopped n w) = Unit {0}
 
 -- no write of I2CCTL moves both lines
 unfoldable pub Steady : Layout → Event → Type 0
-Steady l (moved old new) = OneMoves (master l old) (master l new)
+Steady l (atMachine old new) = OneMoves (master l old) (master l new)
 Steady l (answered x a) = Unit {0}
 Steady l (noticed n) = Unit {0}
 

@@ -20,7 +20,7 @@ use Rattle.bus.specs.Layout.{layoutOf}
 use Rattle.wire.specs.Lines.{master, ready, Each}
 use Rattle.wire.specs.Machine.{Side, World}
 use Rattle.wire.specs.Always.{nobody}
-use Rattle.wire.specs.Run.{listed, Event, moved, answered, noticed, Outcome, ended, short, stopped, Run, run}
+use Rattle.wire.specs.Run.{listed, Event, atMachine, answered, noticed, Outcome, ended, short, stopped, Run, run}
 use Rattle.bench.specs.declared.Bench.{Bench}
 use Rattle.bench.specs.declared.Page.{Page}
 use Rattle.bench.specs.declared.receiver.Stage.the-variants.{Idle, AckWrite}
@@ -70,7 +70,7 @@ Comes Released = Unit {0}
 Comes Lapsed = ⊥
 
 unfoldable pub Premise : Event → Type 0
-Premise (moved old new) = Unit {0}
+Premise (atMachine old new) = Unit {0}
 Premise (answered x a) = Works x a
 Premise (noticed n) = Comes n
 

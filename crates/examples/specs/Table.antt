@@ -14,7 +14,7 @@ use Rattle.sfp.specs.declared.Kind.{Kind}
 use Rattle.sfp.specs.declared.Kind.the-variants.{DaCu, SrLr, Bx10g, Bx1g, Unknown}
 use Rattle.sfp.specs.Bytes.{sfpBytes}
 use Rattle.sfp.specs.Classes.{Bytes, Class, SFP, has, asksRate, asksReach, bx10g, kindOf, isCable, multispeedOf, classOf}
-use Rattle.sfp.specs.Kinds.{is as isKind}
+use Rattle.sfp.specs.Kinds.{isKind}
 
 -- an SFP with these bytes 3, 6, 8, 12, 14, 15 and 60
 abbrev pub sfp : ℕ → ℕ → ℕ → ℕ → ℕ → ℕ → ℕ → Bytes

@@ -16,7 +16,7 @@ use Rattle.hardware.specs.declared.Meter.{Meter}
 use Rattle.hardware.specs.declared.change.Change.{Change}
 use Rattle.hardware.specs.declared.poll.Watch.{Watch}
 use Rattle.hardware.specs.Asked.{fits}
-use Rattle.hardware.specs.Prog.{Note, told, noteIf, Prog, ret, ask, note, give, stays, erase, metered, tally, R, Ok, Err, orErr, _>>=_, _>>?_, pick}
+use Rattle.hardware.specs.Prog.{Note, isTold, noteIf, Prog, ret, ask, note, give, stays, erase, metered, tally, R, Ok, Err, orErr, _>>=_, _>>?_, pick}
 use Rattle.hardware.specs.Registers.{read, readRaw, write, flush, delay}
 use Rattle.hardware.specs.Change.{settled, stored, change}
 use Rattle.hardware.specs.Poll.{polled, poll}
@@ -58,7 +58,7 @@ ends-pick false p q n e d = d
 -- the notes take no answers
 pub ends-stays : {A : Type 0} (k : Note) (p : Prog A) (n : ℕ) → Ends p n → Ends (stays k p) n
 unfolding Ends
-ends-stays k p n e = by (told k)
+ends-stays k p n e = by (isTold k)
   where
     by : (b : Bool) → Ends (noteIf b k p) n
     by true = e

@@ -5,7 +5,7 @@ use mathlib.Core.Bool.{Bool, true, false}
 use mathlib.Core.List.{List, [], _∷_}
 use lib.Dec.{T, ltb}
 use lib.ListN.{getD}
-use native.Mathlib.Nat.{add-zero}
+use native.Mathlib.Nat.{add-zero, zero-add}
 use native.Mathlib.Numerals.{sub-one}
 use native.Mathlib.Omega.{arith}
 use borrow.Author.Tests.{ltb-true}
@@ -121,6 +121,10 @@ meter-counts m (ask x f) [] = sym (add-zero (m .transfers))
 meter-counts m (ask x f) (a ∷ l) = meter-counts m (f a) l
 meter-counts m (note k p) l = meter-counts (metered k m) p l ∙ begun-more k (m .transfers) (transfersIn p l)
 meter-counts m (give b p) l = meter-counts m p l
+
+-- from the beginning: what a result tells is how many attempts its run began
+pub meter-begun : {A : Type 0} (p : Prog A) (l : List Answer) → meterIn blank p l .transfers ≡ transfersIn p l
+meter-begun p l = meter-counts blank p l ∙ zero-add (transfersIn p l)
 
 -- a run ends with the meter of what it notes
 pub run-tally : {A : Type 0} (m : Meter) (p : Prog A) (l : List Answer) → run (tally m p) l ≡ counted (meterIn m p l) (run p l)

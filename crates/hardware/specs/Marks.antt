@@ -1,6 +1,6 @@
 -- What a machine says with the access that it awaits, and what a call's meter makes of it.
 use Prim.Native.Nat.{ℕ, suc, _<_}
-use mathlib.Core.Path.{_≡_, refl, ap, fun-ext, sym}
+use mathlib.Core.Path.{_≡_, ap, fun-ext, sym}
 use mathlib.Core.Bool.{Bool, true, false}
 use lib.Dec.{ltb}
 use borrow.Author.Tests.{lt-ltb}

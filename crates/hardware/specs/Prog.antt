@@ -27,19 +27,19 @@ note n p >>= k = note n (p >>= k)
 give b p >>= k = give b (p >>= k)
 
 -- the notes that marks tell, since a result goes by them
-abbrev pub told : Note → Bool
-told Attempt = true
-told Acquires = false
-told Acquired = false
-told Released = false
-told Lapsed = false
+abbrev pub isTold : Note → Bool
+isTold Attempt = true
+isTold Acquires = false
+isTold Acquired = false
+isTold Released = false
+isTold Lapsed = false
 
 abbrev pub noteIf : {A : Type 0} → Bool → Note → Prog A → Prog A
 noteIf true n p = note n p
 noteIf false n p = p
 
 abbrev pub stays : {A : Type 0} → Note → Prog A → Prog A
-stays n p = noteIf (told n) n p
+stays n p = noteIf (isTold n) n p
 
 -- what the host sees of it: the same accesses, bytes and end, and the notes that marks tell
 unfoldable pub erase : {A : Type 0} → Prog A → Prog A
@@ -50,7 +50,7 @@ erase (give b p) = give b (erase p)
 
 pub stays-bind : {A B : Type 0} (n : Note) (p : Prog A) (k : A → Prog B) → stays n (p >>= k) ≡ stays n p >>= k
 unfolding _>>=_
-stays-bind n p k = by (told n)
+stays-bind n p k = by (isTold n)
   where
     by : (b : Bool) → noteIf b n (p >>= k) ≡ noteIf b n p >>= k
     by true = refl

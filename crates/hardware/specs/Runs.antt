@@ -8,7 +8,7 @@ use Rattle.hardware.specs.declared.Access.{Access}
 use Rattle.hardware.specs.declared.Answer.{Answer}
 use Rattle.hardware.specs.declared.Meter.{Meter}
 use Rattle.hardware.specs.Asked.{Asked, no, yes, andThen, fits}
-use Rattle.hardware.specs.Prog.{Prog, ret, ask, note, give, Note, told, noteIf, stays, erase, Counted, begun, metered}
+use Rattle.hardware.specs.Prog.{Prog, ret, ask, note, give, Note, isTold, noteIf, stays, erase, Counted, begun, metered}
 
 -- how a run stands: it has ended, or waits for the answer to one more access
 pub data Status (A : Type 0) : Type 0 where
@@ -40,7 +40,7 @@ run (give b p) = λ l. given b (run p l)
 
 pub run-stays : {A : Type 0} (n : Note) (p : Prog A) → run (stays n p) ≡ run p
 unfolding run
-run-stays n p = by (told n)
+run-stays n p = by (isTold n)
   where
     by : (b : Bool) → run (noteIf b n p) ≡ run p
     by true = refl

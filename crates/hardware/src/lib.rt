@@ -90,6 +90,9 @@ pub struct Meter {
 
 pub const BLANK: Meter = Meter { transfers: 0 };
 
+// One attempt has begun.
+pub const BEGUN: Meter = Meter { transfers: 1 };
+
 // The Rust's `R<u32>`.
 pub enum Word {
     Ok(u32),

@@ -7,7 +7,7 @@ use Rattle.hardware.specs.declared.Family.{Family}
 use Rattle.hardware.specs.declared.Family.the-variants.{F82599, X540, X550, X552, X553}
 use Rattle.hardware.specs.declared.Port.{Port}
 use Rattle.hardware.specs.Asked.{is}
-use Rattle.hardware.specs.Prog.{Prog, ret, ask, note, give, Note, told, noteIf, stays, erase, R, _>>=_, pick}
+use Rattle.hardware.specs.Prog.{Prog, ret, ask, note, give, Note, isTold, noteIf, stays, erase, R, _>>=_, pick}
 use Rattle.hardware.specs.Change.{change}
 use Rattle.hardware.specs.Poll.{poll}
 use Rattle.sync.specs.Lock.{lock}
@@ -42,7 +42,7 @@ asks-pick true p q h k = h
 asks-pick false p q h k = k
 
 asks-stays : {A : Type 0} (n : Note) (p : Prog A) → Asks p → Asks (stays n p)
-asks-stays n p h = by (told n)
+asks-stays n p h = by (isTold n)
   where
     by : (b : Bool) → Asks (noteIf b n p)
     by true = h
@@ -101,12 +101,12 @@ bus-asks : (port : Port) (device : ℕ) (f : Prog (R Taken)) → Asks f → Asks
 unfolding withBus change _>>=_
 bus-asks port device f h = asks-pick _ _ _ tt h
 
-shaken-asks : (port : Port) (r : Request) (f : Prog (R Taken)) → Asks f → Asks (handshaken port r f)
+handshake-asks : (port : Port) (r : Request) (f : Prog (R Taken)) → Asks f → Asks (handshaken port r f)
 unfolding handshaken
-shaken-asks port (ReadByte d o) f h = bus-asks port d f h
-shaken-asks port (WriteByte d o v) f h = bus-asks port d f h
-shaken-asks port (ReadCombined d reg) f h = h
-shaken-asks port (WriteCombined d reg v) f h = h
+handshake-asks port (ReadByte d o) f h = bus-asks port d f h
+handshake-asks port (WriteByte d o v) f h = bus-asks port d f h
+handshake-asks port (ReadCombined d reg) f h = h
+handshake-asks port (WriteCombined d reg v) f h = h
 
 pub request-begins : (port : Port) (r : Request) (how : How) (tries : ℕ) → 0 < wanted r tries → Asks (handshaken port r (retried port r how tries))
-request-begins port r how tries h = shaken-asks port r _ (retried-ask port r how tries h)
+request-begins port r how tries h = handshake-asks port r _ (retried-ask port r how tries h)

@@ -7,13 +7,11 @@ use borrow.Author.Tests.{leb-true, le-leb, lt-ltb}
 use native.Mathlib.Numerals.{sub-one}
 use native.Mathlib.Omega.{arith}
 use Rattle.hardware.specs.Marks.{FULL, attemptBegins, countOf, marked, meterOn, more, unmarked}
-use Rattle.hardware.specs.declared.Access.{Access}
 use Rattle.hardware.specs.declared.Access.the-variants.{Read}
-use Rattle.hardware.specs.declared.Answer.{Answer}
 use Rattle.hardware.specs.declared.Marks.{Marks}
 use Rattle.hardware.specs.declared.Meter.{Meter}
 use Rattle.hardware.specs.declared.Port.{Port}
-use Rattle.hardware.specs.Prog.{Prog, ret, ask, note, Attempt, R, Err, orErr, erase, followed, going, tally, tally-erase, bind-assoc, bind-ret, pick, _>>=_, _>>?_}
+use Rattle.hardware.specs.Prog.{Prog, ret, ask, note, Attempt, R, Err, orErr, erase, bind-assoc, bind-ret, pick, _>>=_, _>>?_}
 use Rattle.hardware.specs.Registers.{raw}
 use Rattle.hostif.specs.Acquire.{acquire}
 use Rattle.bus.specs.declared.Layout.{Layout}
@@ -89,13 +87,13 @@ after-writes : (port : Port) (r : Request) (how : How) (left : ℕ) → isWrite 
 unfolding afterTry pick
 after-writes port r how left h = fun-ext (λ result. rw (h))
 
--- with a try left, it is made
+-- with an attempt left, it is made
 pub again-more : (port : Port) (r : Request) (how : How) (left : ℕ) → (left ≡ 0 → ⊥) → lockedTry port r how (left - 1) ≡ triesLeft port r how left
 unfolding triesLeft
 again-more port r how zero h = absurd (h refl)
 again-more port r how (suc n) h = ap (λ m. lockedTry port r how m) (sub-one (suc n))
 
--- a read's tries are the Rust's
+-- a read's attempts are the Rust's
 pub tries-reads : (port : Port) (r : Request) (how : How) (left : ℕ) → isWrite r ≡ false → triesLeft port r how left ≡ readTries port r how left
 unfolding triesLeft lockedTry tryNow readTries afterRead backThen
 tries-reads port r how zero w = refl

@@ -117,7 +117,7 @@ pauses (WriteByte device offset value) lock = false
 pauses (ReadCombined device reg) lock = false
 pauses (WriteCombined device reg value) lock = false
 
--- a read was tried and the lock given back; again: the tries that are left
+-- a read was attempted and the lock given back; again: the attempts that are left
 unfoldable pub readJudged : Request → Bool → (Unit {0} → Prog (R Taken)) → R Taken → Prog (R Taken)
 readJudged r lock again result =
     pick (failedI2c result) (pick (pauses r lock) (delayMs 100 >>? λ _. again tt) (again tt)) (ret result)

@@ -55,7 +55,7 @@ tryNow port r how left = once port r how >>= afterTry port r how left
 unfoldable pub lockedTry : Port → Request → How → ℕ → Prog (R Taken)
 lockedTry port r how left = whenLock (how .lock) (acquire port (mask port)) (tryNow port r how left)
 
--- the tries that are left, each under its lock
+-- the attempts that are left, each under its lock
 unfoldable pub triesLeft : Port → Request → How → ℕ → Prog (R Taken)
 triesLeft port r how zero = ret (Err (I2c (deviceOf r)))
 triesLeft port r how (suc left) = lockedTry port r how left

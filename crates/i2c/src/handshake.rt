@@ -22,7 +22,7 @@ use hardware::change::Change;
 use transfer::attempt::Got;
 ghost use Prim.Native.Nat.{ℕ, _<_, _≤_};
 ghost use mathlib.Core.Path.{_≡_};
-ghost use mathlib.Core.Bool.{Bool, true, false};
+ghost use mathlib.Core.Bool.{true, false};
 ghost use lib.Dec.{ltb};
 ghost use Rattle.hardware.specs.Promise.{Counts};
 ghost use Rattle.hardware.specs.Prog.{erase, followed, orErr, ret, pick};

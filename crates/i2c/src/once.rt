@@ -10,6 +10,7 @@ use transfer::attempt::Sequence;
 ghost use Prim.Native.Nat.{_+_, _*_};
 ghost use mathlib.Core.Path.{_≡_};
 ghost use mathlib.Core.Bool.{true};
+ghost use Rattle.hardware.specs.Promise.{Keeps};
 ghost use Rattle.hardware.specs.Prog.{erase};
 ghost use Rattle.hardware.specs.Registers.{word};
 ghost use Rattle.transfer.specs.Transfer.{keeping};
@@ -79,8 +80,7 @@ pub fn value(r: Request, g: Got) -> Word
 }
 
 pub fn step(q: Sequence, l: Layout, r: Request, s: Attempt, a: Answer) -> AttemptNext
-    ensures { λ n. ⌜ attemptNext keeping q l (deviceOf r) (scriptOf r) n ≡ erase (restAttempt keeping q l (deviceOf r) (scriptOf r) s a) ⌝ }
-    ensures { λ n. ⌜ (validAttempt l (scriptOf r) s ≡ true → validAttemptNext l (scriptOf r) n ≡ true) ⌝ }
+    ensures { λ n. ⌜ Keeps (attemptNext keeping q l (deviceOf r) (scriptOf r) n ≡ erase (restAttempt keeping q l (deviceOf r) (scriptOf r) s a)) (validAttempt l (scriptOf r) s ≡ true → validAttemptNext l (scriptOf r) n ≡ true) ⌝ }
 {
     match r {
         Request::ReadByte(d, o) => {

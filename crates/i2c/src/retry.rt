@@ -19,7 +19,7 @@ use transfer::attempt::AttemptNext;
 use transfer::attempt::Got;
 ghost use Prim.Native.Nat.{ℕ, _<_, _≤_, suc};
 ghost use mathlib.Core.Path.{_≡_};
-ghost use mathlib.Core.Bool.{Bool, true, false};
+ghost use mathlib.Core.Bool.{true, false};
 ghost use Rattle.hardware.specs.Promise.{Counts};
 ghost use Rattle.hardware.specs.Prog.{erase, followed, orErr};
 ghost use Rattle.sync.specs.Resource.{acquireBitsNext, validAcquireBitsNext, releaseBitsNext, validReleaseBitsNext};
@@ -80,7 +80,7 @@ fn acquired(left: u8, n: AcquireBitsNext) -> RetryNext
     }
 }
 
-// A try is made, under the lock where it is wanted.
+// An attempt is made, under the lock where it is wanted.
 fn locked(port: Port, how: How, left: u8) -> RetryNext
     ensures { λ t. ⌜ Counts ((r : Request) → retryNext port r how t ≡ erase (lockedTry port r how left)) ((tries : ℕ) (r : Request) → left < tries → validRetryNext tries port r t ≡ true) (dueRetryNext t ≤ suc left) ⌝ }
 {
@@ -94,7 +94,7 @@ fn locked(port: Port, how: How, left: u8) -> RetryNext
     begin(left)
 }
 
-// The tries that are left.
+// The attempts that are left.
 fn again(port: Port, r: Request, how: How, left: u8) -> RetryNext
     ensures { λ t. ⌜ Counts (retryNext port r how t ≡ erase (triesLeft port r how left)) ((tries : ℕ) → left ≤ tries → validRetryNext tries port r t ≡ true) (dueRetryNext t ≤ left) ⌝ }
 {

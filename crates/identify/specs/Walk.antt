@@ -5,7 +5,7 @@ use Rattle.hardware.specs.declared.Access.{Access}
 use Rattle.hardware.specs.declared.Answer.{Answer}
 use Rattle.hardware.specs.declared.Meter.{Meter}
 use Rattle.hardware.specs.declared.Port.{Port}
-use Rattle.hardware.specs.Prog.{Prog, ret, ask, R, Ok, Err, erase, _>>=_, pick}
+use Rattle.hardware.specs.Prog.{Prog, ret, ask, R, Ok, Err, erase, pick}
 use Rattle.transfer.specs.declared.attempt.Sequence.{Sequence}
 use Rattle.i2c.specs.Handshake.{accessHandshake, restRequest, validRequest}
 use Rattle.i2c.specs.I2c.{locked}

@@ -30,7 +30,7 @@ pub enum IdentifyCall {
     Over,
 }
 
-// The end: the record, and the meter; the finished state is `Over`.
+// The end: the identity, and the meter; the finished state is `Over`.
 pub enum IdentifyTold {
     Ask(Access, IdentifyCall),
     End(Identified, Meter),

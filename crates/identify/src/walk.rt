@@ -89,8 +89,8 @@ fn moved(port: Port, q: Sequence, p: Place, n: HandshakeNext) -> IdentifyNext
 pub fn access(port: Port, s: Identify) -> Access
     ensures { λ x. ⌜ x ≡ accessIdentify port s ⌝ }
 {
-    let m = s.request;
-    i2c::handshake::access(port, m)
+    let t = s.request;
+    i2c::handshake::access(port, t)
 }
 
 pub fn valid(port: Port, m: Meter, s: Identify) -> bool
@@ -115,7 +115,7 @@ pub fn step(port: Port, q: Sequence, s: Identify, a: Answer) -> IdentifyNext
     ensures { λ t. ⌜ Keeps (identifyNext q port t ≡ erase (restIdentify q port s a)) ((m : Meter) → validIdentify port m s ≡ true → validIdentifyNext port m t ≡ true) ⌝ }
 {
     let p = s.place;
-    let m = s.request;
+    let t = s.request;
     let how = How {
         lock: true,
         sequence: q,
@@ -124,6 +124,6 @@ pub fn step(port: Port, q: Sequence, s: Identify, a: Answer) -> IdentifyNext
         port,
         q,
         p,
-        i2c::handshake::step(port, crate::place::request(p), how, m, a),
+        i2c::handshake::step(port, crate::place::request(p), how, t, a),
     )
 }

@@ -28,7 +28,7 @@ use Rattle.bus.specs.declared.Layout.{Layout}
 use Rattle.bus.specs.Layout.{layoutOf}
 use Rattle.wire.specs.Lines.{ready}
 use Rattle.wire.specs.Machine.{World, modelled, reply, after}
-use Rattle.wire.specs.Run.{Given as Gives, given, refused, Source, listed, fixed, kindAsked, awaited, Finished, Run as BenchRun, fed, run, asked}
+use Rattle.wire.specs.Run.{Given as Gives, given, refused, Source, listed, fixed, kindAsked, awaited, Finished, Run as BenchRun, fed, run, runAsked}
 use Rattle.wire.proofs.Run.{is-true, run-own, run-other, reply-fits}
 use Rattle.bench.specs.declared.register.BenchState.{BenchState}
 use Rattle.bench.specs.declared.register.Reply.{Reply}
@@ -47,13 +47,13 @@ use Rattle.identify.specs.Calls.{openIdentify, stepIdentify, saidIdentify, stan
 use Rattle.demand.specs.Claim.{Starts, Premises}
 use Rattle.demand.specs.Library.{identifyRun, Demand3, Demand3AtOnce}
 use Rattle.demand.proofs.Library.{demand-3-ended, demand-3, demand-3-at-once}
-use Rattle.onbench.specs.declared.How.the-variants.{Stopped}
+use Rattle.onbench.specs.declared.Ending.the-variants.{Stopped}
 use Rattle.onbench.specs.declared.Next.{Next}
 use Rattle.onbench.specs.declared.Next.the-variants.{Given, Nothing}
 use Rattle.onbench.specs.declared.Origin.{Origin}
 use Rattle.onbench.specs.declared.Progress.{Progress}
 use Rattle.onbench.specs.declared.Run.{Run}
-use Rattle.onbench.specs.Run.{decoded, decodedAll, sourceOf, nextOf, IdentifyOutcome, howOf, outcomeOf, leftOf, Bounded, stopsAt, Final, Step, Moves}
+use Rattle.onbench.specs.Run.{decoded, decodedAll, sourceOf, nextOf, IdentifyOutcome, endingOf, outcomeOf, leftOf, Bounded, stopsAt, Final, Step, Advances}
 
 -- what is left of a call once its access was answered
 restOf : IdentifyCall → Answer → Prog (Counted (R Identity))
@@ -111,8 +111,8 @@ Settled (Ask x c) = ⊥
 Settled (End f m) = Unit {0}
 Settled (Refused q) = Unit {0}
 
-told-settles : (l : Layout) (s : Source) (q : IdentifyTold) (w : World side) (answers : List Answer) → Settled q → asked l side s (saidIdentify q) w answers ≡ stopsAt q w
-unfolding asked saidIdentify run stopsAt
+told-settles : (l : Layout) (s : Source) (q : IdentifyTold) (w : World side) (answers : List Answer) → Settled q → runAsked l side s (saidIdentify q) w answers ≡ stopsAt q w
+unfolding runAsked saidIdentify run stopsAt
 told-settles l s (Ask x c) w answers h = absurd h
 told-settles l s (End f m) w answers h = refl
 told-settles l s (Refused q) w answers h = refl
@@ -146,15 +146,15 @@ module _ (l : Layout) (o : Origin) (ns : List ℕ) where
     -- the access was answered with a, and told is what the call then says
     stepped : (told : IdentifyTold) (a : Answer) (d′ : BenchState) (used′ : ℕ) → saidIdentify told ≡ stepIdentify c a → standsIdentify told
         → (standsIdentify (Ask x c)
-        → asked l side source (question (fits x a) 12 (yes (restOf c a))) (world d′) (decodedAll (drop used′ ns)) ≡ run l side source (ask x (restOf c)) (world d) lent .outcome)
-        → Moves left from (record { told = told; state = d′; used = used′; over = false })
-    unfolding Moves leftOf asked
+        → runAsked l side source (question (fits x a) 12 (yes (restOf c a))) (world d′) (decodedAll (drop used′ ns)) ≡ run l side source (ask x (restOf c)) (world d) lent .outcome)
+        → Advances left from (record { told = told; state = d′; used = used′; over = false })
+    unfolding Advances leftOf runAsked
     stepped told a d′ used′ said stands same st =
         record {
           same =
-              ap (λ q. asked l side source q (world d′) (decodedAll (drop used′ ns))) (said ∙ step-is x c a st)
+              ap (λ q. runAsked l side source q (world d′) (decodedAll (drop used′ ns))) (said ∙ step-is x c a st)
               ∙ same st
-              ∙ ap (λ q. asked l side source q (world d) lent) (sym (said-ask x c st));
+              ∙ ap (λ q. runAsked l side source q (world d) lent) (sym (said-ask x c st));
           stands = stands;
           less = λ _ n h. subst⁻¹ (λ q. Bounded q n) (said ∙ step-is x c a st) (fewer x (restOf c) a (fits x a) refl n (subst (λ q. Bounded q (suc n)) (said-ask x c st) h));
           final = λ z. absurd (false≢true z);
@@ -166,21 +166,21 @@ module _ (l : Layout) (o : Origin) (ns : List ℕ) where
 
       -- by the machine
       pub visit-own : (t : IdentifyTold) → r .here ≡ true → saidIdentify t ≡ stepIdentify c (r .answer) → standsIdentify t
-          → Moves left from (record { told = t; state = r .state; used = used; over = false })
-      unfolding asked question
+          → Advances left from (record { told = t; state = r .state; used = used; over = false })
+      unfolding runAsked question
       visit-own t h said stands =
           let own = reply-own l x d (modelled l x) refl (here-is true h) in
           stepped t (r .answer) (r .state) used said stands
           (λ _.
-          ap (λ (q : Reply). asked l side source (question (fits x (q .answer)) 12 (yes (restOf c (q .answer)))) (world (q .state)) lent) (er ∙ own .1)
-          ∙ ap (λ b. asked l side source (question b 12 (yes (restOf c (reply l side x (world d))))) (after l side x (world d)) lent) (is-true (fits x (reply l side x (world d))) (reply-fits l side x (world d)))
+          ap (λ (q : Reply). runAsked l side source (question (fits x (q .answer)) 12 (yes (restOf c (q .answer)))) (world (q .state)) lent) (er ∙ own .1)
+          ∙ ap (λ b. runAsked l side source (question b 12 (yes (restOf c (reply l side x (world d))))) (after l side x (world d)) lent) (is-true (fits x (reply l side x (world d))) (reply-fits l side x (world d)))
           ∙ ap (λ (q : BenchRun side (Counted (R Identity))). q .outcome) (sym (run-own l side source x (restOf c) (world d) lent (own .0))))
 
       -- by the next answer, of the awaited kind or not
       taken : (a : Answer) (rest : List Answer) (b : Bool)
-          → asked l side source (question b 12 (yes (restOf c a))) (world d) rest
+          → runAsked l side source (question b 12 (yes (restOf c a))) (world d) rest
           ≡ fed x (world d) (λ e t. run l side source (restOf c e) (world d) t) (pick b (given a rest) (refused 12)) .outcome
-      unfolding asked question fed pick
+      unfolding runAsked question fed pick
       taken a rest true = refl
       taken a rest false = refl
 
@@ -193,35 +193,35 @@ module _ (l : Layout) (o : Origin) (ns : List ℕ) where
 
       pub visit-given : (n : Next) (t : IdentifyTold) (a : Answer) (used′ : ℕ) → n ≡ Given a used′ → nextOf ns n ≡ sourceOf o x lent → r .here ≡ false
           → saidIdentify t ≡ stepIdentify c a → standsIdentify t
-          → Moves left from (record { told = t; state = d; used = used′; over = false })
+          → Advances left from (record { told = t; state = d; used = used′; over = false })
       unfolding nextOf kindAsked
       visit-given n t a used′ e en h said stands =
           stepped t a d used′ said stands (λ _. taken a (decodedAll (drop used′ ns)) (fits x a) ∙ sym (fed-by (Given a used′) (ap (nextOf ns) (sym e) ∙ en) h))
 
       -- none is left
       pub visit-none : (n : Next) → n ≡ Nothing → nextOf ns n ≡ sourceOf o x lent → r .here ≡ false
-          → Moves left from (record { told = Ask x c; state = d; used = used; over = true })
-      unfolding Moves leftOf Final stopsAt asked nextOf kindAsked fed
+          → Advances left from (record { told = Ask x c; state = d; used = used; over = true })
+      unfolding Advances leftOf Final stopsAt runAsked nextOf kindAsked fed
       visit-none n e en h st =
           record {
             same = refl;
             stands = st;
             less = λ z. absurd (false≢true (sym z));
-            final = λ _. ap (λ q. asked l side source q (world d) lent) (said-ask x c st) ∙ fed-by Nothing (ap (nextOf ns) (sym e) ∙ en) h;
+            final = λ _. ap (λ q. runAsked l side source q (world d) lent) (said-ask x c st) ∙ fed-by Nothing (ap (nextOf ns) (sym e) ∙ en) h;
           }
 
   -- by what was told
   module _ (s : Progress) where
     pub one-ask : (t : Progress) (x : Access) (c : IdentifyCall) → s .told ≡ Ask x c
-        → Moves left (record { told = Ask x c; state = s .state; used = s .used; over = false }) t → s .over ≡ false → Moves left s t
+        → Advances left (record { told = Ask x c; state = s .state; used = s .used; over = false }) t → s .over ≡ false → Advances left s t
     one-ask t x c e m z =
         let whole : _≡_ {A = Progress} (record { told = Ask x c; state = s .state; used = s .used; over = false }) s
         = ap₂ (λ q b. record { told = q; state = s .state; used = s .used; over = b }) (sym e) (sym z) in
-        subst (λ u. Moves left u t) whole m
+        subst (λ u. Advances left u t) whole m
 
     -- nothing more is to be done
-    one-over : (q : IdentifyTold) → s .told ≡ q → Settled q → standsIdentify q → Moves left s (record { told = q; state = s .state; used = s .used; over = true })
-    unfolding Moves Final
+    one-over : (q : IdentifyTold) → s .told ≡ q → Settled q → standsIdentify q → Advances left s (record { told = q; state = s .state; used = s .used; over = true })
+    unfolding Advances Final
     one-over q e h stands st =
         record {
           same =
@@ -233,11 +233,11 @@ module _ (l : Layout) (o : Origin) (ns : List ℕ) where
           final = λ _. settles (record { told = q; state = s .state; used = s .used; over = true }) h;
         }
 
-    pub one-end : (f : Identified) (m : Meter) → s .told ≡ End f m → Moves left s (record { told = End f m; state = s .state; used = s .used; over = true })
+    pub one-end : (f : Identified) (m : Meter) → s .told ≡ End f m → Advances left s (record { told = End f m; state = s .state; used = s .used; over = true })
     unfolding standsIdentify
     one-end f m e = one-over (End f m) e tt tt
 
-    pub one-refused : (q : Refusal) → s .told ≡ Refused q → Moves left s (record { told = Refused q; state = s .state; used = s .used; over = true })
+    pub one-refused : (q : Refusal) → s .told ≡ Refused q → Advances left s (record { told = Refused q; state = s .state; used = s .used; over = true })
     unfolding standsIdentify
     one-refused q e = one-over (Refused q) e tt tt
 
@@ -252,8 +252,8 @@ module _ (l : Layout) (o : Origin) (ns : List ℕ) where
     pub invariant-first : first .over ≡ false → standsIdentify (first .told) → Bounded (saidIdentify (first .told)) n → Invariant first n first
     invariant-first z st b = record { same = refl; stands = st; enough = λ _. b; final = λ e. absurd (false≢true (sym z ∙ e)) }
 
-    pub invariant-next : (s t : Progress) → Invariant first n s → s .over ≡ false → 0 < n → (s .over ≡ false → Moves left s t) → Invariant first (n - 1) t
-    unfolding Moves
+    pub invariant-next : (s t : Progress) → Invariant first n s → s .over ≡ false → 0 < n → (s .over ≡ false → Advances left s t) → Invariant first (n - 1) t
+    unfolding Advances
     invariant-next s t k z h m =
         let w : Step left s t = m z (k .stands) in
         let e : n ≡ suc (n - 1) = omega arith in
@@ -302,16 +302,16 @@ module _ (family device lan : ℕ) (d : BenchState) where
         → (standsIdentify t → Bounded (saidIdentify t) 1600450488
         → outcomeOf r ≡ leftOf (layoutOf (p .family)) o ns (record { told = t; state = d; used = 0; over = false }))
         → outcomeOf r ≡ identifyRun (sourceOf o) (openPort family device lan) (world d) (decodedAll ns)
-    unfolding portOpened Bounded leftOf asked identifyRun
+    unfolding portOpened Bounded leftOf runAsked identifyRun
     opened g p t r e h said st played =
         let y : yes p ≡ openPort family device lan = ap portOpened (sym e) ∙ h in
         played st (subst⁻¹ (λ q. Bounded q 1600450488) (opened-said p t y said) (enough p))
-        ∙ ap (λ q. asked (layoutOf (p .family)) side (awaited (sourceOf o)) q (world d) (decodedAll ns)) (opened-said p t y said)
+        ∙ ap (λ q. runAsked (layoutOf (p .family)) side (awaited (sourceOf o)) q (world d) (decodedAll ns)) (opened-said p t y said)
         ∙ ap (λ q. identifyRun (sourceOf o) q (world d) (decodedAll ns)) y
 
     pub unopened : (g : Opening) (q : Refusal) → g ≡ Unopened q → portOpened g ≡ openPort family device lan
-        → outcomeOf (record { how = Stopped q; state = d }) ≡ identifyRun (sourceOf o) (openPort family device lan) (world d) (decodedAll ns)
-    unfolding portOpened outcomeOf howOf identifyRun
+        → outcomeOf (record { ending = Stopped q; state = d }) ≡ identifyRun (sourceOf o) (openPort family device lan) (world d) (decodedAll ns)
+    unfolding portOpened outcomeOf endingOf identifyRun
     unopened g q e h = ap (λ z. identifyRun (sourceOf o) z (world d) (decodedAll ns)) (ap portOpened (sym e) ∙ h)
 
   -- Demand 3 of what the call comes to: over the numbers lent, and with none

@@ -13,7 +13,7 @@ use Rattle.hardware.specs.Prog.{Prog, R, pick, Counted}
 use Rattle.hardware.specs.Runs.{Ends}
 use Rattle.bus.specs.declared.Layout.{Layout}
 use Rattle.wire.specs.Machine.{World}
-use Rattle.wire.specs.Run.{Given as Gives, given, nothing, Source, listed, fixed, awaited, Outcome, ended, short, stopped, asked}
+use Rattle.wire.specs.Run.{Given as Gives, given, nothing, Source, listed, fixed, awaited, Outcome, ended, short, stopped, runAsked}
 use Rattle.bench.specs.AtOnce.{atOnce}
 use Rattle.bench.specs.Register.{side, world}
 use Rattle.sfp.specs.declared.Identity.{Identity}
@@ -21,8 +21,8 @@ use Rattle.identify.specs.declared.calls.IdentifyTold.{IdentifyTold}
 use Rattle.identify.specs.declared.calls.IdentifyTold.the-variants.{Ask, End, Refused}
 use Rattle.identify.specs.Walk.{foundOf}
 use Rattle.identify.specs.Calls.{saidIdentify, standsIdentify}
-use Rattle.onbench.specs.declared.How.{How}
-use Rattle.onbench.specs.declared.How.the-variants.{Ended, Short, Stopped}
+use Rattle.onbench.specs.declared.Ending.{Ending}
+use Rattle.onbench.specs.declared.Ending.the-variants.{Ended, Short, Stopped}
 use Rattle.onbench.specs.declared.Next.{Next}
 use Rattle.onbench.specs.declared.Next.the-variants.{Given, Nothing}
 use Rattle.onbench.specs.declared.Origin.{Origin}
@@ -50,17 +50,17 @@ nextOf ns Nothing = nothing
 abbrev pub IdentifyOutcome : Type 0
 IdentifyOutcome = Outcome side (Counted (R Identity))
 
-unfoldable pub howOf : How → World side → IdentifyOutcome
-howOf (Ended f m) w = ended (record { meter = m; result = foundOf f }) w
-howOf Short w = short w
-howOf (Stopped q) w = stopped (refusalNumber q) w
+unfoldable pub endingOf : Ending → World side → IdentifyOutcome
+endingOf (Ended f m) w = ended (record { meter = m; result = foundOf f }) w
+endingOf Short w = short w
+endingOf (Stopped q) w = stopped (refusalNumber q) w
 
 unfoldable pub outcomeOf : Run → IdentifyOutcome
-outcomeOf r = howOf (r .how) (world (r .state))
+outcomeOf r = endingOf (r .ending) (world (r .state))
 
 -- what the call comes to from here
 unfoldable pub leftOf : Layout → Origin → List ℕ → Progress → IdentifyOutcome
-leftOf l o ns s = asked l side (awaited (sourceOf o)) (saidIdentify (s .told)) (world (s .state)) (decodedAll (drop (s .used) ns))
+leftOf l o ns s = runAsked l side (awaited (sourceOf o)) (saidIdentify (s .told)) (world (s .state)) (decodedAll (drop (s .used) ns))
 
 -- n more accesses are enough
 unfoldable pub Bounded : {A : Type 0} → Asked (Prog A) → ℕ → Type 0
@@ -84,5 +84,5 @@ pub record Step (left : Progress → IdentifyOutcome) (s t : Progress) : Type 0 
   pub less : t .over ≡ false → (n : ℕ) → Bounded (saidIdentify (s .told)) (suc n) → Bounded (saidIdentify (t .told)) n
   pub final : t .over ≡ true → Final left t
 
-unfoldable pub Moves : (Progress → IdentifyOutcome) → Progress → Progress → Type 0
-Moves left s t = standsIdentify (s .told) → Step left s t
+unfoldable pub Advances : (Progress → IdentifyOutcome) → Progress → Progress → Type 0
+Advances left s t = standsIdentify (s .told) → Step left s t

@@ -27,10 +27,10 @@ ghost use Rattle.sfp.proofs.Ends.{IDENTIFY-STEPS};
 ghost use Rattle.identify.specs.Calls.{saidIdentify, standsIdentify};
 ghost use Rattle.demand.specs.Claim.{Premises};
 ghost use Rattle.demand.specs.Library.{identifyRun, Demand3, Demand3AtOnce};
-ghost use Rattle.onbench.specs.Run.{decoded, decodedAll, sourceOf, nextOf, outcomeOf, leftOf, stopsAt, Moves, Bounded};
+ghost use Rattle.onbench.specs.Run.{decoded, decodedAll, sourceOf, nextOf, outcomeOf, leftOf, stopsAt, Advances, Bounded};
 
 // How a run ended: with the call's result and the meter, for want of answers, or by a refusal.
-pub enum How {
+pub enum Ending {
     Ended(Identified, Meter),
     Short,
     Stopped(Refusal),
@@ -38,7 +38,7 @@ pub enum How {
 
 // I2CCTL and the module at the end.
 pub struct Run {
-    pub how: How,
+    pub ending: Ending,
     pub state: BenchState,
 }
 
@@ -103,7 +103,7 @@ fn visit(
     used: usize,
     answers: &[u64],
 ) -> Progress
-    ensures { λ t. ⌜ Moves (leftOf (layoutOf family) origin (now (answers .entry))) (record { told = IdentifyTold.Ask x c; state = d; used = used; over = false }) t ⌝ }
+    ensures { λ t. ⌜ Advances (leftOf (layoutOf family) origin (now (answers .entry))) (record { told = IdentifyTold.Ask x c; state = d; used = used; over = false }) t ⌝ }
 {
     let r = bench::register::access(family, d, x);
     let after = r.state;
@@ -133,7 +133,7 @@ fn visit(
 }
 
 fn one(family: Family, origin: Origin, s: Progress, answers: &[u64]) -> Progress
-    ensures { λ t. ⌜ (s .over ≡ false → Moves (leftOf (layoutOf family) origin (now (answers .entry))) s t) ⌝ }
+    ensures { λ t. ⌜ (s .over ≡ false → Advances (leftOf (layoutOf family) origin (now (answers .entry))) s t) ⌝ }
 {
     let told = s.told;
     let d = s.state;
@@ -162,15 +162,15 @@ fn finish(s: Progress) -> Run
     let d = s.state;
     match told {
         IdentifyTold::Ask(_, _) => Run {
-            how: How::Short,
+            ending: Ending::Short,
             state: d,
         },
         IdentifyTold::End(f, m) => Run {
-            how: How::Ended(f, m),
+            ending: Ending::Ended(f, m),
             state: d,
         },
         IdentifyTold::Refused(q) => Run {
-            how: How::Stopped(q),
+            ending: Ending::Stopped(q),
             state: d,
         },
     }
@@ -214,7 +214,7 @@ fn from_opening(
             play(f, origin, told, d, answers)
         }
         Opening::Refused(q) => Run {
-            how: How::Stopped(q),
+            ending: Ending::Stopped(q),
             state: d,
         },
     }

@@ -7,7 +7,7 @@ use bench::receiver::Receiver;
 use bench::register::BenchState;
 use hardware::Port;
 use identify::walk::Identified;
-use onbench::How;
+use onbench::Ending;
 use onbench::Run;
 use sfp::Identity;
 ghost use Prim.Native.Nat.{_≤_};
@@ -141,16 +141,16 @@ fn identified(p: Port, i: Identified) {
 }
 
 // Only the first is met: every lock and grant comes, and the port was opened before.
-fn how(p: Port, h: How) {
+fn ending(p: Port, h: Ending) {
     match h {
-        How::Ended(i, m) => {
+        Ending::Ended(i, m) => {
             identified(p, i);
             print::text(b"transfers   ");
             print::decimal(m.transfers as u64);
             print::text(b"\n");
         }
-        How::Short => print::text(b"the call did not end\n"),
-        How::Stopped(_) => print::text(b"the call was refused\n"),
+        Ending::Short => print::text(b"the call did not end\n"),
+        Ending::Stopped(_) => print::text(b"the call was refused\n"),
     }
 }
 
@@ -184,7 +184,7 @@ pub(crate) fn all(path: &[u8], image: Image, p: Port, before: BenchState, r: Run
     sums(a0);
     port(p);
     start(before);
-    let h = r.how;
-    how(p, h);
+    let h = r.ending;
+    ending(p, h);
     end(p, before.bench, r.state);
 }

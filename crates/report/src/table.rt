@@ -9,7 +9,7 @@ use crate::start;
 use bench::register::BenchState;
 use hardware::Family;
 use identify::walk::Identified;
-use onbench::How;
+use onbench::Ending;
 use onbench::Run;
 use sfp::Identity;
 use std::num::wrapping_add_u32;
@@ -57,11 +57,11 @@ fn identified(i: Identified, made: u32) -> Seen {
     }
 }
 
-fn outcome(h: How) -> Seen {
+fn outcome(h: Ending) -> Seen {
     match h {
-        How::Ended(i, m) => identified(i, m.transfers),
-        How::Short => nothing(),
-        How::Stopped(_) => nothing(),
+        Ending::Ended(i, m) => identified(i, m.transfers),
+        Ending::Short => nothing(),
+        Ending::Stopped(_) => nothing(),
     }
 }
 
@@ -122,7 +122,7 @@ fn one_if(yes: bool) -> u32
 fn counted(t: Tally, idle: Seen, image: Image, n: u8) -> Tally {
     let before = state(image, n);
     let r = identify(before);
-    let h = r.how;
+    let h = r.ending;
     let s = outcome(h);
     if right(idle, before, s, r.state) {
         return Tally {
@@ -210,7 +210,7 @@ fn counts(idle: Seen, t: Tally) {
 
 fn run(image: Image, n: u8) -> Seen {
     let r = identify(state(image, n));
-    let h = r.how;
+    let h = r.ending;
     outcome(h)
 }
 

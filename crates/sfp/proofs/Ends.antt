@@ -8,7 +8,7 @@ use native.Mathlib.Omega.{arith}
 use Rattle.hardware.specs.declared.Family.{Family}
 use Rattle.hardware.specs.declared.Family.the-variants.{F82599, X550}
 use Rattle.hardware.specs.declared.Port.{Port}
-use Rattle.hardware.specs.Prog.{Prog, R, Ok, Err, pick}
+use Rattle.hardware.specs.Prog.{Prog, R, Ok, Err}
 use Rattle.hardware.specs.Runs.{Ends}
 use Rattle.hardware.proofs.Ends.{ends-more, ends-bind, ends-pick, ret-ends}
 use Rattle.i2c.specs.declared.once.Request.the-variants.{ReadByte, WriteByte}

@@ -26,7 +26,7 @@ module _ (q : Sequence) (port : Port) (at : Bytes) where
       → Finds q port at (suc n) (byte q port offset (attempts port) k) m
   next offset o n k m h = reads _ _ _ n k m o (attempts-some port) h
 
-  -- byte 0 gets eleven tries
+  -- byte 0 gets eleven attempts
   probe : (n : ℕ) (k : ℕ → Prog (R Identity)) (m : Identity) → Finds q port at n (k (at 0)) m → Finds q port at (suc n) (byte q port 0 11 k) m
   probe n k m h = reads 0 11 10 n k m (lit< tt) refl h
 

@@ -6,7 +6,7 @@ use Rattle.hardware.specs.Prog.{pick}
 use Rattle.hardware.specs.Registers.{noneOf}
 use Rattle.sfp.specs.declared.Kind.{Kind}
 use Rattle.sfp.specs.declared.Kind.the-variants.{DaCu, DaActiveLimiting, SrLr, Cu1g, Sx1g, Lx1g, Bx10g, Bx1g, Unknown}
-use Rattle.sfp.specs.Kinds.{is}
+use Rattle.sfp.specs.Kinds.{isKind}
 
 -- a byte has one of the bits
 unfoldable pub has : ℕ → ℕ → Bool
@@ -80,7 +80,7 @@ kindOf at =
 
 -- a direct-attach cable
 unfoldable pub isCable : Kind → Bool
-isCable kind = is kind DaCu || is kind DaActiveLimiting
+isCable kind = isKind kind DaCu || isKind kind DaActiveLimiting
 
 -- SX with SR, LX with LR, DaCu, or DaActiveLimiting
 unfoldable pub multispeedOf : Bytes → Bool

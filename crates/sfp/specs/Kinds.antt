@@ -19,5 +19,5 @@ kindNumber Unknown = 8
 kindNumber NotPresent = 9
 
 -- the two are one kind
-unfoldable pub is : Kind → Kind → Bool
-is kind other = eqb (kindNumber kind) (kindNumber other)
+unfoldable pub isKind : Kind → Kind → Bool
+isKind kind other = eqb (kindNumber kind) (kindNumber other)

@@ -10,7 +10,7 @@ use Rattle.sfp.specs.declared.Kind.the-variants.{DaCu, Cu1g, Sx1g, Lx1g,
 use Rattle.sfp.specs.declared.Module.{Module}
 use Rattle.sfp.specs.declared.methods.Key.{Key}
 use Rattle.sfp.specs.declared.methods.Key.the-variants.{Key as Some, Nothing}
-use Rattle.sfp.specs.Kinds.{is}
+use Rattle.sfp.specs.Kinds.{isKind}
 
 -- the record of a module that was identified
 abbrev pub recordOf : Identity → Module
@@ -18,23 +18,23 @@ recordOf identity = record { identity = identity }
 
 -- something answered
 abbrev pub isPresent : Kind → Bool
-isPresent kind = not (is kind NotPresent)
+isPresent kind = not (isKind kind NotPresent)
 
 -- 1G only: 1000BASE-T, SX, LX and 1G BX
 unfoldable pub isOneGig : Kind → Bool
-isOneGig kind = is kind Cu1g || (is kind Sx1g || (is kind Lx1g || is kind Bx1g))
+isOneGig kind = isKind kind Cu1g || (isKind kind Sx1g || (isKind kind Lx1g || isKind kind Bx1g))
 
 -- a passive cable
 abbrev pub isLinear : Kind → Bool
-isLinear kind = is kind DaCu
+isLinear kind = isKind kind DaCu
 
 -- something answered, and a rule fits it
 unfoldable pub isKnown : Kind → Bool
-isKnown kind = not (is kind Unknown) && isPresent kind
+isKnown kind = not (isKind kind Unknown) && isPresent kind
 
 -- a family takes every known module, the X552 and the X553 all but 1000BASE-T
 unfoldable pub isSupported : Kind → Family → Bool
-isSupported kind family = isKnown kind && not (is kind Cu1g && x550em family)
+isSupported kind family = isKnown kind && not (isKind kind Cu1g && x550em family)
 
 -- the key of the 82599's NVM sequence on a port: 3 and 4 are passive cables, 5 and 6 all other known modules
 unfoldable pub keyOf : Kind → ℕ → Key

@@ -1,6 +1,6 @@
 // SFP+ modules: their classes by SFF-8472, and what the driver records of one.
 ghost use mathlib.Core.Path.{_≡_};
-ghost use Rattle.sfp.specs.Kinds.{kindNumber, is};
+ghost use Rattle.sfp.specs.Kinds.{kindNumber, isKind};
 
 pub mod class;
 pub mod methods;
@@ -73,7 +73,7 @@ pub fn number(kind: Kind) -> u8
 
 // Whether the two are one kind.
 pub fn same(kind: Kind, other: Kind) -> bool
-    ensures { λ r. ⌜ r ≡ is kind other ⌝ }
+    ensures { λ r. ⌜ r ≡ isKind kind other ⌝ }
 {
     number(kind) == number(other)
 }

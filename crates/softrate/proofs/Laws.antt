@@ -1,6 +1,6 @@
 -- Requests one after another: what the machine's proofs use.
-use Prim.Native.Nat.{ℕ, _+_, _-_, _<_, _≤_, suc}
-use mathlib.Core.Path.{_≡_, refl, ap, _∙_, sym}
+use Prim.Native.Nat.{ℕ, _+_, _-_, _<_, _≤_}
+use mathlib.Core.Path.{_≡_, refl}
 use mathlib.Core.Bool.{Bool, true, false}
 use native.Mathlib.Omega.{arith}
 use Rattle.hardware.specs.Marks.{FULL}

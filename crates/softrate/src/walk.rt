@@ -13,7 +13,7 @@ use i2c::handshake::Handshake;
 use i2c::handshake::HandshakeNext;
 use transfer::attempt::Got;
 use transfer::attempt::Sequence;
-ghost use Prim.Native.Nat.{ℕ, _+_, _≤_};
+ghost use Prim.Native.Nat.{_+_, _≤_};
 ghost use mathlib.Core.Path.{_≡_};
 ghost use mathlib.Core.Bool.{true, false};
 ghost use Rattle.hardware.specs.Promise.{Keeps};
@@ -136,8 +136,8 @@ fn moved(port: Port, q: Sequence, ten: bool, s: Spot, n: HandshakeNext) -> RateN
 pub fn access(port: Port, s: Rate) -> Access
     ensures { λ x. ⌜ x ≡ accessRate port s ⌝ }
 {
-    let m = s.request;
-    i2c::handshake::access(port, m)
+    let t = s.request;
+    i2c::handshake::access(port, t)
 }
 
 pub fn valid(port: Port, ten: bool, m: Meter, s: Rate) -> bool
@@ -163,7 +163,7 @@ pub fn step(port: Port, q: Sequence, ten: bool, s: Rate, a: Answer) -> RateNext
     ensures { λ t. ⌜ Keeps (rateNext q port ten t ≡ erase (restRate q port ten s a)) ((m : Meter) → validRate port ten m s ≡ true → validRateNext port ten m t ≡ true) ⌝ }
 {
     let p = s.spot;
-    let m = s.request;
+    let t = s.request;
     let how = How {
         lock: true,
         sequence: q,
@@ -173,6 +173,6 @@ pub fn step(port: Port, q: Sequence, ten: bool, s: Rate, a: Answer) -> RateNext
         q,
         ten,
         p,
-        i2c::handshake::step(port, crate::spot::request(ten, p), how, m, a),
+        i2c::handshake::step(port, crate::spot::request(ten, p), how, t, a),
     )
 }

@@ -39,21 +39,21 @@ unfolding dropped
 dropped-noteless r = ret-noteless _
 
 -- a call that is opened is run over the answers
-ran-question : {A : Type 0} (b : Bool) (n : ℕ) (p : Prog A) (l : List Answer) → runAsked (question b n (yes p)) l ≡ question b n (yes (run p l))
+run-question : {A : Type 0} (b : Bool) (n : ℕ) (p : Prog A) (l : List Answer) → runAsked (question b n (yes p)) l ≡ question b n (yes (run p l))
 unfolding runAsked question
-ran-question true n p l = refl
-ran-question false n p l = refl
+run-question true n p l = refl
+run-question false n p l = refl
 
-ran-opened : (o : Asked Port) (s : List ℕ) (l : List Answer)
+run-opened : (o : Asked Port) (s : List ℕ) (l : List Answer)
     → runAsked (andThen o (λ port. judgedThen s (yes (tally blank (script port s))))) l ≡ andThen o (λ port. judgedThen s (yes (counted (meterIn blank (script port s) l) (run (script port s) l))))
 unfolding runAsked andThen judgedThen
-ran-opened (no n) s l = refl
-ran-opened (yes port) s l = ran-question _ _ _ l ∙ ap (λ r. question (eqb (judged s) 0) (judged s) (yes r)) (run-tally blank (script port s) l)
+run-opened (no n) s l = refl
+run-opened (yes port) s l = run-question _ _ _ l ∙ ap (λ r. question (eqb (judged s) 0) (judged s) (yes r)) (run-tally blank (script port s) l)
 
 pub script-runs : (family device lan : ℕ) (s : List ℕ) (r : ScriptTold) → saidScript r s ≡ openScript family device lan s → (l : List Answer)
     → runAsked (saidScript r s) l ≡ andThen (openPort family device lan) (λ port. judgedThen s (yes (counted (meterIn blank (script port s) l) (run (script port s) l))))
 unfolding openScript
-script-runs family device lan s r e l = ap (λ x. runAsked x l) e ∙ ran-opened (openPort family device lan) s l
+script-runs family device lan s r e l = ap (λ x. runAsked x l) e ∙ run-opened (openPort family device lan) s l
 
 -- one transfer is begun, in the run's first step, whether it fails or not
 pub script-count : (port : Port) (s : List ℕ) (l : List Answer) → transfersIn (script port s) l ≡ 1

@@ -10,7 +10,7 @@ use Rattle.hardware.specs.declared.Meter.{Meter}
 use Rattle.hardware.specs.declared.Port.{Port}
 use Rattle.hardware.specs.Asked.{Asked, yes, no, question, andThen, openPort, validPort, admitting}
 use Rattle.hardware.specs.Numbers.{refusalNumber}
-use Rattle.hardware.specs.Prog.{Prog, ret, ask, give, R, Ok, Err, _>>=_, Counted, blank, tally, pick}
+use Rattle.hardware.specs.Prog.{Prog, ret, ask, give, R, Ok, Err, _>>=_, Counted, Attempt as AttemptBegins, metered, blank, tally, pick}
 use Rattle.hardware.specs.Registers.{outcome}
 use Rattle.bus.specs.declared.Taken.{Taken}
 use Rattle.bus.specs.Bus.{none}
@@ -40,7 +40,7 @@ script port s =
 
 -- once it has begun
 abbrev pub single : Meter
-single = record { transfers = 1 }
+single = metered AttemptBegins blank
 
 -- what is left of it once the answer to a state's access is there
 unfoldable pub restScript : Port → List ℕ → Attempt → Answer → Prog (R (Unit {0}))

@@ -8,7 +8,7 @@ use lib.ListN.{drop}
 use Rattle.hardware.specs.declared.Access.{Access}
 use Rattle.hardware.specs.declared.Answer.{Answer}
 use Rattle.hardware.specs.declared.Outcome.the-variants.{Ok as OutcomeOk, Err as OutcomeErr}
-use Rattle.hardware.specs.Prog.{Prog, ret, ask, note, give, Note, told, noteIf, stays, erase, pick}
+use Rattle.hardware.specs.Prog.{Prog, ret, ask, note, give, Note, isTold, noteIf, stays, erase, pick}
 use Rattle.bus.specs.declared.Layout.{Layout}
 use Rattle.bus.specs.declared.Taken.{Taken}
 use Rattle.bus.specs.declared.command.Command.{Command}
@@ -34,7 +34,7 @@ tells handing b (give d p) = give b p
 
 pub tells-stays : {A : Type 0} (b : ℕ) (n : Note) (p : Prog A) → stays n (tells handing b p) ≡ tells handing b (stays n p)
 unfolding tells
-tells-stays b n p = by (told n)
+tells-stays b n p = by (isTold n)
   where
     by : (k : Bool) → noteIf k n (tells handing b p) ≡ tells handing b (noteIf k n p)
     by true = refl

@@ -7,6 +7,7 @@ use crate::attempt::Sequence;
 use hardware::Access;
 use hardware::Admitted;
 use hardware::Answer;
+use hardware::BEGUN;
 use hardware::Meter;
 use hardware::Opening;
 use hardware::Outcome;
@@ -65,7 +66,7 @@ fn told(port: Port, n: AttemptNext) -> ScriptTold
             crate::attempt::access(l, t),
             ScriptCall::Going(port, t),
         ),
-        AttemptNext::End(g) => ScriptTold::End(outcome_of(g), Meter { transfers: 1 }),
+        AttemptNext::End(g) => ScriptTold::End(outcome_of(g), BEGUN),
     }
 }
 

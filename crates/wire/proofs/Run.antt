@@ -11,11 +11,11 @@ use Rattle.hardware.specs.Prog.{Prog, ret, ask, note, give, pick}
 use Rattle.bus.specs.declared.Layout.{Layout}
 use Rattle.wire.specs.Lines.{Each}
 use Rattle.wire.specs.Machine.{Side, World, modelled, reply, after, noted}
-use Rattle.wire.specs.Run.{Given, given, nothing, refused, Source, listed, fixed, kindAsked, awaited, Event, moved, answered, noticed, Finished, Run, saw, fed, run, answersIn}
+use Rattle.wire.specs.Run.{Given, given, nothing, refused, Source, listed, fixed, kindAsked, awaited, Event, atMachine, answered, noticed, Finished, Run, saw, fed, run, answersIn}
 
 -- an answer of the awaited kind
 unfoldable pub Fits : Event → Type 0
-Fits (moved old new) = Unit {0}
+Fits (atMachine old new) = Unit {0}
 Fits (answered x a) = T (fits x a)
 Fits (noticed n) = Unit {0}
 
@@ -31,7 +31,7 @@ fixed-awaited f h = fun-ext (λ x. fun-ext (λ answers. rw (is-true (fits x (f x
 module _ (l : Layout) (o : Side) {A : Type 0} where
   -- an access of the machine's own, and any other
   pub run-own : (s : Source) (x : Access) (f : Answer → Prog A) (w : World o) (answers : List Answer) → modelled l x ≡ true
-      → run l o s (ask x f) w answers ≡ saw (moved (w .word) (after l o x w .word)) (run l o s (f (reply l o x w)) (after l o x w) answers)
+      → run l o s (ask x f) w answers ≡ saw (atMachine (w .word) (after l o x w .word)) (run l o s (f (reply l o x w)) (after l o x w) answers)
   unfolding run pick
   run-own s x f w answers e = rw e
 

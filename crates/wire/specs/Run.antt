@@ -39,7 +39,7 @@ awaited s x answers = kindAsked x (s x answers)
 -- What happens in a run: an access of the machine's own takes I2CCTL from one word to the next, another register gives an
 -- answer, something is noted
 pub data Event : Type 0 where
-  moved : ℕ → ℕ → Event
+  atMachine : ℕ → ℕ → Event
   answered : Access → Answer → Event
   noticed : Note → Event
 
@@ -76,7 +76,7 @@ unfoldable pub run : (l : Layout) (o : Side) → Source → {A : Type 0} → Pro
 run l o s (ret a) w answers = over (ended a w)
 run l o s (ask x f) w answers =
     pick (modelled l x)
-    (saw (moved (w .word) (after l o x w .word)) (run l o s (f (reply l o x w)) (after l o x w) answers))
+    (saw (atMachine (w .word) (after l o x w .word)) (run l o s (f (reply l o x w)) (after l o x w) answers))
     (fed x w (λ a rest. run l o s (f a) w rest) (s x answers))
 run l o s (note n p) w answers = saw (noticed n) (run l o s p (noted o n w) answers)
 run l o s (give b p) w answers = run l o s p w answers
@@ -84,11 +84,11 @@ run l o s (give b p) w answers = run l o s p w answers
 -- the answers that other registers gave in a run
 unfoldable pub answersIn : List Event → List Answer
 answersIn [] = []
-answersIn (moved old new ∷ es) = answersIn es
+answersIn (atMachine old new ∷ es) = answersIn es
 answersIn (answered x a ∷ es) = a ∷ answersIn es
 answersIn (noticed n ∷ es) = answersIn es
 
 -- a call as its opening promises it: refused with a number, or run
-unfoldable pub asked : (l : Layout) (o : Side) → Source → {A : Type 0} → Asked (Prog A) → World o → List Answer → Outcome o A
-asked l o s (no n) w answers = stopped n w
-asked l o s (yes p) w answers = run l o s p w answers .outcome
+unfoldable pub runAsked : (l : Layout) (o : Side) → Source → {A : Type 0} → Asked (Prog A) → World o → List Answer → Outcome o A
+runAsked l o s (no n) w answers = stopped n w
+runAsked l o s (yes p) w answers = run l o s p w answers .outcome

@@ -1,5 +1,5 @@
 -- `same` meets its contract.
-use Rattle.sfp.specs.Kinds.{is}
+use Rattle.sfp.specs.Kinds.{isKind}
 use borrow.Author.Needs.{needs}
 use Rattle.sfp.proofs.same.Statement.{statement}
 use Rattle.sfp.proofs.same.Tie as tie
@@ -11,7 +11,7 @@ number-requires-2 : tie.Need-number-requires-2
 number-requires-2 c κs = search needs
 
 returns : tie.Need-returns
-unfolding is
+unfolding isKind
 returns c = cc
 
 pub same-spec : {M : Type 1} → statement M

@@ -56,7 +56,7 @@ returns c = rw (c .before .before .before .before .stage .given .1) (record { yi
 
 returns-2 : tie.Need-returns-2
 unfolding restRetry restStage validRetry validStage dueRetry dueStage
-returns-2 c = rw (c .before .before .before .before .stage2 .given .1) (record { yields = over _ _ (c .tried .ensures .yields) (rw (c .before .before .layout-of .ensures) at (c .before .step2 .ensures .0)); limits = λ tries v. c .tried .ensures .limits tries (ltb-true _ _ (picked-first _ _ v)) ((rw (c .before .before .layout-of .ensures) at (c .before .step2 .ensures .1)) (picked-second _ _ v)); due = c .tried .ensures .due })
+returns-2 c = rw (c .before .before .before .before .stage2 .given .1) (record { yields = over _ _ (c .tried .ensures .yields) (rw (c .before .before .layout-of .ensures) at (c .before .step2 .ensures .yields)); limits = λ tries v. c .tried .ensures .limits tries (ltb-true _ _ (picked-first _ _ v)) ((rw (c .before .before .layout-of .ensures) at (c .before .step2 .ensures .limits)) (picked-second _ _ v)); due = c .tried .ensures .due })
 
 returns-3 : tie.Need-returns-3
 unfolding restRetry restStage validRetry validStage dueRetry dueStage

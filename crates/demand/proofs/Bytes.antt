@@ -17,7 +17,7 @@ use Rattle.bench.specs.Receiver.{at, stopped, taken, rise}
 use Rattle.bench.specs.Bench.{nextOffset, under}
 use Rattle.demand.specs.Claim.{CountedBench, machine}
 use Rattle.demand.proofs.Bits.{tookBits, shifted-taken}
-use Rattle.demand.proofs.Receiver.{with, stop-takes, rise-takes, rise-pulls, Taking, taking, taking-rises, taking-stays, taking-free, Acks, acks-pull, acks-rise, begun, stop-free, sending, listening, aimed, send-bit, send-rise, send-next, send-last}
+use Rattle.demand.proofs.Receiver.{with, stop-takes, rise-takes, rise-pulls, Taking, taking, taking-rises, taking-stays, taking-free, Acks, acks-pull, acks-rise, address-begun, stop-free, sending, listening, aimed, send-bit, send-rise, send-next, send-last}
 
 module _ (l : Layout) (g : Distinct l) where
   -- the same from an equal state
@@ -59,10 +59,10 @@ module _ (l : Layout) (g : Distinct l) where
   -- A start takes every receiver that does not pull SDA to Address with 0 bits
   pub started-at : (a b : Bool) (m : CountedBench) {k : Bus} {Q : Claim machine} → machine .pulls m .sda ≡ false
       → ((r : Receiver) → From l machine true true (with (taking Address 0 0 r) m) k Q) → FromRest l machine a b m (start l k) Q
-  started-at a true m free h = Commands.start-low l g machine (λ s. refl) free (rise-pulls true m ∙ free) (from (ap (λ s. machine .takes Fall (machine .takes START s)) (rise-takes true m) ∙ begun (rise true (m .bench .receiver)) m) (h (rise true (m .bench .receiver))))
-  started-at false false m free h = Commands.start-free l g machine (λ s. refl) free (from (begun (m .bench .receiver) m) (h (m .bench .receiver)))
+  started-at a true m free h = Commands.start-low l g machine (λ s. refl) free (rise-pulls true m ∙ free) (from (ap (λ s. machine .takes Fall (machine .takes START s)) (rise-takes true m) ∙ address-begun (rise true (m .bench .receiver)) m) (h (rise true (m .bench .receiver))))
+  started-at false false m free h = Commands.start-free l g machine (λ s. refl) free (from (address-begun (m .bench .receiver) m) (h (m .bench .receiver)))
   started-at true false m free h =
-      Commands.start-after l g machine (λ s. refl) free (stop-free m) (from (ap (λ s. machine .takes Fall (machine .takes START s)) (stop-takes m) ∙ begun (stopped (m .bench .receiver)) m) (h (stopped (m .bench .receiver))))
+      Commands.start-after l g machine (λ s. refl) free (stop-free m) (from (ap (λ s. machine .takes Fall (machine .takes START s)) (stop-takes m) ∙ address-begun (stopped (m .bench .receiver)) m) (h (stopped (m .bench .receiver))))
 
   -- SDA was read while bit c was on it, and SCL falls
   in-bit : (r : Receiver) (m : CountedBench) (n c byte : ℕ) {a : Bool} (k : ℕ → Bus) {Q : Claim machine} → c + suc n ≡ 8

@@ -16,7 +16,7 @@ use Rattle.bus.specs.Layout.{layoutOf}
 use Rattle.wire.specs.Lines.{drawn, Rests, Each}
 use Rattle.wire.specs.Machine.{World}
 use Rattle.wire.specs.Always.{Always}
-use Rattle.wire.specs.Run.{listed, Outcome, ended, short, stopped, Finished}
+use Rattle.wire.specs.Run.{listed, BenchOutcome, ended, short, stopped, Finished}
 use Rattle.wire.proofs.Edges.{rests}
 use Rattle.bench.specs.declared.Bench.{Bench}
 use Rattle.bench.specs.Receiver.{fall, fallAt}
@@ -135,7 +135,7 @@ module _ (port : Port) (b : Bench) (small : (n : ℕ) → byteOf (b .a0) n < 256
       record { count = refl; facts = h .facts; only = λ f i. never-both (byteOf (b .a0)) r (f .class) (h .absent i .0); absent = h .absent }
 
   -- from both outcomes to the claim
-  both : (o : Outcome machine (R Identity)) (p : Outcome machine (Counted (R Identity))) → Ending End o → Finished o → p ≡ told machine recount recount-sees o
+  both : (o : BenchOutcome machine (R Identity)) (p : BenchOutcome machine (Counted (R Identity))) → Ending End o → Finished o → p ≡ told machine recount recount-sees o
       → Holds (layoutOf (port .family)) b o p
   unfolding Holds Ending Finished told
   both (ended r w) p h k e = rw e (refl, claimed r w h)

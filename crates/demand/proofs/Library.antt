@@ -13,8 +13,8 @@ use Rattle.bus.specs.declared.Layout.{Layout}
 use Rattle.bus.specs.Layout.{layoutOf}
 use Rattle.wire.specs.Lines.{Each}
 use Rattle.wire.specs.Machine.{World}
-use Rattle.wire.specs.Run.{Source, listed, fixed, awaited, Event, atMachine, answered, noticed, Outcome, ended, short, stopped, Finished, Run, run}
-use Rattle.wire.proofs.Run.{Fits, fixed-awaited, awaited-run, fixed-finishes}
+use Rattle.wire.specs.Run.{Source, listed, fixed, checked, Event, atMachine, answered, noticed, BenchOutcome, ended, short, stopped, Finished, BenchRun, run}
+use Rattle.wire.proofs.Run.{Fits, fixed-checked, checked-run, fixed-finishes}
 use Rattle.bench.specs.declared.Bench.{Bench}
 use Rattle.bench.specs.AtOnce.{atOnce}
 use Rattle.bench.specs.Register.{side}
@@ -42,16 +42,16 @@ alone m = m .bench
 alone-sees : Sees side alone
 alone-sees = record { pulls = λ m. refl; takes = λ e m. refl; notes = λ n m. refl }
 
-abbrev counted : Outcome machine (R Identity) → Outcome side (Counted (R Identity))
+abbrev counted : BenchOutcome machine (R Identity) → BenchOutcome side (Counted (R Identity))
 counted o = told side alone alone-sees o
 
-counted-finished : (o : Outcome machine (R Identity)) → Finished o → Finished (counted o)
+counted-finished : (o : BenchOutcome machine (R Identity)) → Finished o → Finished (counted o)
 unfolding Finished told
 counted-finished (ended a w) f = tt
 counted-finished (short w) f = absurd f
 counted-finished (stopped n w) f = absurd f
 
-shown : (l : Layout) (b : Bench) (o : Outcome machine (R Identity)) → Finished (counted o)
+shown : (l : Layout) (b : Bench) (o : BenchOutcome machine (R Identity)) → Finished (counted o)
     → ((a : R Identity) (w : World machine) → o ≡ ended a w → Claimed l b (record { meter = w .other .meter; result = a }) w) → Shown l b o (counted o)
 unfolding Finished Shown told
 shown l b (ended a w) f h = (refl, h a w refl)
@@ -60,17 +60,17 @@ shown l b (stopped n w) f h = absurd f
 
 module _ (port : Port) (b : Bench) (word : ℕ) where
   -- the library's run, wherever the answers come from
-  abbrev pub library : Source → List Answer → Outcome side (Counted (R Identity))
+  abbrev pub library : Source → List Answer → BenchOutcome side (Counted (R Identity))
   library s answers = identifyRun s (yes port) (record { word = word; other = b }) answers
 
   library-counts : (s : Source) (answers : List Answer)
-      → library s answers ≡ counted (run (layoutOf (port .family)) machine (awaited s) (identify standard port) (atStart word b) answers .outcome)
+      → library s answers ≡ counted (run (layoutOf (port .family)) machine (checked s) (identify standard port) (atStart word b) answers .outcome)
   unfolding identifyRun
-  library-counts s answers = tally-run side alone alone-sees (layoutOf (port .family)) (awaited s) (identify standard port) (atStart word b) answers
+  library-counts s answers = tally-run side alone alone-sees (layoutOf (port .family)) (checked s) (identify standard port) (atStart word b) answers
 
   module _ (answers : List Answer) (s : Starts port b word) (m : Premises port b word answers) where
     -- whatever comes to the same as the Rust's run, and to its end
-    demand-of : (o : Outcome side (Counted (R Identity))) → o ≡ counted (benchRun port (identify standard port) b word answers .outcome) → Finished o → Demand3 port b word answers o
+    demand-of : (o : BenchOutcome side (Counted (R Identity))) → o ≡ counted (benchRun port (identify standard port) b word answers .outcome) → Finished o → Demand3 port b word answers o
     unfolding Demand3
     demand-of o e f =
         subst⁻¹ (Shown (layoutOf (port .family)) b _) e (shown (layoutOf (port .family)) b _ (subst Finished e f) (identified-ended port b word answers s m))
@@ -79,7 +79,7 @@ module _ (port : Port) (b : Bench) (word : ℕ) where
     unfolding Premises
     same =
         library-counts listed answers
-        ∙ ap (λ (r : Run machine (R Identity)). counted (r .outcome)) (awaited-run (layoutOf (port .family)) machine listed (identify standard port) (atStart word b) answers (all-fit (benchRun port (identify standard port) b word answers .trace) m))
+        ∙ ap (λ (r : BenchRun machine (R Identity)). counted (r .outcome)) (checked-run (layoutOf (port .family)) machine listed (identify standard port) (atStart word b) answers (all-fit (benchRun port (identify standard port) b word answers .trace) m))
 
     -- Demand 3 of the library's `identify` on the bench, whenever it has come to its end
     pub demand-3-ended : Finished (library listed answers) → Demand3 port b word answers (library listed answers)
@@ -97,11 +97,11 @@ module _ (port : Port) (b : Bench) (word : ℕ) where
   demand-3-at-once s = (
     promptAnswers port b word,
     at-once-meets port b word,
-    demand-of (promptAnswers port b word) s (at-once-meets port b word) _ (as-prompt ∙ ap (λ (r : Run machine (R Identity)). counted (r .outcome)) (sym (prompt-replayed port b word)))
+    demand-of (promptAnswers port b word) s (at-once-meets port b word) _ (as-prompt ∙ ap (λ (r : BenchRun machine (R Identity)). counted (r .outcome)) (sym (prompt-replayed port b word)))
         (subst⁻¹ Finished as-prompt (counted-finished _ (fixed-finishes (layoutOf (port .family)) machine atOnce (identify standard port) (atStart word b) []))),
   )
     where
       as-prompt : library (fixed atOnce) [] ≡ counted (prompt port b word .outcome)
       as-prompt =
           library-counts (fixed atOnce) []
-          ∙ ap (λ (t : Source). counted (run (layoutOf (port .family)) machine t (identify standard port) (atStart word b) [] .outcome)) (fixed-awaited atOnce at-once-fits)
+          ∙ ap (λ (t : Source). counted (run (layoutOf (port .family)) machine t (identify standard port) (atStart word b) [] .outcome)) (fixed-checked atOnce at-once-fits)

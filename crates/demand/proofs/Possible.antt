@@ -16,7 +16,7 @@ use Rattle.bus.specs.declared.Layout.{Layout}
 use Rattle.bus.specs.Layout.{layoutOf}
 use Rattle.wire.specs.Lines.{Each}
 use Rattle.wire.specs.Machine.{Side, World, modelled, reply, noted}
-use Rattle.wire.specs.Run.{fixed, Run, fed, run, answersIn}
+use Rattle.wire.specs.Run.{fixed, BenchRun, proceed, run, answersIn}
 use Rattle.wire.proofs.Run.{replayed, fixed-finishes}
 use Rattle.bench.specs.declared.Bench.{Bench}
 use Rattle.bench.specs.AtOnce.{atOnce}
@@ -40,7 +40,7 @@ module _ (l : Layout) (o : Side) {A : Type 0} (Q : A → Type 0) where
   premises-at : (x : Access) (b : Bool) (f : Answer → Prog A) (w : World o) (answers : List Answer) → modelled l x ≡ b
       → ((a : Answer) (w′ : World o) (rest : List Answer) → AtOnce l atOnce (f a) Q → Each Premise (run l o (fixed atOnce) (f a) w′ rest .trace))
       → AtOnce l atOnce (ask x f) Q → Each Premise (run l o (fixed atOnce) (ask x f) w answers .trace)
-  unfolding run pick fixed fed AtOnce Premise
+  unfolding run pick fixed proceed AtOnce Premise
   premises-at x true f w answers e h k = rw e (tt, h _ _ _ ((rw e at k) (reply l o x w)))
   premises-at x false f w answers e h k = rw e (at-once-works x, h _ _ _ (rw e at k))
 
@@ -66,7 +66,7 @@ dones-length (suc n) = ap suc (dones-length n)
 
 module _ (port : Port) (b : Bench) (word : ℕ) where
   -- a whole identification with the atOnce answers
-  abbrev pub prompt : Run machine (R Identity)
+  abbrev pub prompt : BenchRun machine (R Identity)
   prompt = run (layoutOf (port .family)) machine (fixed atOnce) (identify standard port) (atStart word b) []
 
   -- the answers in it, and more

@@ -191,9 +191,9 @@ unfolding rise
 acks-rise sda m h = rise-takes sda m ∙ ap (λ r. with r m) (acks-rise-at (m .bench .receiver .stage) sda (m .bench .receiver) h)
 
 -- after START, SCL's fall leaves Address with 0 bits
-pub begun : (r : Receiver) (m : CountedBench) → machine .takes Fall (machine .takes START (with r m)) ≡ with (taking Address 0 0 r) m
+pub address-begun : (r : Receiver) (m : CountedBench) → machine .takes Fall (machine .takes START (with r m)) ≡ with (taking Address 0 0 r) m
 unfolding started
-begun r m = ap (machine .takes Fall) (start-takes (with r m)) ∙ taking-stays Address address-taking r m 0 0 (omega arith)
+address-begun r m = ap (machine .takes Fall) (start-takes (with r m)) ∙ taking-stays Address address-taking r m 0 0 (omega arith)
 
 pub idle-free : (r : Receiver) (m : CountedBench) → r .stage ≡ Idle → machine .pulls (with r m) .sda ≡ false
 unfolding pullsLow pulls pullsAt

@@ -17,12 +17,12 @@ use Rattle.bus.specs.declared.Layout.{Layout}
 use Rattle.wire.specs.Lines.{Edge, OneMoves, master, Each}
 use Rattle.wire.specs.Machine.{Side, World, takesAll, turn, wrote, reading, modelled, reply, after, noted}
 use Rattle.wire.specs.Always.{ByKind, Answered, Always}
-use Rattle.wire.specs.Run.{Given, given, nothing, refused, Source, listed, Event, atMachine, answered, noticed, Outcome, ended, short, stopped, Finished, Run, fed, run}
+use Rattle.wire.specs.Run.{Given, given, nothing, refused, Source, listed, Event, atMachine, answered, noticed, BenchOutcome, ended, short, stopped, Finished, BenchRun, proceed, run}
 use Rattle.wire.proofs.Run.{reply-fits}
 use Rattle.demand.specs.Claim.{CountedBench, machine, staysIn, Works, Premise}
 
 -- Q holds at the end, if the run comes to it
-unfoldable pub Ending : {A : Type 0} → (A → World machine → Type 0) → Outcome machine A → Type 0
+unfoldable pub Ending : {A : Type 0} → (A → World machine → Type 0) → BenchOutcome machine A → Type 0
 Ending Q (ended a w) = Q a w
 Ending Q (short w) = Unit {0}
 Ending Q (stopped n w) = Unit {0}
@@ -34,7 +34,7 @@ Steady l (answered x a) = Unit {0}
 Steady l (noticed n) = Unit {0}
 
 -- a run that moves no two lines at once, and Q at its end
-pub record Sound {A : Type 0} (l : Layout) (Q : A → World machine → Type 0) (r : Run machine A) : Type 0 where
+pub record Sound {A : Type 0} (l : Layout) (Q : A → World machine → Type 0) (r : BenchRun machine A) : Type 0 where
   pub ending : Ending Q (r .outcome)
   pub steady : Each (Steady l) (r .trace)
 
@@ -63,9 +63,9 @@ module _ (l : Layout) (s : Source) {A : Type 0} (Q : A → World machine → Typ
   Goes p w answers = Always l machine p w Q → Each Premise (run l machine s p w answers .trace) → Sound l Q (run l machine s p w answers)
 
   always-fed : (x : Access) (f : Answer → Prog A) (w : World machine) (g : Given) → ((a : Answer) (rest : List Answer) → Goes (f a) w rest)
-      → ByKind staysIn x (λ a. Always l machine (f a) w Q) → Each Premise (fed x w (λ a rest. run l machine s (f a) w rest) g .trace)
-      → Sound l Q (fed x w (λ a rest. run l machine s (f a) w rest) g)
-  unfolding fed Ending Premise Steady
+      → ByKind staysIn x (λ a. Always l machine (f a) w Q) → Each Premise (proceed x w (λ a rest. run l machine s (f a) w rest) g .trace)
+      → Sound l Q (proceed x w (λ a rest. run l machine s (f a) w rest) g)
+  unfolding proceed Ending Premise Steady
   always-fed x f w (given a rest) h k m =
       let r = h a rest (works-kind x a (λ b. Always l machine (f b) w Q) k (m .0)) (m .1) in record { ending = r .ending; steady = (tt, r .steady) }
   always-fed x f w nothing h k m = record { ending = tt; steady = tt }
@@ -78,7 +78,7 @@ module _ (l : Layout) (s : Source) {A : Type 0} (Q : A → World machine → Typ
       rw e (let r = h _ _ answers ((rw e at k) .1) ((rw e at m) .1) in record { ending = r .ending; steady = ((rw e at k) .0, r .steady) })
   always-at x false f w answers e h k m = rw e (always-fed x f w (s x answers) (λ a rest. h a w rest) (rw e at k) (rw e at m))
 
-  after-note : (n : Note) (r : Run machine A) → Sound l Q r → Sound l Q (record { trace = noticed n ∷ r .trace; outcome = r .outcome })
+  after-note : (n : Note) (r : BenchRun machine A) → Sound l Q r → Sound l Q (record { trace = noticed n ∷ r .trace; outcome = r .outcome })
   unfolding Steady
   after-note n r h = record { ending = h .ending; steady = (tt, h .steady) }
 
@@ -100,9 +100,9 @@ module _ (l : Layout) {A : Type 0} where
 
   ends-fed : (x : Access) (f : Answer → Prog A) (n : ℕ) (w : World machine) (answers : List Answer)
       → ((a : Answer) (rest : List Answer) → T (fits x a) → n ≤ length rest → Reaches (f a) w rest) → suc n ≤ length answers
-      → Each Premise (fed x w (λ a rest. run l machine listed (f a) w rest) (listed x answers) .trace)
-      → Finished (fed x w (λ a rest. run l machine listed (f a) w rest) (listed x answers) .outcome)
-  unfolding fed listed Premise
+      → Each Premise (proceed x w (λ a rest. run l machine listed (f a) w rest) (listed x answers) .trace)
+      → Finished (proceed x w (λ a rest. run l machine listed (f a) w rest) (listed x answers) .outcome)
+  unfolding proceed listed Premise
   ends-fed x f n w [] h b m = absurd (omega (arith, b))
   ends-fed x f n w (a ∷ rest) h b m = h a rest (works-fits x a (m .0)) (omega (arith, b)) (m .1)
 
@@ -161,7 +161,7 @@ module _ (o : Side) (see : CountedBench → o .State) (same : Sees o see) where
   reply-seen l (Wait n) w = refl
 
   -- the outcome as the library gives it: the count of transfers beside the result
-  unfoldable pub told : {A : Type 0} → Outcome machine A → Outcome o (Counted A)
+  unfoldable pub told : {A : Type 0} → BenchOutcome machine A → BenchOutcome o (Counted A)
   told (ended a w) = ended (record { meter = w .other .meter; result = a }) (seen w)
   told (short w) = short (seen w)
   told (stopped n w) = stopped n (seen w)
@@ -172,8 +172,8 @@ module _ (o : Side) (see : CountedBench → o .State) (same : Sees o see) where
     Tells p w answers = run l o s (tally (w .other .meter) p) (seen w) answers .outcome ≡ told (run l machine s p w answers .outcome)
 
     tally-fed : (x : Access) (f : Answer → Prog A) (w : World machine) (g : Given) → ((a : Answer) (rest : List Answer) → Tells (f a) w rest)
-        → fed x (seen w) (λ a rest. run l o s (tally (w .other .meter) (f a)) (seen w) rest) g .outcome ≡ told (fed x w (λ a rest. run l machine s (f a) w rest) g .outcome)
-    unfolding fed told
+        → proceed x (seen w) (λ a rest. run l o s (tally (w .other .meter) (f a)) (seen w) rest) g .outcome ≡ told (proceed x w (λ a rest. run l machine s (f a) w rest) g .outcome)
+    unfolding proceed told
     tally-fed x f w (given a rest) h = h a rest
     tally-fed x f w nothing h = refl
     tally-fed x f w (refused n) h = refl

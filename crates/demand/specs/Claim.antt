@@ -20,7 +20,7 @@ use Rattle.bus.specs.Layout.{layoutOf}
 use Rattle.wire.specs.Lines.{master, ready, Each}
 use Rattle.wire.specs.Machine.{Side, World}
 use Rattle.wire.specs.Always.{nobody}
-use Rattle.wire.specs.Run.{listed, Event, atMachine, answered, noticed, Outcome, ended, short, stopped, Run, run}
+use Rattle.wire.specs.Run.{listed, Event, atMachine, answered, noticed, BenchOutcome, ended, short, stopped, BenchRun, run}
 use Rattle.bench.specs.declared.Bench.{Bench}
 use Rattle.bench.specs.declared.Page.{Page}
 use Rattle.bench.specs.declared.receiver.Stage.the-variants.{Idle, AckWrite}
@@ -79,7 +79,7 @@ abbrev pub atStart : ℕ → Bench → World machine
 atStart word b = record { word = word; other = record { bench = b; meter = blank } }
 
 -- a call run on the bench, over a list of answers to all accesses that are not the machine's own
-abbrev pub benchRun : {A : Type 0} → Port → Prog A → Bench → ℕ → List Answer → Run machine A
+abbrev pub benchRun : {A : Type 0} → Port → Prog A → Bench → ℕ → List Answer → BenchRun machine A
 benchRun port p b word answers = run (layoutOf (port .family)) machine listed p (atStart word b) answers
 
 -- byte n of a page
@@ -125,7 +125,7 @@ call port = identify standard port
 
 -- ... of two runs over the same answers: the Rust's, whose notes tell the transfers made, and the library's, whose result
 -- tells them (`tally`); both come to their end
-unfoldable pub Holds : Layout → Bench → Outcome machine (R Identity) → Outcome machine (Counted (R Identity)) → Type 0
+unfoldable pub Holds : Layout → Bench → BenchOutcome machine (R Identity) → BenchOutcome machine (Counted (R Identity)) → Type 0
 Holds l b (ended r w) (ended c v) = (c .result ≡ r) × Claimed l b c w
 Holds l b (ended r w) (short v) = ⊥
 Holds l b (ended r w) (stopped n v) = ⊥

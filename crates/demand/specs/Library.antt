@@ -10,7 +10,7 @@ use Rattle.hardware.specs.Prog.{R, Counted, tally, blank}
 use Rattle.bus.specs.declared.Layout.{Layout}
 use Rattle.bus.specs.Layout.{layoutOf}
 use Rattle.wire.specs.Machine.{World}
-use Rattle.wire.specs.Run.{Source, awaited, Outcome, ended, short, stopped, run}
+use Rattle.wire.specs.Run.{Source, checked, BenchOutcome, ended, short, stopped, run}
 use Rattle.bench.specs.declared.Bench.{Bench}
 use Rattle.bench.specs.Register.{side}
 use Rattle.sfp.specs.declared.Identity.{Identity}
@@ -18,23 +18,23 @@ use Rattle.sfp.specs.Identify.{identify}
 use Rattle.demand.specs.Claim.{machine, benchRun, Claimed, Premises}
 
 -- what the opening promises, run on the bench; a refused opening alters nothing
-unfoldable pub identifyRun : Source → Asked Port → World side → List Answer → Outcome side (Counted (R Identity))
+unfoldable pub identifyRun : Source → Asked Port → World side → List Answer → BenchOutcome side (Counted (R Identity))
 identifyRun s (no n) w answers = stopped n w
-identifyRun s (yes port) w answers = run (layoutOf (port .family)) side (awaited s) (tally blank (identify standard port)) w answers .outcome
+identifyRun s (yes port) w answers = run (layoutOf (port .family)) side (checked s) (tally blank (identify standard port)) w answers .outcome
 
 -- the count of transfers is the result's alone
 abbrev pub forget : World machine → World side
 forget w = record { word = w .word; other = w .other .bench }
 
 -- Demand 3 of a result: it is that of the Rust's run, with the transfers that were made in it, and the claim holds of it
-unfoldable pub Shown : Layout → Bench → Outcome machine (R Identity) → Outcome side (Counted (R Identity)) → Type 0
+unfoldable pub Shown : Layout → Bench → BenchOutcome machine (R Identity) → BenchOutcome side (Counted (R Identity)) → Type 0
 Shown l b (ended r w) o = (o ≡ ended (record { meter = w .other .meter; result = r }) (forget w)) × Claimed l b (record { meter = w .other .meter; result = r }) w
 Shown l b (short w) o = ⊥
 Shown l b (stopped n w) o = ⊥
 
-unfoldable pub Demand3 : Port → Bench → ℕ → List Answer → Outcome side (Counted (R Identity)) → Type 0
+unfoldable pub Demand3 : Port → Bench → ℕ → List Answer → BenchOutcome side (Counted (R Identity)) → Type 0
 Demand3 port b word answers o = Shown (layoutOf (port .family)) b (benchRun port (identify standard port) b word answers .outcome) o
 
 -- Demand 3 of a result with no list lent: by some answers that meet the premises
-unfoldable pub Demand3AtOnce : Port → Bench → ℕ → Outcome side (Counted (R Identity)) → Type 0
+unfoldable pub Demand3AtOnce : Port → Bench → ℕ → BenchOutcome side (Counted (R Identity)) → Type 0
 Demand3AtOnce port b word o = (answers : List Answer) × Premises port b word answers × Demand3 port b word answers o

@@ -16,13 +16,13 @@ const PCI: u16 = 0x10FB;
 const BUDGET: u32 = 10_000;
 
 // Ended: with the count of transfers.
-pub enum Ran {
+pub enum Ending {
     Ended(Outcome, u32),
     Refused(Refusal),
     Unended,
 }
 
-fn run(bytes: &[u8], first: u32) -> Ran {
+fn run(bytes: &[u8], first: u32) -> Ending {
     let mut host = host::begin(first);
     let mut told = transfer::calls::script_open(FAMILY, PCI, 0, bytes);
     let mut left = BUDGET;
@@ -40,12 +40,12 @@ fn run(bytes: &[u8], first: u32) -> Ran {
                 host = p.host;
                 told = transfer::calls::script_step(s, bytes, a);
             }
-            ScriptTold::End(o, m) => return Ran::Ended(o, m.transfers),
-            ScriptTold::Refused(q) => return Ran::Refused(q),
+            ScriptTold::End(o, m) => return Ending::Ended(o, m.transfers),
+            ScriptTold::Refused(q) => return Ending::Refused(q),
         }
         left -= 1;
     }
-    Ran::Unended
+    Ending::Unended
 }
 
 fn print_failed(e: Error) {
@@ -66,16 +66,16 @@ fn print_outcome(o: Outcome) {
     }
 }
 
-fn print_ran(r: Ran) {
+fn print_ending(r: Ending) {
     match r {
-        Ran::Ended(o, count) => {
+        Ending::Ended(o, count) => {
             print_outcome(o);
             io::write_all(STDOUT, b", transfers ");
             io::print_decimal(STDOUT, count as u64);
             io::write_all(STDOUT, b"\n");
         }
-        Ran::Refused(q) => scripts::print_refused(q),
-        Ran::Unended => {
+        Ending::Refused(q) => scripts::print_refused(q),
+        Ending::Unended => {
             io::write_all(STDOUT, b"not ended\n");
         }
     }
@@ -87,5 +87,5 @@ pub(crate) fn print_send(first: u32) {
     io::write_all(STDOUT, b"send, SDA first low at sample ");
     io::print_decimal(STDOUT, first as u64);
     io::write_all(STDOUT, b": ");
-    print_ran(run(&bytes, first));
+    print_ending(run(&bytes, first));
 }

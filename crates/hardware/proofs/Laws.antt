@@ -9,7 +9,7 @@ use native.Mathlib.Nat.{add-zero, zero-add}
 use native.Mathlib.Numerals.{sub-one}
 use native.Mathlib.Omega.{arith}
 use borrow.Author.Tests.{ltb-true}
-use Rattle.hardware.specs.Prog.{Note, Attempt, Acquires, Acquired, Released, Lapsed, Prog, ret, ask, note, give, erase, _>>=_, pick, begun, metered, blank, tally}
+use Rattle.hardware.specs.Prog.{Note, Attempt, Acquires, Acquired, Released, Lapsed, Prog, ret, ask, note, give, erase, _>>=_, pick, attemptsAfter, metered, blank, tally}
 use Rattle.hardware.specs.Asked.{Asked, no, yes, andThen, question, openFamily, openLan, openPort, portOpened, validPort, fits, admitting, Admits}
 use Rattle.hardware.specs.Runs.{run, onAnswer, runAsked, run-erase, given, answered, transfersIn, meterIn, countedStatus, counted, led, driven, Awaited, AwaitedIn}
 use Rattle.hardware.specs.declared.Access.{Access}
@@ -107,19 +107,19 @@ unfolding openPort portOpened
 opened-valid family device lan {p = p} e h = family-valid device lan p (openFamily family) (rw e at h)
 
 -- the count of a meter is that of the transfers that the run begins
-begun-more : (k : Note) (n m : ℕ) → begun k n + m ≡ n + begun k m
-begun-more Attempt n m = omega arith
-begun-more Acquires n m = refl
-begun-more Acquired n m = refl
-begun-more Released n m = refl
-begun-more Lapsed n m = refl
+attempts-after-more : (k : Note) (n m : ℕ) → attemptsAfter k n + m ≡ n + attemptsAfter k m
+attempts-after-more Attempt n m = omega arith
+attempts-after-more Acquires n m = refl
+attempts-after-more Acquired n m = refl
+attempts-after-more Released n m = refl
+attempts-after-more Lapsed n m = refl
 
 pub meter-counts : {A : Type 0} (m : Meter) (p : Prog A) (l : List Answer) → meterIn m p l .transfers ≡ m .transfers + transfersIn p l
 unfolding meterIn transfersIn
 meter-counts m (ret v) l = sym (add-zero (m .transfers))
 meter-counts m (ask x f) [] = sym (add-zero (m .transfers))
 meter-counts m (ask x f) (a ∷ l) = meter-counts m (f a) l
-meter-counts m (note k p) l = meter-counts (metered k m) p l ∙ begun-more k (m .transfers) (transfersIn p l)
+meter-counts m (note k p) l = meter-counts (metered k m) p l ∙ attempts-after-more k (m .transfers) (transfersIn p l)
 meter-counts m (give b p) l = meter-counts m p l
 
 -- from the beginning: what a result tells is how many attempts its run began

@@ -122,16 +122,16 @@ pub record Counted (A : Type 0) : Type 0 where
   pub result : A
 
 -- one more for each attempt
-abbrev pub begun : Note → ℕ → ℕ
-begun Attempt n = suc n
-begun Acquires n = n
-begun Acquired n = n
-begun Released n = n
-begun Lapsed n = n
+abbrev pub attemptsAfter : Note → ℕ → ℕ
+attemptsAfter Attempt n = suc n
+attemptsAfter Acquires n = n
+attemptsAfter Acquired n = n
+attemptsAfter Released n = n
+attemptsAfter Lapsed n = n
 
 -- the meter after a note
 abbrev pub metered : Note → Meter → Meter
-metered k m = record { transfers = begun k (m .transfers) }
+metered k m = record { transfers = attemptsAfter k (m .transfers) }
 
 -- before the first note
 abbrev pub blank : Meter

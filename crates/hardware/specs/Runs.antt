@@ -8,7 +8,7 @@ use Rattle.hardware.specs.declared.Access.{Access}
 use Rattle.hardware.specs.declared.Answer.{Answer}
 use Rattle.hardware.specs.declared.Meter.{Meter}
 use Rattle.hardware.specs.Asked.{Asked, no, yes, andThen, fits}
-use Rattle.hardware.specs.Prog.{Prog, ret, ask, note, give, Note, isTold, noteIf, stays, erase, Counted, begun, metered}
+use Rattle.hardware.specs.Prog.{Prog, ret, ask, note, give, Note, isTold, noteIf, stays, erase, Counted, attemptsAfter, metered}
 
 -- how a run stands: it has ended, or waits for the answer to one more access
 pub data Status (A : Type 0) : Type 0 where
@@ -80,7 +80,7 @@ unfoldable pub transfersIn : {A : Type 0} → Prog A → List Answer → ℕ
 transfersIn (ret v) l = 0
 transfersIn (ask x f) [] = 0
 transfersIn (ask x f) (a ∷ l) = transfersIn (f a) l
-transfersIn (note n p) l = begun n (transfersIn p l)
+transfersIn (note n p) l = attemptsAfter n (transfersIn p l)
 transfersIn (give b p) l = transfersIn p l
 
 -- the meter after all that a run notes

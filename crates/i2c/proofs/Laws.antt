@@ -172,35 +172,35 @@ unfolding withBus pick
 no-bus port device f h = rw (h)
 
 -- the handshake begins
-pub shake-open : (port : Port) (r : Request) (how : How) (tries : ℕ) → hasHandshake port r ≡ true
+pub handshake-opens : (port : Port) (r : Request) (how : How) (tries : ℕ) → hasHandshake port r ≡ true
     → handshakeNext port r how (HandshakeGoing unmarked (Asking tries Reading)) ≡ erase (handshaken port r (retried port r how tries))
 unfolding handshaken hasHandshake awaitingGrant onGranted onGrant deviceOf
-shake-open port (ReadByte d o) how tries h =
+handshake-opens port (ReadByte d o) how tries h =
     asks port (ReadByte d o) how tries
     ∙ ap (λ k. erase (change askBus >>? λ _. granted 200 >>? λ came. pick came (retried port (ReadByte d o) how tries) (ret (Err (I2c d))) >>= k)) (closing-gives port (ReadByte d o) h)
     ∙ ap erase (with-bus port d (retried port (ReadByte d o) how tries) h)
-shake-open port (WriteByte d o v) how tries h =
+handshake-opens port (WriteByte d o v) how tries h =
     asks port (WriteByte d o v) how tries
     ∙ ap (λ k. erase (change askBus >>? λ _. granted 200 >>? λ came. pick came (retried port (WriteByte d o v) how tries) (ret (Err (I2c d))) >>= k)) (closing-gives port (WriteByte d o v) h)
     ∙ ap erase (with-bus port d (retried port (WriteByte d o v) how tries) h)
-shake-open port (ReadCombined d reg) how tries h = absurd (subst T (sym h) tt)
-shake-open port (WriteCombined d reg v) how tries h = absurd (subst T (sym h) tt)
+handshake-opens port (ReadCombined d reg) how tries h = absurd (subst T (sym h) tt)
+handshake-opens port (WriteCombined d reg v) how tries h = absurd (subst T (sym h) tt)
 
 entered-by : (port : Port) (r : Request) (how : How) (tries : ℕ) → closing port r ≡ ret → entered port r how tries ≡ retried port r how tries
 unfolding entered
 entered-by port r how tries h = ap (λ k. retried port r how tries >>= k) h ∙ bind-ret (retried port r how tries)
 
-unshaken : (port : Port) (r : Request) (f : Prog (R Taken)) → hasHandshake port r ≡ false → f ≡ handshaken port r f
+without-handshake : (port : Port) (r : Request) (f : Prog (R Taken)) → hasHandshake port r ≡ false → f ≡ handshaken port r f
 unfolding handshaken hasHandshake
-unshaken port (ReadByte d o) f h = no-bus port d f h
-unshaken port (WriteByte d o v) f h = no-bus port d f h
-unshaken port (ReadCombined d reg) f h = refl
-unshaken port (WriteCombined d reg v) f h = refl
+without-handshake port (ReadByte d o) f h = no-bus port d f h
+without-handshake port (WriteByte d o v) f h = no-bus port d f h
+without-handshake port (ReadCombined d reg) f h = refl
+without-handshake port (WriteCombined d reg v) f h = refl
 
 -- no handshake
-pub no-shake : (port : Port) (r : Request) (how : How) (tries : ℕ) → hasHandshake port r ≡ false
+pub no-handshake : (port : Port) (r : Request) (how : How) (tries : ℕ) → hasHandshake port r ≡ false
     → entered port r how tries ≡ handshaken port r (retried port r how tries)
-no-shake port r how tries h = entered-by port r how tries (closing-ends port r h) ∙ unshaken port r (retried port r how tries) h
+no-handshake port r how tries h = entered-by port r how tries (closing-ends port r h) ∙ without-handshake port r (retried port r how tries) h
 
 pub upto : {a b c : ℕ} → a ≤ b → b ≤ c → a ≤ c
 upto h g = omega (arith, h, g)

@@ -71,7 +71,7 @@ fn conclude(port: Port, q: Sequence, t: Then) -> IdentifyNext
     }
 }
 
-fn moved(port: Port, q: Sequence, p: Place, n: HandshakeNext) -> IdentifyNext
+fn from_request(port: Port, q: Sequence, p: Place, n: HandshakeNext) -> IdentifyNext
     ensures { λ t. ⌜ Keeps (identifyNext q port t ≡ followed (handshakeNext port (requestAt p) (locked q) n) (toldAt q port p)) ((m : Meter) → validPlace p ≡ true → validHandshakeNext (triesAt port p) port (requestAt p) n ≡ true → m .transfers + dueHandshakeNext (requestAt p) n ≤ capAt port p → validIdentifyNext port m t ≡ true) ⌝ }
 {
     match n {
@@ -120,7 +120,7 @@ pub fn step(port: Port, q: Sequence, s: Identify, a: Answer) -> IdentifyNext
         lock: true,
         sequence: q,
     };
-    moved(
+    from_request(
         port,
         q,
         p,

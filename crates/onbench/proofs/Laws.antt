@@ -28,7 +28,7 @@ use Rattle.bus.specs.declared.Layout.{Layout}
 use Rattle.bus.specs.Layout.{layoutOf}
 use Rattle.wire.specs.Lines.{ready}
 use Rattle.wire.specs.Machine.{World, modelled, reply, after}
-use Rattle.wire.specs.Run.{Given as Gives, given, refused, Source, listed, fixed, kindAsked, awaited, Finished, Run as BenchRun, fed, run, runAsked}
+use Rattle.wire.specs.Run.{Given as Gives, given, refused, Source, listed, fixed, kindAsked, checked, Finished, BenchRun, proceed, run, runAsked}
 use Rattle.wire.proofs.Run.{is-true, run-own, run-other, reply-fits}
 use Rattle.bench.specs.declared.register.BenchState.{BenchState}
 use Rattle.bench.specs.declared.register.Reply.{Reply}
@@ -130,7 +130,7 @@ module _ (l : Layout) (o : Origin) (ns : List ℕ) where
   left = leftOf l o ns
 
   abbrev source : Source
-  source = awaited (sourceOf o)
+  source = checked (sourceOf o)
 
   settles : (s : Progress) → Settled (s .told) → Final left s
   unfolding leftOf Final
@@ -179,17 +179,17 @@ module _ (l : Layout) (o : Origin) (ns : List ℕ) where
       -- by the next answer, of the awaited kind or not
       taken : (a : Answer) (rest : List Answer) (b : Bool)
           → runAsked l side source (question b 12 (yes (restOf c a))) (world d) rest
-          ≡ fed x (world d) (λ e t. run l side source (restOf c e) (world d) t) (pick b (given a rest) (refused 12)) .outcome
-      unfolding runAsked question fed pick
+          ≡ proceed x (world d) (λ e t. run l side source (restOf c e) (world d) t) (pick b (given a rest) (refused 12)) .outcome
+      unfolding runAsked question proceed pick
       taken a rest true = refl
       taken a rest false = refl
 
       fed-by : (n : Next) → nextOf ns n ≡ sourceOf o x lent → r .here ≡ false
           → run l side source (ask x (restOf c)) (world d) lent .outcome
-          ≡ fed x (world d) (λ e t. run l side source (restOf c e) (world d) t) (kindAsked x (nextOf ns n)) .outcome
+          ≡ proceed x (world d) (λ e t. run l side source (restOf c e) (world d) t) (kindAsked x (nextOf ns n)) .outcome
       fed-by n en h =
           ap (λ (q : BenchRun side (Counted (R Identity))). q .outcome) (run-other l side source x (restOf c) (world d) lent (reply-other l x d (modelled l x) refl (here-is false h)))
-          ∙ ap (λ (g : Gives). fed x (world d) (λ e t. run l side source (restOf c e) (world d) t) (kindAsked x g) .outcome) (sym en)
+          ∙ ap (λ (g : Gives). proceed x (world d) (λ e t. run l side source (restOf c e) (world d) t) (kindAsked x g) .outcome) (sym en)
 
       pub visit-given : (n : Next) (t : IdentifyTold) (a : Answer) (used′ : ℕ) → n ≡ Given a used′ → nextOf ns n ≡ sourceOf o x lent → r .here ≡ false
           → saidIdentify t ≡ stepIdentify c a → standsIdentify t
@@ -201,7 +201,7 @@ module _ (l : Layout) (o : Origin) (ns : List ℕ) where
       -- none is left
       pub visit-none : (n : Next) → n ≡ Nothing → nextOf ns n ≡ sourceOf o x lent → r .here ≡ false
           → Advances left from (record { told = Ask x c; state = d; used = used; over = true })
-      unfolding Advances leftOf Final stopsAt runAsked nextOf kindAsked fed
+      unfolding Advances leftOf Final stopsAt runAsked nextOf kindAsked proceed
       visit-none n e en h st =
           record {
             same = refl;
@@ -306,7 +306,7 @@ module _ (family device lan : ℕ) (d : BenchState) where
     opened g p t r e h said st played =
         let y : yes p ≡ openPort family device lan = ap portOpened (sym e) ∙ h in
         played st (subst⁻¹ (λ q. Bounded q 1600450488) (opened-said p t y said) (enough p))
-        ∙ ap (λ q. runAsked (layoutOf (p .family)) side (awaited (sourceOf o)) q (world d) (decodedAll ns)) (opened-said p t y said)
+        ∙ ap (λ q. runAsked (layoutOf (p .family)) side (checked (sourceOf o)) q (world d) (decodedAll ns)) (opened-said p t y said)
         ∙ ap (λ q. identifyRun (sourceOf o) q (world d) (decodedAll ns)) y
 
     pub unopened : (g : Opening) (q : Refusal) → g ≡ Unopened q → portOpened g ≡ openPort family device lan

@@ -19,7 +19,7 @@ use Rattle.hardware.specs.Registers.{ESDP}
 use Rattle.bus.specs.declared.Layout.{Layout}
 use Rattle.bus.specs.Layout.{layoutOf}
 use Rattle.wire.specs.Machine.{Side, World, modelled, noted}
-use Rattle.wire.specs.Run.{fixed, fed, run, answersIn}
+use Rattle.wire.specs.Run.{fixed, proceed, run, answersIn}
 use Rattle.bench.specs.declared.Bench.{Bench}
 use Rattle.bench.specs.AtOnce.{atOnce, atOnceAt}
 use Rattle.sfp.specs.Identify.{identify}
@@ -76,7 +76,7 @@ module _ (l : Layout) (o : Side) {A : Type 0} where
   plain-at : (x : Access) (b : Bool) (f : Answer → Prog A) (w : World o) (answers : List Answer) → modelled l x ≡ b
       → ((a : Answer) (w′ : World o) (rest : List Answer) → AllPlain (answersIn (run l o (fixed atOnce) (f a) w′ rest .trace)))
       → AllPlain (answersIn (run l o (fixed atOnce) (ask x f) w answers .trace))
-  unfolding run pick fixed fed answersIn
+  unfolding run pick fixed proceed answersIn
   plain-at x true f w answers e h = rw e (h _ _ _)
   plain-at x false f w answers e h = rw e (at-once-plain x, h _ _ _)
 

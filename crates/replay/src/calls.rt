@@ -17,7 +17,7 @@ use sync::calls::UnlockTold;
 pub const BUDGET: u32 = 30_000_000;
 
 // What a run did: its accesses, and its result. A call that is refused or too long is not ended.
-pub struct Ran {
+pub struct Summary {
     pub ended: bool,
     pub accesses: u32,
     pub sum: u32,
@@ -27,7 +27,7 @@ pub struct Ran {
     pub v3: u32,
 }
 
-pub(crate) fn same(a: Ran, b: Ran) -> bool {
+pub(crate) fn same(a: Summary, b: Summary) -> bool {
     a.ended == b.ended
         && a.accesses == b.accesses
         && a.sum == b.sum
@@ -37,8 +37,8 @@ pub(crate) fn same(a: Ran, b: Ran) -> bool {
         && a.v3 == b.v3
 }
 
-pub(crate) fn unended(h: Host) -> Ran {
-    Ran {
+pub(crate) fn unended(h: Host) -> Summary {
+    Summary {
         ended: false,
         accesses: h.accesses,
         sum: h.sum,
@@ -49,8 +49,8 @@ pub(crate) fn unended(h: Host) -> Ran {
     }
 }
 
-pub(crate) fn good(h: Host, v1: u32, v2: u32, v3: u32) -> Ran {
-    Ran {
+pub(crate) fn good(h: Host, v1: u32, v2: u32, v3: u32) -> Summary {
+    Summary {
         ended: true,
         accesses: h.accesses,
         sum: h.sum,
@@ -61,8 +61,8 @@ pub(crate) fn good(h: Host, v1: u32, v2: u32, v3: u32) -> Ran {
     }
 }
 
-pub(crate) fn failed(h: Host, e: Error) -> Ran {
-    Ran {
+pub(crate) fn failed(h: Host, e: Error) -> Summary {
+    Summary {
         ended: true,
         accesses: h.accesses,
         sum: h.sum,
@@ -73,21 +73,21 @@ pub(crate) fn failed(h: Host, e: Error) -> Ran {
     }
 }
 
-pub(crate) fn of_outcome(h: Host, o: Outcome) -> Ran {
+pub(crate) fn of_outcome(h: Host, o: Outcome) -> Summary {
     match o {
         Outcome::Ok => good(h, 0, 0, 0),
         Outcome::Err(e) => failed(h, e),
     }
 }
 
-fn of_byte(h: Host, b: Byte) -> Ran {
+fn of_byte(h: Host, b: Byte) -> Summary {
     match b {
         Byte::Ok(v) => good(h, v as u32, 0, 0),
         Byte::Err(e) => failed(h, e),
     }
 }
 
-pub(crate) fn of_flag(h: Host, f: Flag) -> Ran {
+pub(crate) fn of_flag(h: Host, f: Flag) -> Summary {
     match f {
         Flag::Ok(v) => {
             if v {
@@ -99,7 +99,7 @@ pub(crate) fn of_flag(h: Host, f: Flag) -> Ran {
     }
 }
 
-pub(crate) fn lock(h: Host, family: u32) -> Ran {
+pub(crate) fn lock(h: Host, family: u32) -> Summary {
     let mut host = h;
     let mut told = sync::calls::lock_open(family);
     let mut left = BUDGET;
@@ -119,7 +119,7 @@ pub(crate) fn lock(h: Host, family: u32) -> Ran {
     unended(host)
 }
 
-pub(crate) fn unlock(h: Host, family: u32) -> Ran {
+pub(crate) fn unlock(h: Host, family: u32) -> Summary {
     let mut host = h;
     let mut told = sync::calls::unlock_open(family);
     let mut left = BUDGET;
@@ -139,7 +139,7 @@ pub(crate) fn unlock(h: Host, family: u32) -> Ran {
     unended(host)
 }
 
-pub(crate) fn acquire(h: Host, family: u32, device: u16, lan: u32, mask: u32) -> Ran {
+pub(crate) fn acquire(h: Host, family: u32, device: u16, lan: u32, mask: u32) -> Summary {
     let mut host = h;
     let mut told = acquire::calls::acquire_open(family, device, lan, mask);
     let mut left = BUDGET;
@@ -159,7 +159,7 @@ pub(crate) fn acquire(h: Host, family: u32, device: u16, lan: u32, mask: u32) ->
     unended(host)
 }
 
-pub(crate) fn release(h: Host, family: u32, device: u16, lan: u32, mask: u32) -> Ran {
+pub(crate) fn release(h: Host, family: u32, device: u16, lan: u32, mask: u32) -> Summary {
     let mut host = h;
     let mut told = acquire::calls::release_open(family, device, lan, mask);
     let mut left = BUDGET;
@@ -179,7 +179,7 @@ pub(crate) fn release(h: Host, family: u32, device: u16, lan: u32, mask: u32) ->
     unended(host)
 }
 
-pub(crate) fn token(h: Host, family: u32, device: u16, lan: u32, take: bool) -> Ran {
+pub(crate) fn token(h: Host, family: u32, device: u16, lan: u32, take: bool) -> Summary {
     let mut host = h;
     let mut told = hostif::calls::token_open(family, device, lan, take);
     let mut left = BUDGET;
@@ -199,7 +199,7 @@ pub(crate) fn token(h: Host, family: u32, device: u16, lan: u32, take: bool) -> 
     unended(host)
 }
 
-fn command_on(h: Host, family: u32, device: u16, lan: u32, block: &mut [u32]) -> Ran {
+fn command_on(h: Host, family: u32, device: u16, lan: u32, block: &mut [u32]) -> Summary {
     let mut host = h;
     let mut told = hostif::calls::command_open(family, device, lan, block);
     let mut left = BUDGET;
@@ -220,14 +220,28 @@ fn command_on(h: Host, family: u32, device: u16, lan: u32, block: &mut [u32]) ->
 }
 
 // The block's words are made from a seed of their own, and the sum over them goes with every result.
-fn command_in(h: Host, family: u32, device: u16, lan: u32, block: &mut [u32], seed: u32) -> Ran {
+fn command_in(
+    h: Host,
+    family: u32,
+    device: u16,
+    lan: u32,
+    block: &mut [u32],
+    seed: u32,
+) -> Summary {
     rng::fill(block, seed);
-    let mut ran = command_on(h, family, device, lan, block);
-    ran.v3 = rng::sum(block);
-    ran
+    let mut summary = command_on(h, family, device, lan, block);
+    summary.v3 = rng::sum(block);
+    summary
 }
 
-pub(crate) fn command(h: Host, family: u32, device: u16, lan: u32, words: u32, seed: u32) -> Ran {
+pub(crate) fn command(
+    h: Host,
+    family: u32,
+    device: u16,
+    lan: u32,
+    words: u32,
+    seed: u32,
+) -> Summary {
     if 64 < words {
         return unended(h);
     }

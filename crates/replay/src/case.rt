@@ -1,6 +1,6 @@
 // A case of the list: its numbers, the call they name and what the original did.
 use crate::calls;
-use crate::calls::Ran;
+use crate::calls::Summary;
 use crate::host;
 use crate::host::Host;
 use crate::methods;
@@ -71,7 +71,7 @@ fn asked(words: &[u32; 45]) -> Asked {
 }
 
 // The calls of the module's bus.
-fn transfer(words: &[u32; 45]) -> Ran {
+fn transfer(words: &[u32; 45]) -> Summary {
     let h = host_of(words);
     let q = asked(words);
     if 255 < words[4] {
@@ -85,7 +85,7 @@ fn transfer(words: &[u32; 45]) -> Ran {
     }
 }
 
-fn call(words: &[u32; 45]) -> Ran {
+fn call(words: &[u32; 45]) -> Summary {
     let h = host_of(words);
     let family = words[1];
     let device = device(words[2]);
@@ -114,10 +114,10 @@ fn call(words: &[u32; 45]) -> Ran {
 }
 
 // The six numbers at the end of a line of so many.
-fn listed(words: &[u32; 45], count: usize) -> Ran
+fn listed(words: &[u32; 45], count: usize) -> Summary
     requires { ⌜ (6 ≤ count) × (count ≤ 45) ⌝ }
 {
-    Ran {
+    Summary {
         ended: true,
         accesses: words[count - 6],
         sum: words[count - 5],

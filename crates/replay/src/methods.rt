@@ -1,6 +1,6 @@
 // The methods of a module's record.
 use crate::calls;
-use crate::calls::Ran;
+use crate::calls::Summary;
 use crate::host::Host;
 use crate::plain;
 use hardware::Opening;
@@ -47,19 +47,19 @@ fn module(class: u32, bytes: u32) -> Module {
     sfp::methods::record(identity(class, bytes))
 }
 
-fn of_bool(h: Host, b: bool) -> Ran {
+fn of_bool(h: Host, b: bool) -> Summary {
     calls::good(h, plain::number(b), 0, 0)
 }
 
 // The second value says that there is a key.
-fn of_key(h: Host, k: Key) -> Ran {
+fn of_key(h: Host, k: Key) -> Summary {
     match k {
         Key::Key(v) => calls::good(h, v as u32, 1, 0),
         Key::Nothing => calls::good(h, 0, 0, 0),
     }
 }
 
-fn of_module(h: Host, p: Port, which: u32, m: Module) -> Ran {
+fn of_module(h: Host, p: Port, which: u32, m: Module) -> Summary {
     let family = p.family;
     match which {
         0 => of_bool(h, sfp::methods::present(m)),
@@ -71,7 +71,7 @@ fn of_module(h: Host, p: Port, which: u32, m: Module) -> Ran {
     }
 }
 
-fn at_port(h: Host, family: u32, device: u16, lan: u32, which: u32, m: Module) -> Ran {
+fn at_port(h: Host, family: u32, device: u16, lan: u32, which: u32, m: Module) -> Summary {
     match hardware::open_port(family, device, lan) {
         Opening::Port(p) => of_module(h, p, which, m),
         Opening::Refused(_) => calls::unended(h),
@@ -86,7 +86,7 @@ pub(crate) fn method(
     which: u32,
     class: u32,
     bytes: u32,
-) -> Ran {
+) -> Summary {
     match class {
         0..=9 | 256..=265 => at_port(h, family, device, lan, which, module(class, bytes)),
         _ => calls::unended(h),

@@ -1,6 +1,6 @@
 // The calls of the module itself, each run to its end.
 use crate::calls;
-use crate::calls::Ran;
+use crate::calls::Summary;
 use crate::host;
 use crate::host::Host;
 use hardware::Flag;
@@ -26,18 +26,18 @@ fn bytes(m: Identity) -> u32 {
 }
 
 // The transfers made go with every result.
-fn ended(h: Host, i: Identified, made: u32) -> Ran {
+fn ended(h: Host, i: Identified, made: u32) -> Summary {
     match i {
         Identified::Ok(m) => calls::good(h, class(m), bytes(m), made),
         Identified::Err(e) => {
-            let mut ran = calls::failed(h, e);
-            ran.v3 = made;
-            ran
+            let mut summary = calls::failed(h, e);
+            summary.v3 = made;
+            summary
         }
     }
 }
 
-fn run(h: Host, first: IdentifyTold) -> Ran {
+fn run(h: Host, first: IdentifyTold) -> Summary {
     let mut host = h;
     let mut told = first;
     let mut left = calls::BUDGET;
@@ -57,13 +57,13 @@ fn run(h: Host, first: IdentifyTold) -> Ran {
     calls::unended(host)
 }
 
-fn selected(h: Host, f: Flag, made: u32) -> Ran {
-    let mut ran = calls::of_flag(h, f);
-    ran.v3 = made;
-    ran
+fn selected(h: Host, f: Flag, made: u32) -> Summary {
+    let mut summary = calls::of_flag(h, f);
+    summary.v3 = made;
+    summary
 }
 
-fn select(h: Host, first: RateTold) -> Ran {
+fn select(h: Host, first: RateTold) -> Summary {
     let mut host = h;
     let mut told = first;
     let mut left = calls::BUDGET;
@@ -83,15 +83,15 @@ fn select(h: Host, first: RateTold) -> Ran {
     calls::unended(host)
 }
 
-pub(crate) fn identify(h: Host, family: u32, device: u16, lan: u32) -> Ran {
+pub(crate) fn identify(h: Host, family: u32, device: u16, lan: u32) -> Summary {
     run(h, identify::calls::identify_open(family, device, lan))
 }
 
-pub(crate) fn identify_qsfp(h: Host, family: u32, device: u16, lan: u32) -> Ran {
+pub(crate) fn identify_qsfp(h: Host, family: u32, device: u16, lan: u32) -> Summary {
     run(h, identify::calls::identify_qsfp_open(family, device, lan))
 }
 
-pub(crate) fn soft_rate_select(h: Host, family: u32, device: u16, lan: u32, ten: bool) -> Ran {
+pub(crate) fn soft_rate_select(h: Host, family: u32, device: u16, lan: u32, ten: bool) -> Summary {
     select(
         h,
         softrate::calls::soft_rate_select_open(family, device, lan, ten),

@@ -1,12 +1,12 @@
 // The functions that make no access.
 use crate::calls;
-use crate::calls::Ran;
+use crate::calls::Summary;
 use crate::host::Host;
 use hardware::FamilyOpening;
 use hardware::Opening;
 use hardware::Port;
 
-pub(crate) fn regs(h: Host, family: u32) -> Ran {
+pub(crate) fn regs(h: Host, family: u32) -> Summary {
     match hardware::open_family(family) {
         FamilyOpening::Family(f) => {
             let r = sync::regs::regs(f);
@@ -16,7 +16,7 @@ pub(crate) fn regs(h: Host, family: u32) -> Ran {
     }
 }
 
-pub(crate) fn bits(h: Host, family: u32, mask: u32) -> Ran {
+pub(crate) fn bits(h: Host, family: u32, mask: u32) -> Summary {
     match hardware::open_family(family) {
         FamilyOpening::Family(f) => {
             let m = sync::regs::bits(f, mask);
@@ -26,14 +26,14 @@ pub(crate) fn bits(h: Host, family: u32, mask: u32) -> Ran {
     }
 }
 
-pub(crate) fn phy(h: Host, lan: u32) -> Ran {
+pub(crate) fn phy(h: Host, lan: u32) -> Summary {
     if lan <= 1 {
         return calls::good(h, sync::regs::phy(lan as u8), 0, 0);
     }
     calls::unended(h)
 }
 
-pub(crate) fn ones_add(h: Host, a: u32, b: u32) -> Ran {
+pub(crate) fn ones_add(h: Host, a: u32, b: u32) -> Summary {
     if a <= 255 {
         if b <= 255 {
             let sum = script::sum::ones_add(a as u8, b as u8);
@@ -47,7 +47,7 @@ pub(crate) fn number(b: bool) -> u32 {
     if b { 1 } else { 0 }
 }
 
-fn of_port(h: Host, p: Port, which: u32) -> Ran {
+fn of_port(h: Host, p: Port, which: u32) -> Summary {
     let family = p.family;
     match which {
         0 => calls::good(h, number(bus::x550em(family)), 0, 0),
@@ -59,7 +59,7 @@ fn of_port(h: Host, p: Port, which: u32) -> Ran {
 }
 
 // What the bus knows of a port.
-pub(crate) fn port(h: Host, family: u32, device: u16, lan: u32, which: u32) -> Ran {
+pub(crate) fn port(h: Host, family: u32, device: u16, lan: u32, which: u32) -> Summary {
     match hardware::open_port(family, device, lan) {
         Opening::Port(p) => of_port(h, p, which),
         Opening::Refused(_) => calls::unended(h),

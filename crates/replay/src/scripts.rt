@@ -1,6 +1,6 @@
 // The call of a script, run to its end.
 use crate::calls;
-use crate::calls::Ran;
+use crate::calls::Summary;
 use crate::host;
 use crate::host::Host;
 use crate::phrases;
@@ -29,14 +29,14 @@ fn fed(h: Heard, b: u8) -> Heard {
 }
 
 // The bytes and the transfers made go with every result.
-fn ended(h: Host, o: Outcome, bytes: Heard, made: u32) -> Ran {
-    let mut ran = calls::of_outcome(h, o);
-    ran.v2 = bytes.sum;
-    ran.v3 = std::num::wrapping_add_u32(bytes.count, made);
-    ran
+fn ended(h: Host, o: Outcome, bytes: Heard, made: u32) -> Summary {
+    let mut summary = calls::of_outcome(h, o);
+    summary.v2 = bytes.sum;
+    summary.v3 = std::num::wrapping_add_u32(bytes.count, made);
+    summary
 }
 
-fn run(h: Host, family: u32, device: u16, lan: u32, script: &[u8]) -> Ran {
+fn run(h: Host, family: u32, device: u16, lan: u32, script: &[u8]) -> Summary {
     let mut host = h;
     let mut bytes = nothing();
     let mut told = transfer::calls::script_open(family, device, lan, script);
@@ -65,7 +65,7 @@ fn run(h: Host, family: u32, device: u16, lan: u32, script: &[u8]) -> Ran {
 }
 
 // The script is the first bytes, so many of them.
-fn first(h: Host, family: u32, device: u16, lan: u32, bytes: [u8; 64], count: usize) -> Ran {
+fn first(h: Host, family: u32, device: u16, lan: u32, bytes: [u8; 64], count: usize) -> Summary {
     if count <= 64 {
         return run(h, family, device, lan, &bytes[..count]);
     }
@@ -73,7 +73,14 @@ fn first(h: Host, family: u32, device: u16, lan: u32, bytes: [u8; 64], count: us
 }
 
 // The script is made from a seed of its own and a shape.
-pub(crate) fn script(h: Host, family: u32, device: u16, lan: u32, seed: u32, shape: u32) -> Ran {
+pub(crate) fn script(
+    h: Host,
+    family: u32,
+    device: u16,
+    lan: u32,
+    seed: u32,
+    shape: u32,
+) -> Summary {
     let made = phrases::script(seed, shape);
     let bytes = made.bytes;
     if made.whole {

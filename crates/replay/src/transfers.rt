@@ -1,6 +1,6 @@
 // The calls of the module's bus, each run to its end.
 use crate::calls;
-use crate::calls::Ran;
+use crate::calls::Summary;
 use crate::host;
 use crate::host::Host;
 use hardware::Word;
@@ -19,18 +19,18 @@ pub struct Asked {
 }
 
 // The transfers made go with every result.
-fn of_word(h: Host, w: Word, made: u32) -> Ran {
+fn of_word(h: Host, w: Word, made: u32) -> Summary {
     match w {
         Word::Ok(v) => calls::good(h, v, 0, made),
         Word::Err(e) => {
-            let mut ran = calls::failed(h, e);
-            ran.v3 = made;
-            ran
+            let mut summary = calls::failed(h, e);
+            summary.v3 = made;
+            summary
         }
     }
 }
 
-fn run(h: Host, first: TransferTold) -> Ran {
+fn run(h: Host, first: TransferTold) -> Summary {
     let mut host = h;
     let mut told = first;
     let mut left = calls::BUDGET;
@@ -55,7 +55,7 @@ fn byte(v: u16) -> u8 {
     (v % 256) as u8
 }
 
-pub(crate) fn read_byte(h: Host, q: Asked) -> Ran {
+pub(crate) fn read_byte(h: Host, q: Asked) -> Summary {
     if 255 < q.low {
         return calls::unended(h);
     }
@@ -74,7 +74,7 @@ pub(crate) fn read_byte(h: Host, q: Asked) -> Ran {
     )
 }
 
-pub(crate) fn write_byte(h: Host, q: Asked) -> Ran {
+pub(crate) fn write_byte(h: Host, q: Asked) -> Summary {
     if 255 < q.low {
         return calls::unended(h);
     }
@@ -95,14 +95,14 @@ pub(crate) fn write_byte(h: Host, q: Asked) -> Ran {
     )
 }
 
-pub(crate) fn read_combined(h: Host, q: Asked) -> Ran {
+pub(crate) fn read_combined(h: Host, q: Asked) -> Summary {
     run(
         h,
         i2c::calls::read_combined_open(q.family, q.device, q.lan, q.address, q.low, q.lock),
     )
 }
 
-pub(crate) fn write_combined(h: Host, q: Asked) -> Ran {
+pub(crate) fn write_combined(h: Host, q: Asked) -> Summary {
     run(
         h,
         i2c::calls::write_combined_open(
@@ -117,7 +117,7 @@ pub(crate) fn write_combined(h: Host, q: Asked) -> Ran {
     )
 }
 
-pub(crate) fn qsfp_setup(h: Host) -> Ran {
+pub(crate) fn qsfp_setup(h: Host) -> Summary {
     let mut host = h;
     let mut told = i2c::calls::qsfp_setup_open();
     let mut left = calls::BUDGET;

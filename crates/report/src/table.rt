@@ -28,7 +28,7 @@ const IMAGES: u8 = 14;
 // ended: with a record, after so many transfers.
 pub struct Seen {
     pub ended: bool,
-    pub module: Identity,
+    pub identity: Identity,
     pub made: u32,
 }
 
@@ -41,16 +41,16 @@ pub struct Tally {
 fn nothing() -> Seen {
     Seen {
         ended: false,
-        module: sfp::methods::absent(),
+        identity: sfp::methods::absent(),
         made: 0,
     }
 }
 
 fn identified(i: Identified, made: u32) -> Seen {
     match i {
-        Identified::Ok(module) => Seen {
+        Identified::Ok(identity) => Seen {
             ended: true,
-            module,
+            identity,
             made,
         },
         Identified::Err(_) => nothing(),
@@ -96,7 +96,7 @@ fn left_alone(before: BenchState, after: BenchState) -> bool {
 
 fn right(idle: Seen, before: BenchState, s: Seen, after: BenchState) -> bool {
     if s.ended {
-        if same_class(idle.module, s.module) {
+        if same_class(idle.identity, s.identity) {
             return left_alone(before, after);
         }
     }
@@ -191,7 +191,7 @@ fn module(m: Identity) {
 }
 
 fn ending(s: Seen) {
-    let m = s.module;
+    let m = s.identity;
     let k = m.kind;
     print::kind(k, 0);
     print::text(b" ");
@@ -218,7 +218,7 @@ fn row(name: &[u8], image: Image) {
     let idle = run(image, start::IDLE);
     let t = tallied(idle, image);
     print::left(name, 10);
-    module(idle.module);
+    module(idle.identity);
     counts(idle, t);
     ending(run(image, start::ACK_WRITE));
 }

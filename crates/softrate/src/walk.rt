@@ -118,7 +118,7 @@ fn concluded(port: Port, q: Sequence, ten: bool, s: Spot, g: Got) -> RateNext
     }
 }
 
-fn moved(port: Port, q: Sequence, ten: bool, s: Spot, n: HandshakeNext) -> RateNext
+fn from_request(port: Port, q: Sequence, ten: bool, s: Spot, n: HandshakeNext) -> RateNext
     ensures { λ t. ⌜ Keeps (rateNext q port ten t ≡ followed (handshakeNext port (requestAt ten s) (locked q) n) (toldAt q port ten s)) ((m : Meter) → validSpot s ≡ true → validHandshakeNext (triesAt port (s .place)) port (requestAt ten s) n ≡ true → m .transfers + dueHandshakeNext (requestAt ten s) n ≤ capAt port s → validRateNext port ten m t ≡ true) ⌝ }
 {
     match n {
@@ -168,7 +168,7 @@ pub fn step(port: Port, q: Sequence, ten: bool, s: Rate, a: Answer) -> RateNext
         lock: true,
         sequence: q,
     };
-    moved(
+    from_request(
         port,
         q,
         ten,

@@ -87,7 +87,7 @@ fn failed(q: Sequence, l: Layout, device: u8, ctl: u32, e: Error) -> AttemptNext
     AttemptNext::End(Got::Err(e))
 }
 
-fn moved(q: Sequence, l: Layout, device: u8, n: TransferNext) -> AttemptNext
+fn from_transfer(q: Sequence, l: Layout, device: u8, n: TransferNext) -> AttemptNext
     ensures { λ r. ⌜ ((m : Mode) (s : List ℕ) → attemptNext m q l device s r ≡ followed (transferNext m l device s n) (tried q l device)) ⌝ }
     ensures { λ r. ⌜ ((s : List ℕ) → validTransferNext l s n ≡ true → validAttemptNext l s r ≡ true) ⌝ }
 {
@@ -112,7 +112,7 @@ fn begin(q: Sequence, l: Layout, device: u8, script: &[u8], w: Word) -> AttemptN
                 low: 0,
                 last: 0,
             };
-            moved(q, l, device, crate::transfer::from(l, script, 0, none, ctl))
+            from_transfer(q, l, device, crate::transfer::from(l, script, 0, none, ctl))
         }
         Word::Err(e) => AttemptNext::End(Got::Err(e)),
     }
@@ -136,7 +136,7 @@ pub fn step(q: Sequence, l: Layout, device: u8, script: &[u8], s: Attempt, a: An
         Attempt::New => begin(q, l, device, script, hardware::read_raw(a)),
         Attempt::Moving(t) => {
             let n = crate::transfer::step(l, device, script, t, a);
-            moved(q, l, device, n)
+            from_transfer(q, l, device, n)
         }
         Attempt::Clearing(c) => cleared(l, device, bus::clear::step(l, c, a)),
     }

@@ -33,8 +33,8 @@ kindAsked x (given a answers) = pick (fits x a) (given a answers) (refused 12)
 kindAsked x nothing = nothing
 kindAsked x (refused n) = refused n
 
-abbrev pub awaited : Source → Source
-awaited s x answers = kindAsked x (s x answers)
+abbrev pub checked : Source → Source
+checked s x answers = kindAsked x (s x answers)
 
 -- What happens in a run: an access of the machine's own takes I2CCTL from one word to the next, another register gives an
 -- answer, something is noted
@@ -44,40 +44,40 @@ pub data Event : Type 0 where
   noticed : Note → Event
 
 -- How a run ends: with the call's result, for want of answers, or stopped with a number; and I2CCTL and the other side then
-pub data Outcome (o : Side) (A : Type 0) : Type 0 where
-  ended : A → World o → Outcome o A
-  short : World o → Outcome o A
-  stopped : ℕ → World o → Outcome o A
+pub data BenchOutcome (o : Side) (A : Type 0) : Type 0 where
+  ended : A → World o → BenchOutcome o A
+  short : World o → BenchOutcome o A
+  stopped : ℕ → World o → BenchOutcome o A
 
 -- the call came to its end
-unfoldable pub Finished : {o : Side} {A : Type 0} → Outcome o A → Type 0
+unfoldable pub Finished : {o : Side} {A : Type 0} → BenchOutcome o A → Type 0
 Finished (ended a w) = Unit {0}
 Finished (short w) = ⊥
 Finished (stopped n w) = ⊥
 
-pub record Run (o : Side) (A : Type 0) : Type 0 where
+pub record BenchRun (o : Side) (A : Type 0) : Type 0 where
   pub trace : List Event
-  pub outcome : Outcome o A
+  pub outcome : BenchOutcome o A
 
-abbrev pub saw : {o : Side} {A : Type 0} → Event → Run o A → Run o A
+abbrev pub saw : {o : Side} {A : Type 0} → Event → BenchRun o A → BenchRun o A
 saw e r = record { trace = e ∷ r .trace; outcome = r .outcome }
 
-abbrev pub over : {o : Side} {A : Type 0} → Outcome o A → Run o A
-over e = record { trace = []; outcome = e }
+abbrev pub closing : {o : Side} {A : Type 0} → BenchOutcome o A → BenchRun o A
+closing e = record { trace = []; outcome = e }
 
 -- by what a source gives; k goes on from there
-unfoldable pub fed : {o : Side} {A : Type 0} → Access → World o → (Answer → List Answer → Run o A) → Given → Run o A
-fed x w k (given a answers) = saw (answered x a) (k a answers)
-fed x w k nothing = over (short w)
-fed x w k (refused n) = over (stopped n w)
+unfoldable pub proceed : {o : Side} {A : Type 0} → Access → World o → (Answer → List Answer → BenchRun o A) → Given → BenchRun o A
+proceed x w k (given a answers) = saw (answered x a) (k a answers)
+proceed x w k nothing = closing (short w)
+proceed x w k (refused n) = closing (stopped n w)
 
 -- the machine answers its own accesses, the source all others
-unfoldable pub run : (l : Layout) (o : Side) → Source → {A : Type 0} → Prog A → World o → List Answer → Run o A
-run l o s (ret a) w answers = over (ended a w)
+unfoldable pub run : (l : Layout) (o : Side) → Source → {A : Type 0} → Prog A → World o → List Answer → BenchRun o A
+run l o s (ret a) w answers = closing (ended a w)
 run l o s (ask x f) w answers =
     pick (modelled l x)
     (saw (atMachine (w .word) (after l o x w .word)) (run l o s (f (reply l o x w)) (after l o x w) answers))
-    (fed x w (λ a rest. run l o s (f a) w rest) (s x answers))
+    (proceed x w (λ a rest. run l o s (f a) w rest) (s x answers))
 run l o s (note n p) w answers = saw (noticed n) (run l o s p (noted o n w) answers)
 run l o s (give b p) w answers = run l o s p w answers
 
@@ -89,6 +89,6 @@ answersIn (answered x a ∷ es) = a ∷ answersIn es
 answersIn (noticed n ∷ es) = answersIn es
 
 -- a call as its opening promises it: refused with a number, or run
-unfoldable pub runAsked : (l : Layout) (o : Side) → Source → {A : Type 0} → Asked (Prog A) → World o → List Answer → Outcome o A
+unfoldable pub runAsked : (l : Layout) (o : Side) → Source → {A : Type 0} → Asked (Prog A) → World o → List Answer → BenchOutcome o A
 runAsked l o s (no n) w answers = stopped n w
 runAsked l o s (yes p) w answers = run l o s p w answers .outcome

@@ -46,17 +46,5 @@ returns-4 c = rw (c .before .before .enum-told2 .given .1, ← c .before .next-o
 
 pub acted-spec : {M : Type 1} → statement M
 acted-spec =
-    tie.close
-    (tie.spec
-    enum-told
-    enum-known-act
-    at-requires
-    enum-known-act-2
-    stored-requires
-    enum-told-2
-    next-offset-requires
-    at-requires-2
-    returns
-    returns-2
-    returns-3
-    returns-4)
+    tie.close (tie.spec enum-told enum-known-act at-requires enum-known-act-2 stored-requires enum-told-2
+    next-offset-requires at-requires-2 returns returns-2 returns-3 returns-4)

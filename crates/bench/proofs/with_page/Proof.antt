@@ -25,5 +25,4 @@ unfolding withPage
 returns-2 c = rw (c .before .before .enum-told2 .given .1, c .acted2 .ensures)
 
 pub with-page-spec : {M : Type 1} → statement M
-with-page-spec =
-    tie.close (tie.spec enum-told acted-requires enum-told-2 acted-requires-2 returns returns-2)
+with-page-spec = tie.close (tie.spec enum-told acted-requires enum-told-2 acted-requires-2 returns returns-2)

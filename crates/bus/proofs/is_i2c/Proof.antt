@@ -48,17 +48,5 @@ returns-6 c = rw (c .enum-told6 .given .1)
 
 pub is-i2c-spec : {M : Type 1} → statement M
 is-i2c-spec =
-    tie.close
-    (tie.spec
-    enum-told
-    enum-told-2
-    enum-told-3
-    enum-told-4
-    enum-told-5
-    enum-told-6
-    returns
-    returns-2
-    returns-3
-    returns-4
-    returns-5
-    returns-6)
+    tie.close (tie.spec enum-told enum-told-2 enum-told-3 enum-told-4 enum-told-5 enum-told-6 returns returns-2
+    returns-3 returns-4 returns-5 returns-6)

@@ -41,15 +41,5 @@ returns-5 c = rw (c .enum-told5 .given .1)
 
 pub x550em-spec : {M : Type 1} → statement M
 x550em-spec =
-    tie.close
-    (tie.spec
-    enum-told
-    enum-told-2
-    enum-told-3
-    enum-told-4
-    enum-told-5
-    returns
-    returns-2
-    returns-3
-    returns-4
-    returns-5)
+    tie.close (tie.spec enum-told enum-told-2 enum-told-3 enum-told-4 enum-told-5 returns returns-2 returns-3
+    returns-4 returns-5)

@@ -67,25 +67,6 @@ returns-7 c = rw (c .before .before .before .e4 .given .1) (c .first4 .ensures â
 
 pub error-value-spec : {M : Type 1} â†’ statement M
 error-value-spec =
-    tie.close
-    (tie.spec
-    enum-told
-    enum-told-2
-    enum-known-e
-    first-requires
-    enum-known-e-2
-    cast-first
-    first-requires-2
-    enum-known-e-3
-    first-requires-3
-    enum-known-e-4
-    cast-result
-    cast-first-2
-    first-requires-4
-    returns
-    returns-2
-    returns-3
-    returns-4
-    returns-5
-    returns-6
-    returns-7)
+    tie.close (tie.spec enum-told enum-told-2 enum-known-e first-requires enum-known-e-2 cast-first first-requires-2
+    enum-known-e-3 first-requires-3 enum-known-e-4 cast-result cast-first-2 first-requires-4 returns returns-2
+    returns-3 returns-4 returns-5 returns-6 returns-7)

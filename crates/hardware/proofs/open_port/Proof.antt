@@ -25,6 +25,4 @@ unfolding openPort andThen familyOpened portOpened
 returns-2 c = rw (← c .before .before .before .open-family .ensures, c .before .q .given .1)
 
 pub open-port-spec : {M : Type 1} → statement M
-open-port-spec =
-    tie.close
-    (tie.spec open-family-requires enum-known-f open-lan-requires enum-known-q returns returns-2)
+open-port-spec = tie.close (tie.spec open-family-requires enum-known-f open-lan-requires enum-known-q returns returns-2)

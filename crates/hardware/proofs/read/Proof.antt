@@ -32,5 +32,4 @@ unfolding checked word
 returns-4 c = cc
 
 pub read-spec : {M : Type 1} → statement M
-read-spec =
-    tie.close (tie.spec enum-known-a returns enum-told enum-told-2 returns-2 returns-3 returns-4)
+read-spec = tie.close (tie.spec enum-known-a returns enum-told enum-told-2 returns-2 returns-3 returns-4)

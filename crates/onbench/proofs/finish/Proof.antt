@@ -26,5 +26,4 @@ unfolding outcomeOf endingOf stopsAt
 returns-3 c = rw (c .before .told2 .given .1)
 
 pub finish-spec : {M : Type 1} → statement M
-finish-spec =
-    tie.close (tie.spec enum-told enum-known-told enum-known-told-2 returns returns-2 returns-3)
+finish-spec = tie.close (tie.spec enum-told enum-known-told enum-known-told-2 returns returns-2 returns-3)

@@ -32,12 +32,5 @@ returns-2 c =
 
 pub from-opening-spec : {M : Type 1} → statement M
 from-opening-spec =
-    tie.close
-    (tie.spec
-    open-port-requires
-    enum-known-p
-    identify-open-requires
-    play-requires
-    enum-known-q
-    returns
+    tie.close (tie.spec open-port-requires enum-known-p identify-open-requires play-requires enum-known-q returns
     returns-2)

@@ -27,10 +27,5 @@ returns c =
 
 pub identify-at-once-spec : {M : Type 1} → statement M
 identify-at-once-spec =
-    tie.close
-    (tie.spec
-    slice-aggregate-bytes
-    bytes-requires
-    slice-aggregate-from-opening
-    from-opening-requires
+    tie.close (tie.spec slice-aggregate-bytes bytes-requires slice-aggregate-from-opening from-opening-requires
     returns)

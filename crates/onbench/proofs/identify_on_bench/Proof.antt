@@ -23,5 +23,4 @@ returns c =
     )
 
 pub identify-on-bench-spec : {M : Type 1} → statement M
-identify-on-bench-spec =
-    tie.close (tie.spec slice-aggregate-bytes bytes-requires from-opening-requires returns)
+identify-on-bench-spec = tie.close (tie.spec slice-aggregate-bytes bytes-requires from-opening-requires returns)

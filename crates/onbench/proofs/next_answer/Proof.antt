@@ -41,15 +41,5 @@ returns-3 c = rw (c .before .enum-told2 .given .1, c .at-once .ensures)
 
 pub next-answer-spec : {M : Type 1} → statement M
 next-answer-spec =
-    tie.close
-    (tie.spec
-    enum-told
-    mul-decode
-    shared-slice-read-decode
-    decode-requires
-    add-t12
-    returns
-    enum-told-2
-    at-once-requires
-    returns-2
-    returns-3)
+    tie.close (tie.spec enum-told mul-decode shared-slice-read-decode decode-requires add-t12 returns enum-told-2
+    at-once-requires returns-2 returns-3)

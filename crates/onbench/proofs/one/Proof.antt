@@ -28,12 +28,5 @@ returns-3 c = let a = c .before .before .before .before .before .args in λ _. o
 
 pub one-spec : {M : Type 1} → statement M
 one-spec =
-    tie.close
-    (tie.spec
-    enum-known-told
-    visit-requires
-    enum-known-told-2
-    enum-known-told-3
-    returns
-    returns-2
+    tie.close (tie.spec enum-known-told visit-requires enum-known-told-2 enum-known-told-3 returns returns-2
     returns-3)

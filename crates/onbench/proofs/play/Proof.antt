@@ -44,16 +44,5 @@ returns-2 c = λ st b. invariant-ends _ _ _ _ _ (c .before .before .loop .s) _ (
 
 pub play-spec : {M : Type 1} → statement M
 play-spec =
-    tie.close
-    (tie.spec
-    Inv-loop
-    μ-loop
-    loop-holds
-    finish-requires
-    returns
-    one-requires
-    sub-left
-    loop-less
-    loop-again
-    finish-requires-2
-    returns-2)
+    tie.close (tie.spec Inv-loop μ-loop loop-holds finish-requires returns one-requires sub-left loop-less loop-again
+    finish-requires-2 returns-2)

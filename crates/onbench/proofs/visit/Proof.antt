@@ -44,14 +44,5 @@ returns-3 c =
 
 pub visit-spec : {M : Type 1} → statement M
 visit-spec =
-    tie.close
-    (tie.spec
-    access-requires
-    identify-step-requires
-    returns
-    next-answer-requires
-    enum-known-a
-    identify-step-requires-2
-    enum-told
-    returns-2
-    returns-3)
+    tie.close (tie.spec access-requires identify-step-requires returns next-answer-requires enum-known-a
+    identify-step-requires-2 enum-told returns-2 returns-3)

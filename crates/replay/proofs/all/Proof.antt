@@ -32,14 +32,4 @@ returns-2 c = search needs
 
 pub all-spec : {M : Type 1} → statement M
 all-spec =
-    tie.close
-    (tie.spec
-    Inv-loop
-    μ-loop
-    loop-holds
-    returns
-    some-requires
-    sub-turns
-    loop-less
-    loop-again
-    returns-2)
+    tie.close (tie.spec Inv-loop μ-loop loop-holds returns some-requires sub-turns loop-less loop-again returns-2)

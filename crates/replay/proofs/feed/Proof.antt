@@ -34,14 +34,5 @@ returns c = search needs
 
 pub feed-spec : {M : Type 1} → statement M
 feed-spec =
-    tie.close
-    (tie.spec
-    Inv-loop
-    μ-loop
-    loop-holds
-    shared-slice-read-fed
-    fed-requires
-    add-i
-    loop-less
-    loop-again
+    tie.close (tie.spec Inv-loop μ-loop loop-holds shared-slice-read-fed fed-requires add-i loop-less loop-again
     returns)

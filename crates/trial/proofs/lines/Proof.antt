@@ -29,6 +29,4 @@ returns : tie.Need-returns Inv-loop μ-loop
 returns c = search needs
 
 pub lines-spec : {M : Type 1} → statement M
-lines-spec =
-    tie.close
-    (tie.spec Inv-loop μ-loop loop-holds line-requires add-n loop-less loop-again returns)
+lines-spec = tie.close (tie.spec Inv-loop μ-loop loop-holds line-requires add-n loop-less loop-again returns)

@@ -43,14 +43,5 @@ returns-4 c = (rw (c .before .before .before .before .n2 .given .1, c .before .o
 
 pub bits-spec : {M : Type 1} → statement M
 bits-spec =
-    tie.close
-    (tie.spec
-    enum-known-n
-    enum-known-n-2
-    enum-told
-    try-token-requires
-    returns
-    enum-known-o
-    returns-2
-    returns-3
-    returns-4)
+    tie.close (tie.spec enum-known-n enum-known-n-2 enum-told try-token-requires returns enum-known-o returns-2
+    returns-3 returns-4)

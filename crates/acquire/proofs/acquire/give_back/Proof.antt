@@ -24,5 +24,4 @@ unfolding givenBack withBits pick
 returns-2 c = (rw (ne-eqb _ _ (c .before .before .if1 .left)) (over _ _ (c .releasing .ensures .0) (c .before .«open» .ensures .0)), λ h. c .releasing .ensures .1 h (c .before .«open» .ensures .1))
 
 pub give-back-spec : {M : Type 1} → statement M
-give-back-spec =
-    tie.close (tie.spec token-refused-requires returns open-requires releasing-requires returns-2)
+give-back-spec = tie.close (tie.spec token-refused-requires returns open-requires releasing-requires returns-2)

@@ -31,12 +31,5 @@ returns-2 c = (rw (← c .before .before .none-of .ensures, c .before .if1 .left
 
 pub open-spec : {M : Type 1} → statement M
 open-spec =
-    tie.close
-    (tie.spec
-    hw-requires
-    none-of-requires
-    first-requires
-    bits-requires
-    returns
-    open-token-requires
+    tie.close (tie.spec hw-requires none-of-requires first-requires bits-requires returns open-token-requires
     returns-2)

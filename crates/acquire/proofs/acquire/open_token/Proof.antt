@@ -38,13 +38,5 @@ returns-3 c = (over _ _ (c .bits .ensures .0) (c .before .first .ensures .0) ∙
 
 pub open-token-spec : {M : Type 1} → statement M
 open-token-spec =
-    tie.close
-    (tie.spec
-    returns
-    sub-try-token
-    try-token-requires
-    returns-2
-    sub-bits
-    first-requires
-    bits-requires
+    tie.close (tie.spec returns sub-try-token try-token-requires returns-2 sub-bits first-requires bits-requires
     returns-3)

@@ -39,13 +39,5 @@ returns-3 c = (rw (c .before .before .before .before .n2 .given .1, c .before .o
 
 pub releasing-spec : {M : Type 1} → statement M
 releasing-spec =
-    tie.close
-    (tie.spec
-    enum-known-n
-    enum-known-n-2
-    enum-told
-    token-refused-requires
-    enum-known-o
-    returns
-    returns-2
+    tie.close (tie.spec enum-known-n enum-known-n-2 enum-told token-refused-requires enum-known-o returns returns-2
     returns-3)

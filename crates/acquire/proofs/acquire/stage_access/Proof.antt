@@ -46,17 +46,5 @@ returns-4 c = rw (c .before .enum-told .given .1, ← c .delay-ms .ensures)
 
 pub stage-access-spec : {M : Type 1} → statement M
 stage-access-spec =
-    tie.close
-    (tie.spec
-    enum-known-s
-    access-requires
-    enum-known-s-2
-    access-requires-2
-    enum-known-s-3
-    access-requires-3
-    enum-told
-    delay-ms-requires
-    returns
-    returns-2
-    returns-3
-    returns-4)
+    tie.close (tie.spec enum-known-s access-requires enum-known-s-2 access-requires-2 enum-known-s-3
+    access-requires-3 enum-told delay-ms-requires returns returns-2 returns-3 returns-4)

@@ -57,20 +57,6 @@ returns-4 c = (rw (c .before .enum-told .given .1) (c .open-token .ensures .0), 
 
 pub stage-step-spec : {M : Type 1} → statement M
 stage-step-spec =
-    tie.close
-    (tie.spec
-    enum-known-s
-    step-requires
-    bits-requires
-    enum-known-s-2
-    step-requires-2
-    token-requires
-    enum-known-s-3
-    step-requires-3
-    releasing-requires
-    enum-told
-    open-token-requires
-    returns
-    returns-2
-    returns-3
+    tie.close (tie.spec enum-known-s step-requires bits-requires enum-known-s-2 step-requires-2 token-requires
+    enum-known-s-3 step-requires-3 releasing-requires enum-told open-token-requires returns returns-2 returns-3
     returns-4)

@@ -34,12 +34,5 @@ returns-3 c = (rw (c .before .before .g2 .given .1) (c .give-back2 .ensures .0),
 
 pub token-done-spec : {M : Type 1} → statement M
 token-done-spec =
-    tie.close
-    (tie.spec
-    enum-known-g
-    returns
-    give-back-requires
-    enum-known-g-2
-    give-back-requires-2
-    returns-2
+    tie.close (tie.spec enum-known-g returns give-back-requires enum-known-g-2 give-back-requires-2 returns-2
     returns-3)

@@ -35,13 +35,5 @@ returns-2 c = record { yields = rw (← c .before .before .before .open-port .en
 
 pub acquire-open-spec : {M : Type 1} → statement M
 acquire-open-spec =
-    tie.close
-    (tie.spec
-    open-port-requires
-    enum-known-p
-    hw-requires
-    open-requires
-    acquire-told-requires
-    enum-known-q
-    returns
-    returns-2)
+    tie.close (tie.spec open-port-requires enum-known-p hw-requires open-requires acquire-told-requires enum-known-q
+    returns returns-2)

@@ -35,13 +35,5 @@ returns-2 c = record { yields = rw (← c .before .before .before .open-port .en
 
 pub release-open-spec : {M : Type 1} → statement M
 release-open-spec =
-    tie.close
-    (tie.spec
-    open-port-requires
-    enum-known-p
-    hw-requires
-    open-requires
-    release-told-requires
-    enum-known-q
-    returns
-    returns-2)
+    tie.close (tie.spec open-port-requires enum-known-p hw-requires open-requires release-told-requires enum-known-q
+    returns returns-2)

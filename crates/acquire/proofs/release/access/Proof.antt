@@ -29,6 +29,4 @@ unfolding restAcquire restAcquireAt accessAcquire accessAcquireAt restRelease ac
 returns-2 c = rw (c .before .before .s2 .given .1) (c .access2 .ensures)
 
 pub access-spec : {M : Type 1} → statement M
-access-spec =
-    tie.close
-    (tie.spec enum-known-s access-requires enum-known-s-2 access-requires-2 returns returns-2)
+access-spec = tie.close (tie.spec enum-known-s access-requires enum-known-s-2 access-requires-2 returns returns-2)

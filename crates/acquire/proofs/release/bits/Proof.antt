@@ -34,6 +34,4 @@ unfolding followed _>>=_ orErr outcome releaseBitsNext erase releaseNext validRe
 returns-3 c = (rw (c .before .before .before .before .n2 .given .1, c .before .o .given .1), λ h. refl)
 
 pub bits-spec : {M : Type 1} → statement M
-bits-spec =
-    tie.close
-    (tie.spec enum-known-n enum-known-n-2 enum-told enum-known-o returns returns-2 returns-3)
+bits-spec = tie.close (tie.spec enum-known-n enum-known-n-2 enum-told enum-known-o returns returns-2 returns-3)

@@ -31,12 +31,5 @@ returns-2 c = (rw (← c .before .before .before .none-of .ensures, c .before .b
 
 pub open-spec : {M : Type 1} → statement M
 open-spec =
-    tie.close
-    (tie.spec
-    hw-requires
-    none-of-requires
-    open-bits-requires
-    returns
-    open-requires
-    token-requires
+    tie.close (tie.spec hw-requires none-of-requires open-bits-requires returns open-requires token-requires
     returns-2)

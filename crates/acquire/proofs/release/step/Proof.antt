@@ -37,13 +37,5 @@ returns-2 c = (rw (c .before .before .before .s2 .given .1) (over _ _ (c .bits .
 
 pub step-spec : {M : Type 1} → statement M
 step-spec =
-    tie.close
-    (tie.spec
-    enum-known-s
-    step-requires
-    token-requires
-    enum-known-s-2
-    step-requires-2
-    bits-requires
-    returns
-    returns-2)
+    tie.close (tie.spec enum-known-s step-requires token-requires enum-known-s-2 step-requires-2 bits-requires
+    returns returns-2)

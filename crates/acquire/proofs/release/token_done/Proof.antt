@@ -26,6 +26,4 @@ unfolding tokenGiven gave flag outcome
 returns-2 c = (rw (c .before .before .g .given .1) (c .open-bits2 .ensures .0), c .open-bits2 .ensures .1)
 
 pub token-done-spec : {M : Type 1} → statement M
-token-done-spec =
-    tie.close
-    (tie.spec enum-told open-bits-requires enum-known-g open-bits-requires-2 returns returns-2)
+token-done-spec = tie.close (tie.spec enum-told open-bits-requires enum-known-g open-bits-requires-2 returns returns-2)

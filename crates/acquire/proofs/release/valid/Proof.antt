@@ -29,6 +29,4 @@ unfolding restAcquire restAcquireAt accessAcquire accessAcquireAt restRelease ac
 returns-2 c = rw (c .before .before .s2 .given .1) (c .valid2 .ensures)
 
 pub valid-spec : {M : Type 1} → statement M
-valid-spec =
-    tie.close
-    (tie.spec enum-known-s valid-requires enum-known-s-2 valid-requires-2 returns returns-2)
+valid-spec = tie.close (tie.spec enum-known-s valid-requires enum-known-s-2 valid-requires-2 returns returns-2)

@@ -29,6 +29,4 @@ unfolding atOnce
 returns-3 c = rw (c .enum-told2 .given .1)
 
 pub at-once-spec : {M : Type 1} → statement M
-at-once-spec =
-    tie.close
-    (tie.spec enum-known-x at-once-at-requires enum-told enum-told-2 returns returns-2 returns-3)
+at-once-spec = tie.close (tie.spec enum-known-x at-once-at-requires enum-told enum-told-2 returns returns-2 returns-3)

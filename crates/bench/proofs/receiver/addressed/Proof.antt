@@ -44,15 +44,5 @@ returns-5 c = simp (ne-eqb (c .before .before .args .r .bits) 0xa0 (λ e. omega 
 
 pub addressed-spec : {M : Type 1} → statement M
 addressed-spec =
-    tie.close
-    (tie.spec
-    chose-requires
-    chose-requires-2
-    chose-requires-3
-    chose-requires-4
-    at-requires
-    returns
-    returns-2
-    returns-3
-    returns-4
-    returns-5)
+    tie.close (tie.spec chose-requires chose-requires-2 chose-requires-3 chose-requires-4 at-requires returns
+    returns-2 returns-3 returns-4 returns-5)

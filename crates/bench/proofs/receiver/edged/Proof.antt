@@ -56,20 +56,5 @@ returns-4 c = rw (c .before .enum-told3 .given .1) (c .fall .ensures)
 
 pub edged-spec : {M : Type 1} → statement M
 edged-spec =
-    tie.close
-    (tie.spec
-    enum-told
-    start-requires
-    quiet-requires
-    enum-told-2
-    stop-requires
-    quiet-requires-2
-    enum-known-e
-    rise-requires
-    quiet-requires-3
-    enum-told-3
-    fall-requires
-    returns
-    returns-2
-    returns-3
-    returns-4)
+    tie.close (tie.spec enum-told start-requires quiet-requires enum-told-2 stop-requires quiet-requires-2
+    enum-known-e rise-requires quiet-requires-3 enum-told-3 fall-requires returns returns-2 returns-3 returns-4)

@@ -133,42 +133,8 @@ returns-11 c = rw (fall-at _ (c .before .before .before .before .before .args .r
 
 pub fall-spec : {M : Type 1} → statement M
 fall-spec =
-    tie.close
-    (tie.spec
-    enum-told
-    quiet-requires
-    enum-known-stage
-    quiet-requires-2
-    returns
-    addressed-requires
-    quiet-requires-3
-    enum-known-stage-2
-    quiet-requires-4
-    returns-2
-    byte-taken-requires
-    byte-asks-requires
-    enum-told-2
-    at-requires
-    quiet-requires-5
-    enum-told-3
-    fresh-requires
-    quiet-requires-6
-    enum-known-stage-3
-    add-t20
-    at-requires-2
-    quiet-requires-7
-    returns-3
-    at-requires-3
-    enum-told-4
-    at-requires-4
-    quiet-requires-8
-    returns-4
-    at-requires-5
-    quiet-requires-9
-    returns-5
-    returns-6
-    returns-7
-    returns-8
-    returns-9
-    returns-10
-    returns-11)
+    tie.close (tie.spec enum-told quiet-requires enum-known-stage quiet-requires-2 returns addressed-requires
+    quiet-requires-3 enum-known-stage-2 quiet-requires-4 returns-2 byte-taken-requires byte-asks-requires enum-told-2
+    at-requires quiet-requires-5 enum-told-3 fresh-requires quiet-requires-6 enum-known-stage-3 add-t20 at-requires-2
+    quiet-requires-7 returns-3 at-requires-3 enum-told-4 at-requires-4 quiet-requires-8 returns-4 at-requires-5
+    quiet-requires-9 returns-5 returns-6 returns-7 returns-8 returns-9 returns-10 returns-11)

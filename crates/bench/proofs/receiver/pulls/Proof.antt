@@ -58,20 +58,5 @@ returns-7 c = rw (c .enum-told6 .given .1)
 
 pub pulls-spec : {M : Type 1} → statement M
 pulls-spec =
-    tie.close
-    (tie.spec
-    enum-told
-    enum-told-2
-    enum-told-3
-    enum-told-4
-    enum-told-5
-    enum-known-stage
-    bit-requires
-    enum-told-6
-    returns
-    returns-2
-    returns-3
-    returns-4
-    returns-5
-    returns-6
-    returns-7)
+    tie.close (tie.spec enum-told enum-told-2 enum-told-3 enum-told-4 enum-told-5 enum-known-stage bit-requires
+    enum-told-6 returns returns-2 returns-3 returns-4 returns-5 returns-6 returns-7)

@@ -82,26 +82,6 @@ returns-9 c = rw (rise-at _ (c .before .before .before .args .sda) (c .before .b
 
 pub rise-spec : {M : Type 1} → statement M
 rise-spec =
-    tie.close
-    (tie.spec
-    enum-told
-    enum-known-stage
-    add-t8
-    takes-requires
-    returns
-    enum-known-stage-2
-    add-t11
-    takes-requires-2
-    returns-2
-    enum-told-2
-    enum-told-3
-    enum-told-4
-    enum-told-5
-    notes-requires
-    returns-3
-    returns-4
-    returns-5
-    returns-6
-    returns-7
-    returns-8
-    returns-9)
+    tie.close (tie.spec enum-told enum-known-stage add-t8 takes-requires returns enum-known-stage-2 add-t11
+    takes-requires-2 returns-2 enum-told-2 enum-told-3 enum-told-4 enum-told-5 notes-requires returns-3 returns-4
+    returns-5 returns-6 returns-7 returns-8 returns-9)

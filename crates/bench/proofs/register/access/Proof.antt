@@ -39,15 +39,5 @@ returns-3 c = rw (c .before .enum-told .given .1) (c .elsewhere .ensures)
 
 pub access-spec : {M : Type 1} → statement M
 access-spec =
-    tie.close
-    (tie.spec
-    layout-of-requires
-    enum-known-x
-    read-at-requires
-    enum-known-x-2
-    write-at-requires
-    enum-told
-    elsewhere-requires
-    returns
-    returns-2
-    returns-3)
+    tie.close (tie.spec layout-of-requires enum-known-x read-at-requires enum-known-x-2 write-at-requires enum-told
+    elsewhere-requires returns returns-2 returns-3)

@@ -26,6 +26,4 @@ unfolding pulling
 returns-3 c = rw (← c .before .banging .ensures, c .if1 .left)
 
 pub pulling-spec : {M : Type 1} → statement M
-pulling-spec =
-    tie.close
-    (tie.spec banging-requires none-of-requires none-of-requires-2 returns returns-2 returns-3)
+pulling-spec = tie.close (tie.spec banging-requires none-of-requires none-of-requires-2 returns returns-2 returns-3)

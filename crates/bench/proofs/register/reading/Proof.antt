@@ -27,11 +27,5 @@ returns c = c .input2 .ensures ∙ rw (c .before .sda-high .ensures, c .before .
 
 pub reading-spec : {M : Type 1} → statement M
 reading-spec =
-    tie.close
-    (tie.spec
-    pulls-low-requires
-    scl-high-requires
-    input-requires
-    sda-high-requires
-    input-requires-2
+    tie.close (tie.spec pulls-low-requires scl-high-requires input-requires sda-high-requires input-requires-2
     returns)

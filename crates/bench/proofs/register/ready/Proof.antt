@@ -30,12 +30,5 @@ returns-3 c = rw (← c .before .before .before .before .before .layout-of .ensu
 
 pub ready-spec : {M : Type 1} → statement M
 ready-spec =
-    tie.close
-    (tie.spec
-    layout-of-requires
-    banging-requires
-    returns
-    none-of-requires
-    returns-2
-    none-of-requires-2
+    tie.close (tie.spec layout-of-requires banging-requires returns none-of-requires returns-2 none-of-requires-2
     returns-3)

@@ -27,11 +27,4 @@ returns-2 c = rw (← c .before .before .before .layout-of .ensures, ← c .befo
 
 pub released-spec : {M : Type 1} → statement M
 released-spec =
-    tie.close
-    (tie.spec
-    layout-of-requires
-    scl-high-requires
-    pulls-low-requires
-    sda-high-requires
-    returns
-    returns-2)
+    tie.close (tie.spec layout-of-requires scl-high-requires pulls-low-requires sda-high-requires returns returns-2)

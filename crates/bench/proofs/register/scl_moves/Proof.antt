@@ -29,5 +29,4 @@ unfolding takesAll sclEdge
 returns-4 c = rw (c .before .if1 .left, c .if3 .left)
 
 pub scl-moves-spec : {M : Type 1} → statement M
-scl-moves-spec =
-    tie.close (tie.spec returns take-requires returns-2 take-requires-2 returns-3 returns-4)
+scl-moves-spec = tie.close (tie.spec returns take-requires returns-2 take-requires-2 returns-3 returns-4)

@@ -33,6 +33,4 @@ unfolding takesAll sdaEdge
 returns-5 c = rw (c .if1 .left)
 
 pub sda-moves-spec : {M : Type 1} → statement M
-sda-moves-spec =
-    tie.close
-    (tie.spec returns take-requires returns-2 take-requires-2 returns-3 returns-4 returns-5)
+sda-moves-spec = tie.close (tie.spec returns take-requires returns-2 take-requires-2 returns-3 returns-4 returns-5)

@@ -35,13 +35,5 @@ returns c = c .sda-moves .ensures ∙ rw (c .before .sda-high2 .ensures, c .befo
 
 pub turn-spec : {M : Type 1} → statement M
 turn-spec =
-    tie.close
-    (tie.spec
-    pulls-low-requires
-    sda-high-requires
-    scl-high-requires
-    scl-high-requires-2
-    scl-moves-requires
-    sda-high-requires-2
-    sda-moves-requires
-    returns)
+    tie.close (tie.spec pulls-low-requires sda-high-requires scl-high-requires scl-high-requires-2 scl-moves-requires
+    sda-high-requires-2 sda-moves-requires returns)

@@ -61,20 +61,6 @@ returns-3 c = (rw (← c .before .before .viewed .ensures, ne-eqb _ _ (c .before
 
 pub view-spec : {M : Type 1} → statement M
 view-spec =
-    tie.close
-    (tie.spec
-    viewed-requires
-    add-end
-    sub-result
-    part-result-start
-    part-result-end
-    returns
-    add-end-2
-    sub-result-2
-    part-result-start-2
-    part-result-end-2
-    returns-2
-    sub-result-3
-    part-result-start-3
-    part-result-end-3
+    tie.close (tie.spec viewed-requires add-end sub-result part-result-start part-result-end returns add-end-2
+    sub-result-2 part-result-start-2 part-result-end-2 returns-2 sub-result-3 part-result-start-3 part-result-end-3
     returns-3)

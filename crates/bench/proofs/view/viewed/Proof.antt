@@ -36,13 +36,5 @@ returns-3 c = simp (ne-eqb (c .before .before .before .before .args .device) 0xa
 
 pub viewed-spec : {M : Type 1} → statement M
 viewed-spec =
-    tie.close
-    (tie.spec
-    within-requires
-    number-requires
-    within-requires-2
-    number-requires-2
-    refusal-number-requires
-    returns
-    returns-2
-    returns-3)
+    tie.close (tie.spec within-requires number-requires within-requires-2 number-requires-2 refusal-number-requires
+    returns returns-2 returns-3)

@@ -33,6 +33,4 @@ unfolding commandOf
 returns-4 c = rw (c .enum-told4 .given .1)
 
 pub command-spec : {M : Type 1} → statement M
-command-spec =
-    tie.close
-    (tie.spec enum-told enum-told-2 enum-told-3 enum-told-4 returns returns-2 returns-3 returns-4)
+command-spec = tie.close (tie.spec enum-told enum-told-2 enum-told-3 enum-told-4 returns returns-2 returns-3 returns-4)

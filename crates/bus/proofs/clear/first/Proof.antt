@@ -48,16 +48,5 @@ returns-4 c = (rw (c .before .before .before .before .before .before .n2 .given 
 
 pub first-spec : {M : Type 1} → statement M
 first-spec =
-    tie.close
-    (tie.spec
-    enum-known-n
-    enum-known-n-2
-    enum-told
-    free-requires
-    enum-known-b
-    is-i2c-requires
-    free-requires-2
-    returns
-    returns-2
-    returns-3
-    returns-4)
+    tie.close (tie.spec enum-known-n enum-known-n-2 enum-told free-requires enum-known-b is-i2c-requires
+    free-requires-2 returns returns-2 returns-3 returns-4)

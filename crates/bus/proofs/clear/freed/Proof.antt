@@ -38,13 +38,4 @@ returns-3 c = (rw (c .before .before .before .before .n2 .given .1, c .before .b
 
 pub freed-spec : {M : Type 1} → statement M
 freed-spec =
-    tie.close
-    (tie.spec
-    enum-known-n
-    enum-known-n-2
-    enum-told
-    again-requires
-    enum-known-b
-    returns
-    returns-2
-    returns-3)
+    tie.close (tie.spec enum-known-n enum-known-n-2 enum-told again-requires enum-known-b returns returns-2 returns-3)

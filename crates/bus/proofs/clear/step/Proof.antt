@@ -61,21 +61,6 @@ returns-4 c = (rw (c .before .before .enum-told4 .given .1) (over _ _ (c .stoppe
 
 pub step-spec : {M : Type 1} → statement M
 step-spec =
-    tie.close
-    (tie.spec
-    enum-told
-    step-requires
-    first-requires
-    enum-told-2
-    step-requires-2
-    freed-requires
-    enum-told-3
-    step-requires-3
-    started-requires
-    enum-told-4
-    step-requires-4
-    stopped-requires
-    returns
-    returns-2
-    returns-3
+    tie.close (tie.spec enum-told step-requires first-requires enum-told-2 step-requires-2 freed-requires enum-told-3
+    step-requires-3 started-requires enum-told-4 step-requires-4 stopped-requires returns returns-2 returns-3
     returns-4)

@@ -42,14 +42,5 @@ returns-4 c = (rw (c .before .before .before .before .before .before .n2 .given 
 
 pub stopped-spec : {M : Type 1} → statement M
 stopped-spec =
-    tie.close
-    (tie.spec
-    enum-known-n
-    enum-known-n-2
-    enum-told
-    enum-known-b
-    is-i2c-requires
-    returns
-    returns-2
-    returns-3
-    returns-4)
+    tie.close (tie.spec enum-known-n enum-known-n-2 enum-told enum-known-b is-i2c-requires returns returns-2
+    returns-3 returns-4)

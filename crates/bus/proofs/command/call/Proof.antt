@@ -56,20 +56,5 @@ returns-5 c = rw (c .before .enum-told3 .given .1) (c .free .ensures)
 
 pub call-spec : {M : Type 1} → statement M
 call-spec =
-    tie.close
-    (tie.spec
-    enum-told
-    start-requires
-    enum-known-c
-    send-requires
-    enum-known-c-2
-    read-requires
-    enum-told-2
-    end-requires
-    enum-told-3
-    free-requires
-    returns
-    returns-2
-    returns-3
-    returns-4
-    returns-5)
+    tie.close (tie.spec enum-told start-requires enum-known-c send-requires enum-known-c-2 read-requires enum-told-2
+    end-requires enum-told-3 free-requires returns returns-2 returns-3 returns-4 returns-5)

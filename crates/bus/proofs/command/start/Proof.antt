@@ -38,6 +38,4 @@ returns-8 : tie.Need-returns-8
 returns-8 c = sym (start-first (c .before .args .n) (omega (arith, c .match .rest .0 .0 .0)) (λ h. omega (arith, h, c .match .rest .0 .0 .1, c .match .rest .0 .1, c .match .rest .1)))
 
 pub start-spec : {M : Type 1} → statement M
-start-spec =
-    tie.close
-    (tie.spec returns returns-2 returns-3 returns-4 returns-5 returns-6 returns-7 returns-8)
+start-spec = tie.close (tie.spec returns returns-2 returns-3 returns-4 returns-5 returns-6 returns-7 returns-8)

@@ -50,16 +50,5 @@ returns-6 c = (λ k. rw (c .enum-told5 .given .1), refl)
 
 pub finish-spec : {M : Type 1} → statement M
 finish-spec =
-    tie.close
-    (tie.spec
-    enum-told
-    enum-told-2
-    returns
-    enum-told-3
-    enum-told-4
-    enum-told-5
-    returns-2
-    returns-3
-    returns-4
-    returns-5
-    returns-6)
+    tie.close (tie.spec enum-told enum-told-2 returns enum-told-3 enum-told-4 enum-told-5 returns-2 returns-3
+    returns-4 returns-5 returns-6)

@@ -39,13 +39,4 @@ returns-3 c = (λ k. rw (c .before .before .before .before .n2 .given .1, c .bef
 
 pub lined-spec : {M : Type 1} → statement M
 lined-spec =
-    tie.close
-    (tie.spec
-    enum-known-n
-    enum-known-n-2
-    enum-told
-    from-requires
-    enum-known-o
-    returns
-    returns-2
-    returns-3)
+    tie.close (tie.spec enum-known-n enum-known-n-2 enum-told from-requires enum-known-o returns returns-2 returns-3)

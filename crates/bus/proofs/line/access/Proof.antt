@@ -82,27 +82,6 @@ returns-10 c = rw (c .enum-told8 .given .1)
 
 pub access-spec : {M : Type 1} → statement M
 access-spec =
-    tie.close
-    (tie.spec
-    enum-told
-    enum-known-line
-    cast-t7
-    enum-told-2
-    enum-told-3
-    enum-told-4
-    enum-told-5
-    enum-told-6
-    enum-known-line-2
-    settle-us-requires
-    enum-told-7
-    enum-told-8
-    returns
-    returns-2
-    returns-3
-    returns-4
-    returns-5
-    returns-6
-    returns-7
-    returns-8
-    returns-9
-    returns-10)
+    tie.close (tie.spec enum-told enum-known-line cast-t7 enum-told-2 enum-told-3 enum-told-4 enum-told-5 enum-told-6
+    enum-known-line-2 settle-us-requires enum-told-7 enum-told-8 returns returns-2 returns-3 returns-4 returns-5
+    returns-6 returns-7 returns-8 returns-9 returns-10)

@@ -37,13 +37,5 @@ returns-3 c = (λ k. rw (c .before .w2 .given .1), λ h. refl)
 
 pub ack-seen-spec : {M : Type 1} → statement M
 ack-seen-spec =
-    tie.close
-    (tie.spec
-    enum-known-w
-    none-of-requires
-    shift-requires
-    returns
-    at-requires
-    enum-known-w-2
-    returns-2
+    tie.close (tie.spec enum-known-w none-of-requires shift-requires returns at-requires enum-known-w-2 returns-2
     returns-3)

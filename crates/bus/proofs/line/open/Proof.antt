@@ -99,32 +99,7 @@ returns-9 c = (λ k. rw (c .before .before .before .enum-told7 .given .1, c .at8
 
 pub open-spec : {M : Type 1} → statement M
 open-spec =
-    tie.close
-    (tie.spec
-    enum-told
-    at-requires
-    enum-known-call
-    sda-requires
-    enum-told-2
-    at-requires-2
-    enum-told-3
-    at-requires-3
-    enum-told-4
-    at-requires-4
-    enum-known-call-2
-    at-requires-5
-    enum-told-5
-    at-requires-6
-    enum-told-6
-    at-requires-7
-    enum-told-7
-    at-requires-8
-    returns
-    returns-2
-    returns-3
-    returns-4
-    returns-5
-    returns-6
-    returns-7
-    returns-8
-    returns-9)
+    tie.close (tie.spec enum-told at-requires enum-known-call sda-requires enum-told-2 at-requires-2 enum-told-3
+    at-requires-3 enum-told-4 at-requires-4 enum-known-call-2 at-requires-5 enum-told-5 at-requires-6 enum-told-6
+    at-requires-7 enum-told-7 at-requires-8 returns returns-2 returns-3 returns-4 returns-5 returns-6 returns-7
+    returns-8 returns-9)

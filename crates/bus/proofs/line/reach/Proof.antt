@@ -68,22 +68,5 @@ returns-7 c = (λ k. rw (c .enum-told6 .given .1), λ h. refl)
 
 pub reach-spec : {M : Type 1} → statement M
 reach-spec =
-    tie.close
-    (tie.spec
-    enum-told
-    sda-free-requires
-    enum-told-2
-    at-requires
-    enum-told-3
-    enum-told-4
-    enum-told-5
-    enum-known-g
-    at-requires-2
-    enum-told-6
-    returns
-    returns-2
-    returns-3
-    returns-4
-    returns-5
-    returns-6
-    returns-7)
+    tie.close (tie.spec enum-told sda-free-requires enum-told-2 at-requires enum-told-3 enum-told-4 enum-told-5
+    enum-known-g at-requires-2 enum-told-6 returns returns-2 returns-3 returns-4 returns-5 returns-6 returns-7)

@@ -29,6 +29,4 @@ unfolding lineNext orHeld erase outcome word sampleSeen validLineNext
 returns-2 c = (λ k. rw (c .before .w2 .given .1), refl)
 
 pub sample-seen-spec : {M : Type 1} → statement M
-sample-seen-spec =
-    tie.close
-    (tie.spec enum-known-w sda-level-requires shift-requires enum-known-w-2 returns returns-2)
+sample-seen-spec = tie.close (tie.spec enum-known-w sda-level-requires shift-requires enum-known-w-2 returns returns-2)

@@ -34,12 +34,4 @@ returns-3 c = (λ k. rw (c .before .w2 .given .1), λ h. refl)
 
 pub scl-seen-spec : {M : Type 1} → statement M
 scl-seen-spec =
-    tie.close
-    (tie.spec
-    enum-known-w
-    none-of-requires
-    scl-tries-requires
-    returns
-    enum-known-w-2
-    returns-2
-    returns-3)
+    tie.close (tie.spec enum-known-w none-of-requires scl-tries-requires returns enum-known-w-2 returns-2 returns-3)

@@ -30,5 +30,4 @@ unfolding lineNext orHeld erase outcome word sdaSeen validLineNext
 returns-3 c = (λ k. rw (c .before .w2 .given .1), refl)
 
 pub sda-seen-spec : {M : Type 1} → statement M
-sda-seen-spec =
-    tie.close (tie.spec enum-known-w none-of-requires returns enum-known-w-2 returns-2 returns-3)
+sda-seen-spec = tie.close (tie.spec enum-known-w none-of-requires returns enum-known-w-2 returns-2 returns-3)

@@ -77,25 +77,6 @@ returns-7 c = (λ k. rw (c .at6 .ensures, c .before .enum-told7 .given .1), λ h
 
 pub settle-spec : {M : Type 1} → statement M
 settle-spec =
-    tie.close
-    (tie.spec
-    enum-told
-    at-requires
-    enum-told-2
-    enum-told-3
-    at-requires-2
-    enum-told-4
-    at-requires-3
-    enum-told-5
-    at-requires-4
-    enum-told-6
-    at-requires-5
-    enum-told-7
-    at-requires-6
-    returns
-    returns-2
-    returns-3
-    returns-4
-    returns-5
-    returns-6
-    returns-7)
+    tie.close (tie.spec enum-told at-requires enum-told-2 enum-told-3 at-requires-2 enum-told-4 at-requires-3
+    enum-told-5 at-requires-4 enum-told-6 at-requires-5 enum-told-7 at-requires-6 returns returns-2 returns-3
+    returns-4 returns-5 returns-6 returns-7)

@@ -129,41 +129,9 @@ returns-10 c = (λ k. rw (c .before .before .before .line6 .given .1) (fed-held 
 
 pub step-spec : {M : Type 1} → statement M
 step-spec =
-    tie.close
-    (tie.spec
-    enum-told
-    read-raw-requires
-    look-seen-requires
-    enum-told-2
-    enum-told-3
-    read-raw-requires-2
-    sample-seen-requires
-    enum-known-line
-    read-raw-requires-3
-    ack-seen-requires
-    enum-known-line-2
-    ack-tries-requires
-    enum-known-line-3
-    write-requires
-    write-seen-requires
-    enum-known-line-4
-    flush-requires
-    flush-seen-requires
-    enum-known-line-5
-    reach-requires
-    enum-told-4
-    read-raw-requires-4
-    sda-seen-requires
-    enum-known-line-6
-    read-raw-requires-5
-    scl-seen-requires
-    returns
-    returns-2
-    returns-3
-    returns-4
-    returns-5
-    returns-6
-    returns-7
-    returns-8
-    returns-9
-    returns-10)
+    tie.close (tie.spec enum-told read-raw-requires look-seen-requires enum-told-2 enum-told-3 read-raw-requires-2
+    sample-seen-requires enum-known-line read-raw-requires-3 ack-seen-requires enum-known-line-2 ack-tries-requires
+    enum-known-line-3 write-requires write-seen-requires enum-known-line-4 flush-requires flush-seen-requires
+    enum-known-line-5 reach-requires enum-told-4 read-raw-requires-4 sda-seen-requires enum-known-line-6
+    read-raw-requires-5 scl-seen-requires returns returns-2 returns-3 returns-4 returns-5 returns-6 returns-7
+    returns-8 returns-9 returns-10)

@@ -85,28 +85,7 @@ returns-10 c = rw (c .before .line7 .given .1)
 
 pub valid-spec : {M : Type 1} → statement M
 valid-spec =
-    tie.close
-    (tie.spec
-    enum-told
-    enum-known-line
-    enum-told-2
-    enum-known-line-2
-    enum-known-line-3
-    enum-known-line-4
-    valid-goal-requires
-    enum-known-line-5
-    valid-goal-requires-2
-    enum-known-line-6
-    valid-goal-requires-3
-    enum-told-3
-    enum-known-line-7
-    returns
-    returns-2
-    returns-3
-    returns-4
-    returns-5
-    returns-6
-    returns-7
-    returns-8
-    returns-9
+    tie.close (tie.spec enum-told enum-known-line enum-told-2 enum-known-line-2 enum-known-line-3 enum-known-line-4
+    valid-goal-requires enum-known-line-5 valid-goal-requires-2 enum-known-line-6 valid-goal-requires-3 enum-told-3
+    enum-known-line-7 returns returns-2 returns-3 returns-4 returns-5 returns-6 returns-7 returns-8 returns-9
     returns-10)

@@ -62,24 +62,6 @@ returns-3 c = search needs
 
 pub run-spec : {M : Type 1} → statement M
 run-spec =
-    tie.close
-    (tie.spec
-    Inv-loop
-    μ-loop
-    begin-requires
-    script-open-requires
-    loop-holds
-    enum-known-told
-    answer-requires
-    script-step-requires
-    enum-known-told-2
-    answer-requires-2
-    script-step-requires-2
-    enum-known-told-3
-    returns
-    enum-known-told-4
-    returns-2
-    sub-left
-    loop-less
-    loop-again
-    returns-3)
+    tie.close (tie.spec Inv-loop μ-loop begin-requires script-open-requires loop-holds enum-known-told
+    answer-requires script-step-requires enum-known-told-2 answer-requires-2 script-step-requires-2 enum-known-told-3
+    returns enum-known-told-4 returns-2 sub-left loop-less loop-again returns-3)

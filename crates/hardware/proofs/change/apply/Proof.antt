@@ -26,6 +26,4 @@ unfolding changed
 returns-3 c = cc
 
 pub apply-spec : {M : Type 1} → statement M
-apply-spec =
-    tie.close
-    (tie.spec enum-known-bits enum-known-bits-2 enum-known-bits-3 returns returns-2 returns-3)
+apply-spec = tie.close (tie.spec enum-known-bits enum-known-bits-2 enum-known-bits-3 returns returns-2 returns-3)

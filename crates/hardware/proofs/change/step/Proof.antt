@@ -44,16 +44,5 @@ returns-3 c = rw (c .before .enum-told3 .given .1) (ap ret (c .flush .ensures))
 
 pub step-spec : {M : Type 1} → statement M
 step-spec =
-    tie.close
-    (tie.spec
-    enum-told
-    read-requires
-    seen-requires
-    enum-told-2
-    write-requires
-    settle-requires
-    enum-told-3
-    flush-requires
-    returns
-    returns-2
-    returns-3)
+    tie.close (tie.spec enum-told read-requires seen-requires enum-told-2 write-requires settle-requires enum-told-3
+    flush-requires returns returns-2 returns-3)

@@ -30,5 +30,4 @@ unfolding erase orErr word pollNext validPollNext
 returns-3 c = (cc, λ n h. refl)
 
 pub seen-spec : {M : Type 1} → statement M
-seen-spec =
-    tie.close (tie.spec enum-known-v none-of-requires returns enum-known-v-2 returns-2 returns-3)
+seen-spec = tie.close (tie.spec enum-known-v none-of-requires returns enum-known-v-2 returns-2 returns-3)

@@ -31,13 +31,4 @@ unfolding restPoll validPoll
 returns-2 c = (rw (c .before .before .s2 .given .1) (c .«open» .ensures .0), λ n h. c .«open» .ensures .1 n (below _ _ (rw (c .before .before .s2 .given .1) at h)))
 
 pub step-spec : {M : Type 1} → statement M
-step-spec =
-    tie.close
-    (tie.spec
-    enum-known-s
-    read-requires
-    seen-requires
-    enum-known-s-2
-    open-requires
-    returns
-    returns-2)
+step-spec = tie.close (tie.spec enum-known-s read-requires seen-requires enum-known-s-2 open-requires returns returns-2)

@@ -50,15 +50,5 @@ returns-2 c =
 
 pub command-on-spec : {M : Type 1} → statement M
 command-on-spec =
-    tie.close
-    (tie.spec
-    valid-command-requires
-    access-requires
-    admit-requires
-    enum-told
-    go-requires
-    enum-known-q
-    same-length
-    returns
-    same-length-2
-    returns-2)
+    tie.close (tie.spec valid-command-requires access-requires admit-requires enum-told go-requires enum-known-q
+    same-length returns same-length-2 returns-2)

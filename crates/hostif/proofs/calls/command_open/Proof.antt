@@ -39,14 +39,5 @@ returns-3 c = record { yields = rw (← c .before .before .before .open-port .en
 
 pub command-open-spec : {M : Type 1} → statement M
 command-open-spec =
-    tie.close
-    (tie.spec
-    open-port-requires
-    enum-known-p
-    fits-requires
-    open-requires
-    command-told-requires
-    returns
-    enum-known-q
-    returns-2
-    returns-3)
+    tie.close (tie.spec open-port-requires enum-known-p fits-requires open-requires command-told-requires returns
+    enum-known-q returns-2 returns-3)

@@ -36,13 +36,5 @@ returns-3 c = record { yields = rw (← c .before .fits2 .ensures _ refl, c .if1
 
 pub command-step-spec : {M : Type 1} → statement M
 command-step-spec =
-    tie.close
-    (tie.spec
-    fits-requires
-    enum-known-s
-    command-on-requires
-    enum-told
-    same-length
-    returns
-    returns-2
+    tie.close (tie.spec fits-requires enum-known-s command-on-requires enum-told same-length returns returns-2
     returns-3)

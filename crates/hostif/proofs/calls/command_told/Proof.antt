@@ -24,5 +24,4 @@ unfolding saidCommand commandNext standsCommand
 returns-2 c = record { yields = rw (c .before .n2 .given .1); limits = λ p h. tt }
 
 pub command-told-spec : {M : Type 1} → statement M
-command-told-spec =
-    tie.close (tie.spec enum-known-n access-requires enum-known-n-2 returns returns-2)
+command-told-spec = tie.close (tie.spec enum-known-n access-requires enum-known-n-2 returns returns-2)

@@ -32,12 +32,5 @@ returns-2 c = record { yields = rw (← c .before .before .before .open-port .en
 
 pub token-open-spec : {M : Type 1} → statement M
 token-open-spec =
-    tie.close
-    (tie.spec
-    open-port-requires
-    enum-known-p
-    open-requires
-    token-told-requires
-    enum-known-q
-    returns
+    tie.close (tie.spec open-port-requires enum-known-p open-requires token-told-requires enum-known-q returns
     returns-2)

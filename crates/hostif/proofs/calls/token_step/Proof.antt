@@ -58,17 +58,5 @@ returns-3 c = rw (c .enum-told2 .given .1) (record { yields = refl; limits = tt 
 
 pub token-step-spec : {M : Type 1} → statement M
 token-step-spec =
-    tie.close
-    (tie.spec
-    enum-known-s
-    valid-token-requires
-    access-requires
-    admit-requires
-    enum-told
-    step-requires
-    token-told-requires
-    enum-known-q
-    enum-told-2
-    returns
-    returns-2
-    returns-3)
+    tie.close (tie.spec enum-known-s valid-token-requires access-requires admit-requires enum-told step-requires
+    token-told-requires enum-known-q enum-told-2 returns returns-2 returns-3)

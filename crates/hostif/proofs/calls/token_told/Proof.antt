@@ -24,5 +24,4 @@ unfolding saidToken tokenNext standsToken
 returns-2 c = record { yields = rw (c .before .n2 .given .1); limits = λ p h. tt }
 
 pub token-told-spec : {M : Type 1} → statement M
-token-told-spec =
-    tie.close (tie.spec enum-known-n access-requires enum-known-n-2 returns returns-2)
+token-told-spec = tie.close (tie.spec enum-known-n access-requires enum-known-n-2 returns returns-2)

@@ -46,17 +46,5 @@ returns-4 c = rw (c .before .before .s4 .given .1) (c .access4 .ensures)
 
 pub access-spec : {M : Type 1} → statement M
 access-spec =
-    tie.close
-    (tie.spec
-    enum-known-s
-    access-requires
-    enum-known-s-2
-    access-requires-2
-    enum-known-s-3
-    access-requires-3
-    enum-known-s-4
-    access-requires-4
-    returns
-    returns-2
-    returns-3
-    returns-4)
+    tie.close (tie.spec enum-known-s access-requires enum-known-s-2 access-requires-2 enum-known-s-3
+    access-requires-3 enum-known-s-4 access-requires-4 returns returns-2 returns-3 returns-4)

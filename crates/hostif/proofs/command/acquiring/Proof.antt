@@ -34,6 +34,4 @@ unfolding commandNext acquireBitsNext followed _>>=_ erase word outcome byte fla
 returns-3 c = (λ l. rw (c .before .before .before .before .n2 .given .1, c .before .o .given .1), λ m h. refl)
 
 pub acquiring-spec : {M : Type 1} → statement M
-acquiring-spec =
-    tie.close
-    (tie.spec enum-known-n enum-known-n-2 enum-told enum-known-o returns returns-2 returns-3)
+acquiring-spec = tie.close (tie.spec enum-known-n enum-known-n-2 enum-told enum-known-o returns returns-2 returns-3)

@@ -31,6 +31,4 @@ unfolding word outcome byte flag hicrRead request respond both closed released r
 returns-3 c = rw (c .before .s2 .given .1)
 
 pub outcome-of-spec : {M : Type 1} → statement M
-outcome-of-spec =
-    tie.close
-    (tie.spec enum-known-s enum-told enum-known-o enum-known-s-2 returns returns-2 returns-3)
+outcome-of-spec = tie.close (tie.spec enum-known-s enum-told enum-known-o enum-known-s-2 returns returns-2 returns-3)

@@ -27,5 +27,4 @@ unfolding commandNext releaseBitsNext followed _>>=_ erase word outcome byte fla
 returns-2 c = (λ l. rw (c .before .before .n2 .given .1, ← c .outcome-of .ensures), λ m h. refl)
 
 pub releasing-spec : {M : Type 1} → statement M
-releasing-spec =
-    tie.close (tie.spec enum-known-n enum-known-n-2 outcome-of-requires returns returns-2)
+releasing-spec = tie.close (tie.spec enum-known-n enum-known-n-2 outcome-of-requires returns returns-2)

@@ -26,5 +26,4 @@ unfolding word outcome byte flag hicrRead request respond both closed released r
 returns-2 c = (λ l. rw (c .before .before .w2 .given .1) (c .release .ensures .0 l), c .release .ensures .1)
 
 pub request-done-spec : {M : Type 1} → statement M
-request-done-spec =
-    tie.close (tie.spec enum-known-w enum-known-w-2 release-requires returns returns-2)
+request-done-spec = tie.close (tie.spec enum-known-w enum-known-w-2 release-requires returns returns-2)

@@ -25,5 +25,4 @@ unfolding requestNext followed _>>=_ word outcome byte flag hicrRead request res
 returns-2 c = (λ l. rw (c .before .before .n2 .given .1) (c .request-done .ensures .0 l), λ m h. c .request-done .ensures .1 m)
 
 pub requesting-spec : {M : Type 1} → statement M
-requesting-spec =
-    tie.close (tie.spec enum-known-n enum-known-n-2 request-done-requires returns returns-2)
+requesting-spec = tie.close (tie.spec enum-known-n enum-known-n-2 request-done-requires returns returns-2)

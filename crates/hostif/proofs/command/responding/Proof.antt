@@ -25,5 +25,4 @@ unfolding responseNext followed _>>=_ word outcome byte flag hicrRead request re
 returns-2 c = (λ l. rw (c .before .before .n2 .given .1) (c .release .ensures .0 l), λ m h. c .release .ensures .1 m)
 
 pub responding-spec : {M : Type 1} → statement M
-responding-spec =
-    tie.close (tie.spec enum-known-n enum-known-n-2 release-requires returns returns-2)
+responding-spec = tie.close (tie.spec enum-known-n enum-known-n-2 release-requires returns returns-2)

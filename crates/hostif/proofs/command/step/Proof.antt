@@ -63,22 +63,6 @@ returns-4 c = (rw (c .before .before .before .s4 .given .1) (over _ _ (c .releas
 
 pub step-spec : {M : Type 1} → statement M
 step-spec =
-    tie.close
-    (tie.spec
-    enum-known-s
-    step-requires
-    acquiring-requires
-    enum-known-s-2
-    step-requires-2
-    requesting-requires
-    enum-known-s-3
-    step-requires-3
-    responding-requires
-    enum-known-s-4
-    step-requires-4
-    releasing-requires
-    returns
-    returns-2
-    same-length
-    returns-3
-    returns-4)
+    tie.close (tie.spec enum-known-s step-requires acquiring-requires enum-known-s-2 step-requires-2
+    requesting-requires enum-known-s-3 step-requires-3 responding-requires enum-known-s-4 step-requires-4
+    releasing-requires returns returns-2 same-length returns-3 returns-4)

@@ -46,17 +46,5 @@ returns-4 c = rw (c .before .before .s4 .given .1) (c .valid4 .ensures)
 
 pub valid-spec : {M : Type 1} → statement M
 valid-spec =
-    tie.close
-    (tie.spec
-    enum-known-s
-    valid-requires
-    enum-known-s-2
-    valid-requires-2
-    enum-known-s-3
-    valid-requires-3
-    enum-known-s-4
-    valid-requires-4
-    returns
-    returns-2
-    returns-3
-    returns-4)
+    tie.close (tie.spec enum-known-s valid-requires enum-known-s-2 valid-requires-2 enum-known-s-3 valid-requires-3
+    enum-known-s-4 valid-requires-4 returns returns-2 returns-3 returns-4)

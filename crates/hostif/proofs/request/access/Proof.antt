@@ -68,24 +68,6 @@ returns-5 c = rw (c .before .before .before .s4 .given .1, ← c .before .watch 
 
 pub access-spec : {M : Type 1} → statement M
 access-spec =
-    tie.close
-    (tie.spec
-    enum-known-s
-    fwri-requires
-    access-requires
-    enum-told
-    enum-known-s-2
-    cast-address
-    mul-address
-    add-address
-    cast-word-at
-    word-at-requires
-    enum-known-s-3
-    enum-known-s-4
-    watch-requires
-    access-requires-2
-    returns
-    returns-2
-    returns-3
-    returns-4
-    returns-5)
+    tie.close (tie.spec enum-known-s fwri-requires access-requires enum-told enum-known-s-2 cast-address mul-address
+    add-address cast-word-at word-at-requires enum-known-s-3 enum-known-s-4 watch-requires access-requires-2 returns
+    returns-2 returns-3 returns-4 returns-5)

@@ -38,13 +38,5 @@ returns-4 c = (λ l. rw (c .before .w2 .given .1), λ m. refl)
 
 pub complete-spec : {M : Type 1} → statement M
 complete-spec =
-    tie.close
-    (tie.spec
-    enum-known-w
-    none-of-requires
-    none-of-requires-2
-    returns
-    returns-2
-    enum-known-w-2
-    returns-3
+    tie.close (tie.spec enum-known-w none-of-requires none-of-requires-2 returns returns-2 enum-known-w-2 returns-3
     returns-4)

@@ -33,6 +33,4 @@ unfolding requestNext updateNext followed _>>=_ erase orErr word outcome start e
 returns-3 c = (λ l. rw (c .before .before .before .before .n2 .given .1, c .before .o .given .1), λ m. refl)
 
 pub fwsts-spec : {M : Type 1} → statement M
-fwsts-spec =
-    tie.close
-    (tie.spec enum-known-n enum-known-n-2 enum-told enum-known-o returns returns-2 returns-3)
+fwsts-spec = tie.close (tie.spec enum-known-n enum-known-n-2 enum-told enum-known-o returns returns-2 returns-3)

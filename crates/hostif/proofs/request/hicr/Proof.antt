@@ -36,6 +36,4 @@ unfolding requestNext erase orErr word start enabled hicrRead request change acc
 returns-4 c = (λ l h. rw (c .before .w2 .given .1), refl)
 
 pub hicr-spec : {M : Type 1} → statement M
-hicr-spec =
-    tie.close
-    (tie.spec enum-known-w none-of-requires returns returns-2 enum-known-w-2 returns-3 returns-4)
+hicr-spec = tie.close (tie.spec enum-known-w none-of-requires returns returns-2 enum-known-w-2 returns-3 returns-4)

@@ -33,6 +33,4 @@ unfolding requestNext erase orErr word outcome start enabled hicrRead request ch
 returns-2 c = (λ l. rw (c .before .o .given .1), λ m. refl)
 
 pub started-spec : {M : Type 1} → statement M
-started-spec =
-    tie.close
-    (tie.spec enum-told watch-requires open-requires poll-requires enum-known-o returns returns-2)
+started-spec = tie.close (tie.spec enum-told watch-requires open-requires poll-requires enum-known-o returns returns-2)

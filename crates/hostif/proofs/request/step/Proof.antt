@@ -78,27 +78,6 @@ returns-5 c = (λ l h. rw (c .before .before .before .before .s4 .given .1) (ove
 
 pub step-spec : {M : Type 1} → statement M
 step-spec =
-    tie.close
-    (tie.spec
-    enum-known-s
-    fwri-requires
-    step-requires
-    fwsts-requires
-    enum-told
-    read-requires
-    hicr-requires
-    enum-known-s-2
-    write-requires
-    written-requires
-    enum-known-s-3
-    write-requires-2
-    started-requires
-    enum-known-s-4
-    watch-requires
-    step-requires-2
-    poll-requires
-    returns
-    returns-2
-    returns-3
-    returns-4
-    returns-5)
+    tie.close (tie.spec enum-known-s fwri-requires step-requires fwsts-requires enum-told read-requires hicr-requires
+    enum-known-s-2 write-requires written-requires enum-known-s-3 write-requires-2 started-requires enum-known-s-4
+    watch-requires step-requires-2 poll-requires returns returns-2 returns-3 returns-4 returns-5)

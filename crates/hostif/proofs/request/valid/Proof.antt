@@ -48,17 +48,5 @@ returns-5 c = rw (c .before .before .s2 .given .1) (c .valid .ensures)
 
 pub valid-spec : {M : Type 1} → statement M
 valid-spec =
-    tie.close
-    (tie.spec
-    enum-told
-    enum-told-2
-    enum-known-s
-    cast-result
-    enum-told-3
-    enum-known-s-2
-    valid-requires
-    returns
-    returns-2
-    returns-3
-    returns-4
-    returns-5)
+    tie.close (tie.spec enum-told enum-told-2 enum-known-s cast-result enum-told-3 enum-known-s-2 valid-requires
+    returns returns-2 returns-3 returns-4 returns-5)

@@ -36,5 +36,4 @@ unfolding requestNext erase orErr word outcome start enabled hicrRead request ch
 returns-3 c = (λ l h. rw (c .before .o .given .1), refl)
 
 pub written-spec : {M : Type 1} → statement M
-written-spec =
-    tie.close (tie.spec enum-told add-if1 add-t10 returns enum-known-o returns-2 returns-3)
+written-spec = tie.close (tie.spec enum-told add-if1 add-t10 returns enum-known-o returns-2 returns-3)

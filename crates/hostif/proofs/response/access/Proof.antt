@@ -31,6 +31,4 @@ unfolding accessResponse
 returns-2 c = rw (c .before .before .s .given .1, ← c .place .ensures)
 
 pub access-spec : {M : Type 1} → statement M
-access-spec =
-    tie.close
-    (tie.spec enum-told enum-known-s place-requires cast-t6 mul-t7 add-t8 returns returns-2)
+access-spec = tie.close (tie.spec enum-told enum-known-s place-requires cast-t6 mul-t7 add-t8 returns returns-2)

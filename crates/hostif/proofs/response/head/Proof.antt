@@ -54,18 +54,5 @@ returns-3 c = (rw (c .before .w2 .given .1), refl)
 
 pub head-spec : {M : Type 1} → statement M
 head-spec =
-    tie.close
-    (tie.spec
-    enum-known-w
-    mul-if1
-    len-requires
-    cast-if1
-    add-if1
-    returns
-    store-requires
-    words-requires
-    more-requires
-    enum-known-w-2
-    same-length
-    returns-2
-    returns-3)
+    tie.close (tie.spec enum-known-w mul-if1 len-requires cast-if1 add-if1 returns store-requires words-requires
+    more-requires enum-known-w-2 same-length returns-2 returns-3)

@@ -38,14 +38,5 @@ returns-2 c = (rw (c .before .w2 .given .1), λ h k. refl)
 
 pub rest-spec : {M : Type 1} → statement M
 rest-spec =
-    tie.close
-    (tie.spec
-    enum-known-w
-    place-requires
-    cast-store
-    store-requires
-    more-requires
-    enum-known-w-2
-    same-length
-    returns
-    returns-2)
+    tie.close (tie.spec enum-known-w place-requires cast-store store-requires more-requires enum-known-w-2
+    same-length returns returns-2)

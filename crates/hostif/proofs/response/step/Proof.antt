@@ -39,15 +39,5 @@ returns-2 c = (rw (c .before .before .before .before .before .before .s2 .given 
 
 pub step-spec : {M : Type 1} → statement M
 step-spec =
-    tie.close
-    (tie.spec
-    enum-known-s
-    read-raw-requires
-    head-requires
-    enum-known-s-2
-    read-raw-requires-2
-    rest-requires
-    same-length
-    returns
-    same-length-2
-    returns-2)
+    tie.close (tie.spec enum-known-s read-raw-requires head-requires enum-known-s-2 read-raw-requires-2 rest-requires
+    same-length returns same-length-2 returns-2)

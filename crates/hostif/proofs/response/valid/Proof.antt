@@ -31,6 +31,4 @@ unfolding validResponse pick
 returns-3 c = rw (c .before .before .before .s .given .1, ← c .before .words .ensures, le-ltb _ _ (c .if1 .left))
 
 pub valid-spec : {M : Type 1} → statement M
-valid-spec =
-    tie.close
-    (tie.spec enum-told enum-known-s words-requires cast-result returns returns-2 returns-3)
+valid-spec = tie.close (tie.spec enum-told enum-known-s words-requires cast-result returns returns-2 returns-3)

@@ -22,5 +22,4 @@ unfolding token tokenBlock
 returns c = (rw (← c .before .before .before .header .ensures, ← c .before .before .second .ensures) (over _ _ (c .commanded .ensures .0) (c .before .«open» .ensures .0 _)), c .commanded .ensures .1 (c .before .«open» .ensures .1 2))
 
 pub open-spec : {M : Type 1} → statement M
-open-spec =
-    tie.close (tie.spec header-requires second-requires open-requires commanded-requires returns)
+open-spec = tie.close (tie.spec header-requires second-requires open-requires commanded-requires returns)

@@ -34,6 +34,4 @@ unfolding byte flag tokenStatus tokened header validToken
 returns-5 c = rw (c .before .s2 .given .1)
 
 pub status-spec : {M : Type 1} → statement M
-status-spec =
-    tie.close
-    (tie.spec enum-known-s returns returns-2 enum-known-s-2 returns-3 returns-4 returns-5)
+status-spec = tie.close (tie.spec enum-known-s returns returns-2 enum-known-s-2 returns-3 returns-4 returns-5)

@@ -28,11 +28,5 @@ returns c = (over _ _ (c .commanded .ensures .0) (ap (commandNext _ _) (two-word
 
 pub step-spec : {M : Type 1} → statement M
 step-spec =
-    tie.close
-    (tie.spec
-    slice-aggregate-step
-    step-requires
-    array-read-commanded
-    array-read-commanded-2
-    commanded-requires
-    returns)
+    tie.close (tie.spec slice-aggregate-step step-requires array-read-commanded array-read-commanded-2
+    commanded-requires returns)

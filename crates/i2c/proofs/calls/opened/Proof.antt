@@ -54,17 +54,5 @@ returns-4 c = record { yields = rw (← c .before .before .before .open-port .en
 
 pub opened-spec : {M : Type 1} → statement M
 opened-spec =
-    tie.close
-    (tie.spec
-    open-port-requires
-    enum-known-p
-    even-requires
-    cast-tries
-    tries-requires
-    open-requires
-    told-requires
-    returns
-    returns-2
-    enum-known-q
-    returns-3
-    returns-4)
+    tie.close (tie.spec open-port-requires enum-known-p even-requires cast-tries tries-requires open-requires
+    told-requires returns returns-2 enum-known-q returns-3 returns-4)

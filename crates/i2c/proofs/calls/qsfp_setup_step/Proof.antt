@@ -60,18 +60,5 @@ returns-3 c = rw (c .enum-told2 .given .1) (record { yields = refl; limits = tt 
 
 pub qsfp-setup-step-spec : {M : Type 1} → statement M
 qsfp-setup-step-spec =
-    tie.close
-    (tie.spec
-    enum-known-s
-    setup-bus-requires
-    access-requires
-    admit-requires
-    enum-told
-    setup-bus-requires-2
-    step-requires
-    setup-told-requires
-    enum-known-q
-    enum-told-2
-    returns
-    returns-2
-    returns-3)
+    tie.close (tie.spec enum-known-s setup-bus-requires access-requires admit-requires enum-told setup-bus-requires-2
+    step-requires setup-told-requires enum-known-q enum-told-2 returns returns-2 returns-3)

@@ -26,6 +26,4 @@ unfolding saidSetup updateNext standsSetup
 returns-2 c = record { yields = rw (c .before .n2 .given .1); limits = tt }
 
 pub setup-told-spec : {M : Type 1} → statement M
-setup-told-spec =
-    tie.close
-    (tie.spec enum-known-n setup-bus-requires access-requires enum-known-n-2 returns returns-2)
+setup-told-spec = tie.close (tie.spec enum-known-n setup-bus-requires access-requires enum-known-n-2 returns returns-2)

@@ -37,12 +37,5 @@ returns-2 c = rw (c .before .before .n2 .given .1, c .value .ensures) (record { 
 
 pub told-spec : {M : Type 1} → statement M
 told-spec =
-    tie.close
-    (tie.spec
-    enum-known-n
-    access-requires
-    meter-on-requires
-    enum-known-n-2
-    value-requires
-    returns
+    tie.close (tie.spec enum-known-n access-requires meter-on-requires enum-known-n-2 value-requires returns
     returns-2)

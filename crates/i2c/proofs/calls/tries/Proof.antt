@@ -33,6 +33,4 @@ unfolding triesOf
 returns-4 c = rw (c .enum-told4 .given .1)
 
 pub tries-spec : {M : Type 1} → statement M
-tries-spec =
-    tie.close
-    (tie.spec enum-told enum-told-2 enum-told-3 enum-told-4 returns returns-2 returns-3 returns-4)
+tries-spec = tie.close (tie.spec enum-told enum-told-2 enum-told-3 enum-told-4 returns returns-2 returns-3 returns-4)

@@ -23,6 +23,4 @@ unfolding validCall pick
 returns-2 c = rw (← c .before .valid-port .ensures, c .if1 .left)
 
 pub valid-spec : {M : Type 1} → statement M
-valid-spec =
-    tie.close
-    (tie.spec valid-port-requires limit-requires valid-request-requires returns returns-2)
+valid-spec = tie.close (tie.spec valid-port-requires limit-requires valid-request-requires returns returns-2)

@@ -62,21 +62,6 @@ returns-5 c = rw (c .before .before .before .s3 .given .1) (rw (c .before .give-
 
 pub access-spec : {M : Type 1} → statement M
 access-spec =
-    tie.close
-    (tie.spec
-    enum-known-s
-    ask-bus-requires
-    access-requires
-    enum-told
-    enum-told-2
-    delay-ms-requires
-    enum-known-s-2
-    access-requires-2
-    enum-known-s-3
-    give-bus-requires
-    access-requires-3
-    returns
-    returns-2
-    returns-3
-    returns-4
-    returns-5)
+    tie.close (tie.spec enum-known-s ask-bus-requires access-requires enum-told enum-told-2 delay-ms-requires
+    enum-known-s-2 access-requires-2 enum-known-s-3 give-bus-requires access-requires-3 returns returns-2 returns-3
+    returns-4 returns-5)

@@ -40,13 +40,4 @@ returns-3 c = record { yields = λ how. rw (c .before .before .before .before .n
 
 pub asked-spec : {M : Type 1} → statement M
 asked-spec =
-    tie.close
-    (tie.spec
-    enum-known-n
-    enum-known-n-2
-    enum-told
-    grant-requires
-    enum-known-o
-    returns
-    returns-2
-    returns-3)
+    tie.close (tie.spec enum-known-n enum-known-n-2 enum-told grant-requires enum-known-o returns returns-2 returns-3)

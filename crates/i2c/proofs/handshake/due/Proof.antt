@@ -53,19 +53,5 @@ returns-5 c = rw (c .enum-told .given .1)
 
 pub due-spec : {M : Type 1} → statement M
 due-spec =
-    tie.close
-    (tie.spec
-    enum-known-s
-    wanted-requires
-    enum-known-s-2
-    wanted-requires-2
-    enum-known-s-3
-    wanted-requires-3
-    enum-known-s-4
-    due-requires
-    enum-told
-    returns
-    returns-2
-    returns-3
-    returns-4
-    returns-5)
+    tie.close (tie.spec enum-known-s wanted-requires enum-known-s-2 wanted-requires-2 enum-known-s-3
+    wanted-requires-3 enum-known-s-4 due-requires enum-told returns returns-2 returns-3 returns-4 returns-5)

@@ -35,6 +35,4 @@ unfolding handshakeNext followed _>>=_ orErr outcome erase got validHandshakeNex
 returns-3 c = record { yields = λ port r how. rw (c .before .before .before .before .n2 .given .1, c .before .o .given .1); limits = λ most port r. refl; due = λ r. refl }
 
 pub given-spec : {M : Type 1} → statement M
-given-spec =
-    tie.close
-    (tie.spec enum-known-n enum-known-n-2 enum-told enum-known-o returns returns-2 returns-3)
+given-spec = tie.close (tie.spec enum-known-n enum-known-n-2 enum-told enum-known-o returns returns-2 returns-3)

@@ -40,15 +40,5 @@ returns-4 c = rw (c .enum-told4 .given .1)
 
 pub has-handshake-spec : {M : Type 1} → statement M
 has-handshake-spec =
-    tie.close
-    (tie.spec
-    enum-told
-    qsfp-requires
-    enum-told-2
-    qsfp-requires-2
-    enum-told-3
-    enum-told-4
-    returns
-    returns-2
-    returns-3
-    returns-4)
+    tie.close (tie.spec enum-told qsfp-requires enum-told-2 qsfp-requires-2 enum-told-3 enum-told-4 returns returns-2
+    returns-3 returns-4)

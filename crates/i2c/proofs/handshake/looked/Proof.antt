@@ -39,12 +39,4 @@ returns-3 c = record { yields = rw (c .before .w2 .given .1); limits = λ most h
 
 pub looked-spec : {M : Type 1} → statement M
 looked-spec =
-    tie.close
-    (tie.spec
-    enum-known-w
-    none-of-requires
-    returns
-    enter-requires
-    enum-known-w-2
-    returns-2
-    returns-3)
+    tie.close (tie.spec enum-known-w none-of-requires returns enter-requires enum-known-w-2 returns-2 returns-3)

@@ -79,26 +79,6 @@ returns-5 c = rw (c .before .before .before .before .s5 .given .1) (record { yie
 
 pub step-spec : {M : Type 1} → statement M
 step-spec =
-    tie.close
-    (tie.spec
-    enum-known-s
-    ask-bus-requires
-    step-requires
-    asked-requires
-    enum-known-s-2
-    read-requires
-    looked-requires
-    enum-known-s-3
-    grant-requires
-    enum-known-s-4
-    step-requires-2
-    inside-requires
-    enum-known-s-5
-    give-bus-requires
-    step-requires-3
-    given-requires
-    returns
-    returns-2
-    returns-3
-    returns-4
-    returns-5)
+    tie.close (tie.spec enum-known-s ask-bus-requires step-requires asked-requires enum-known-s-2 read-requires
+    looked-requires enum-known-s-3 grant-requires enum-known-s-4 step-requires-2 inside-requires enum-known-s-5
+    give-bus-requires step-requires-3 given-requires returns returns-2 returns-3 returns-4 returns-5)

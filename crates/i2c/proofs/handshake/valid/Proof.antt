@@ -53,19 +53,5 @@ returns-5 c = rw (c .enum-told .given .1)
 
 pub valid-spec : {M : Type 1} → statement M
 valid-spec =
-    tie.close
-    (tie.spec
-    enum-known-s
-    allows-requires
-    enum-known-s-2
-    valid-looks-requires
-    enum-known-s-3
-    valid-looks-requires-2
-    enum-known-s-4
-    valid-requires
-    enum-told
-    returns
-    returns-2
-    returns-3
-    returns-4
-    returns-5)
+    tie.close (tie.spec enum-known-s allows-requires enum-known-s-2 valid-looks-requires enum-known-s-3
+    valid-looks-requires-2 enum-known-s-4 valid-requires enum-told returns returns-2 returns-3 returns-4 returns-5)

@@ -34,13 +34,5 @@ returns-4 c = rw (c .before .r4 .given .1)
 
 pub device-spec : {M : Type 1} → statement M
 device-spec =
-    tie.close
-    (tie.spec
-    enum-known-r
-    enum-known-r-2
-    enum-known-r-3
-    enum-known-r-4
-    returns
-    returns-2
-    returns-3
+    tie.close (tie.spec enum-known-r enum-known-r-2 enum-known-r-3 enum-known-r-4 returns returns-2 returns-3
     returns-4)

@@ -72,25 +72,7 @@ returns-4 c = record { yields = rw (c .before .before .before .before .r4 .given
 
 pub step-spec : {M : Type 1} → statement M
 step-spec =
-    tie.close
-    (tie.spec
-    enum-known-r
-    read-byte-script-requires
-    slice-aggregate-step
-    step-requires
-    enum-known-r-2
-    write-byte-script-requires
-    slice-aggregate-step-2
-    step-requires-2
-    enum-known-r-3
-    read-combined-script-requires
-    slice-aggregate-step-3
-    step-requires-3
-    enum-known-r-4
-    write-combined-script-requires
-    slice-aggregate-step-4
-    step-requires-4
-    returns
-    returns-2
-    returns-3
-    returns-4)
+    tie.close (tie.spec enum-known-r read-byte-script-requires slice-aggregate-step step-requires enum-known-r-2
+    write-byte-script-requires slice-aggregate-step-2 step-requires-2 enum-known-r-3 read-combined-script-requires
+    slice-aggregate-step-3 step-requires-3 enum-known-r-4 write-combined-script-requires slice-aggregate-step-4
+    step-requires-4 returns returns-2 returns-3 returns-4)

@@ -70,25 +70,7 @@ returns-4 c = rw (c .before .before .before .before .r4 .given .1, ← c .before
 
 pub valid-spec : {M : Type 1} → statement M
 valid-spec =
-    tie.close
-    (tie.spec
-    enum-known-r
-    read-byte-script-requires
-    slice-aggregate-valid
-    valid-requires
-    enum-known-r-2
-    write-byte-script-requires
-    slice-aggregate-valid-2
-    valid-requires-2
-    enum-known-r-3
-    read-combined-script-requires
-    slice-aggregate-valid-3
-    valid-requires-3
-    enum-known-r-4
-    write-combined-script-requires
-    slice-aggregate-valid-4
-    valid-requires-4
-    returns
-    returns-2
-    returns-3
-    returns-4)
+    tie.close (tie.spec enum-known-r read-byte-script-requires slice-aggregate-valid valid-requires enum-known-r-2
+    write-byte-script-requires slice-aggregate-valid-2 valid-requires-2 enum-known-r-3 read-combined-script-requires
+    slice-aggregate-valid-3 valid-requires-3 enum-known-r-4 write-combined-script-requires slice-aggregate-valid-4
+    valid-requires-4 returns returns-2 returns-3 returns-4)

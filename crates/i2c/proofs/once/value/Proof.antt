@@ -52,18 +52,5 @@ returns-5 c = rw (c .before .g2 .given .1)
 
 pub value-spec : {M : Type 1} → statement M
 value-spec =
-    tie.close
-    (tie.spec
-    enum-known-g
-    enum-told
-    cast-t7
-    enum-told-2
-    enum-told-3
-    combined-requires
-    enum-told-4
-    enum-known-g-2
-    returns
-    returns-2
-    returns-3
-    returns-4
-    returns-5)
+    tie.close (tie.spec enum-known-g enum-told cast-t7 enum-told-2 enum-told-3 combined-requires enum-told-4
+    enum-known-g-2 returns returns-2 returns-3 returns-4 returns-5)

@@ -58,20 +58,6 @@ returns-4 c = rw (c .before .enum-told .given .1) (ap (λ n. Wait (micros n)) (c
 
 pub access-spec : {M : Type 1} → statement M
 access-spec =
-    tie.close
-    (tie.spec
-    enum-known-stage
-    mask-requires
-    access-requires
-    enum-known-stage-2
-    layout-of-requires
-    access-requires-2
-    enum-known-stage-3
-    mask-requires-2
-    access-requires-3
-    enum-told
-    delay-ms-requires
-    returns
-    returns-2
-    returns-3
-    returns-4)
+    tie.close (tie.spec enum-known-stage mask-requires access-requires enum-known-stage-2 layout-of-requires
+    access-requires-2 enum-known-stage-3 mask-requires-2 access-requires-3 enum-told delay-ms-requires returns
+    returns-2 returns-3 returns-4)

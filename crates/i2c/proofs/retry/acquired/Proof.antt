@@ -42,13 +42,4 @@ returns-3 c = record { yields = λ port r how. rw (c .before .before .before .be
 
 pub acquired-spec : {M : Type 1} → statement M
 acquired-spec =
-    tie.close
-    (tie.spec
-    enum-known-n
-    enum-known-n-2
-    enum-told
-    begin-requires
-    enum-known-o
-    returns
-    returns-2
-    returns-3)
+    tie.close (tie.spec enum-known-n enum-known-n-2 enum-told begin-requires enum-known-o returns returns-2 returns-3)

@@ -23,6 +23,4 @@ returns-2 : tie.Need-returns-2
 returns-2 c = record { yields = c .give-back .ensures .yields ∙ ap erase (read-done (c .before .before .before .args .port) (c .before .before .before .args .r) (c .before .before .before .args .how) (c .before .before .before .args .left) (got (c .before .before .before .args .g)) (sym (c .before .before .is-write .ensures) ∙ c .before .if1 .left)); limits = c .give-back .ensures .limits; due = c .give-back .ensures .due }
 
 pub after-try-spec : {M : Type 1} → statement M
-after-try-spec =
-    tie.close
-    (tie.spec is-write-requires after-write-requires returns give-back-requires returns-2)
+after-try-spec = tie.close (tie.spec is-write-requires after-write-requires returns give-back-requires returns-2)

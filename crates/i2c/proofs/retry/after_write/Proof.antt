@@ -34,13 +34,5 @@ returns-3 c = record { yields = λ w. c .give-back2 .ensures .yields ∙ ap eras
 
 pub after-write-spec : {M : Type 1} → statement M
 after-write-spec =
-    tie.close
-    (tie.spec
-    failed-requires
-    give-back-requires
-    returns
-    sub-begin
-    begin-requires
-    returns-2
-    give-back-requires-2
-    returns-3)
+    tie.close (tie.spec failed-requires give-back-requires returns sub-begin begin-requires returns-2
+    give-back-requires-2 returns-3)

@@ -50,18 +50,5 @@ returns-4 c = rw (c .before .enum-told4 .given .1)
 
 pub due-spec : {M : Type 1} → statement M
 due-spec =
-    tie.close
-    (tie.spec
-    enum-told
-    cast-result
-    add-result
-    enum-told-2
-    cast-result-2
-    enum-told-3
-    cast-result-3
-    enum-told-4
-    cast-result-4
-    returns
-    returns-2
-    returns-3
-    returns-4)
+    tie.close (tie.spec enum-told cast-result add-result enum-told-2 cast-result-2 enum-told-3 cast-result-3
+    enum-told-4 cast-result-4 returns returns-2 returns-3 returns-4)

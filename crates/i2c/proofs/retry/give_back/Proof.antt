@@ -34,11 +34,4 @@ returns-2 c = record { yields = c .after-release .ensures .yields ∙ ap erase (
 
 pub give-back-spec : {M : Type 1} → statement M
 give-back-spec =
-    tie.close
-    (tie.spec
-    mask-requires
-    open-requires
-    released-requires
-    returns
-    after-release-requires
-    returns-2)
+    tie.close (tie.spec mask-requires open-requires released-requires returns after-release-requires returns-2)

@@ -36,5 +36,4 @@ unfolding readJudged pick retryNext erase validRetryNext dueRetryNext
 returns-3 c = record { yields = λ w. rw (← c .before .failed .ensures, c .if1 .left); limits = λ tries h. refl; due = omega arith }
 
 pub judge-spec : {M : Type 1} → statement M
-judge-spec =
-    tie.close (tie.spec failed-requires pauses-requires returns again-requires returns-2 returns-3)
+judge-spec = tie.close (tie.spec failed-requires pauses-requires returns again-requires returns-2 returns-3)

@@ -37,5 +37,4 @@ returns-2 c = record { yields = λ r. c .begin .ensures .yields (c .before .befo
 
 pub locked-spec : {M : Type 1} → statement M
 locked-spec =
-    tie.close
-    (tie.spec mask-requires tries-requires open-requires acquired-requires returns begin-requires returns-2)
+    tie.close (tie.spec mask-requires tries-requires open-requires acquired-requires returns begin-requires returns-2)

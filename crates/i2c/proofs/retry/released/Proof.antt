@@ -42,13 +42,5 @@ returns-3 c = record { yields = rw (c .before .before .before .before .n2 .given
 
 pub released-spec : {M : Type 1} → statement M
 released-spec =
-    tie.close
-    (tie.spec
-    enum-known-n
-    enum-known-n-2
-    enum-told
-    after-release-requires
-    enum-known-o
-    returns
-    returns-2
+    tie.close (tie.spec enum-known-n enum-known-n-2 enum-told after-release-requires enum-known-o returns returns-2
     returns-3)

@@ -68,23 +68,6 @@ returns-4 c = rw (c .before .enum-told .given .1) (record { yields = c .again .e
 
 pub step-spec : {M : Type 1} → statement M
 step-spec =
-    tie.close
-    (tie.spec
-    enum-known-stage
-    mask-requires
-    step-requires
-    acquired-requires
-    enum-known-stage-2
-    layout-of-requires
-    step-requires-2
-    tried-requires
-    enum-known-stage-3
-    mask-requires-2
-    step-requires-3
-    released-requires
-    enum-told
-    again-requires
-    returns
-    returns-2
-    returns-3
-    returns-4)
+    tie.close (tie.spec enum-known-stage mask-requires step-requires acquired-requires enum-known-stage-2
+    layout-of-requires step-requires-2 tried-requires enum-known-stage-3 mask-requires-2 step-requires-3
+    released-requires enum-told again-requires returns returns-2 returns-3 returns-4)

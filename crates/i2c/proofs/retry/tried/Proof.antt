@@ -37,12 +37,4 @@ returns-3 c = record { yields = rw (c .before .before .n3 .given .1) (c .after-t
 
 pub tried-spec : {M : Type 1} → statement M
 tried-spec =
-    tie.close
-    (tie.spec
-    enum-known-n
-    enum-known-n-2
-    enum-known-n-3
-    after-try-requires
-    returns
-    returns-2
-    returns-3)
+    tie.close (tie.spec enum-known-n enum-known-n-2 enum-known-n-3 after-try-requires returns returns-2 returns-3)

@@ -46,17 +46,5 @@ returns-4 c = rw (c .enum-told .given .1)
 
 pub valid-stage-spec : {M : Type 1} → statement M
 valid-stage-spec =
-    tie.close
-    (tie.spec
-    enum-known-stage
-    valid-requires
-    enum-known-stage-2
-    layout-of-requires
-    valid-requires-2
-    enum-known-stage-3
-    valid-requires-3
-    enum-told
-    returns
-    returns-2
-    returns-3
-    returns-4)
+    tie.close (tie.spec enum-known-stage valid-requires enum-known-stage-2 layout-of-requires valid-requires-2
+    enum-known-stage-3 valid-requires-3 enum-told returns returns-2 returns-3 returns-4)

@@ -36,6 +36,4 @@ unfolding openIdentify andThen portOpened saidIdentify standsIdentify
 returns-2 c = record { yields = rw (← c .before .before .before .open-port .ensures, c .before .q .given .1); limits = tt }
 
 pub identify-open-spec : {M : Type 1} → statement M
-identify-open-spec =
-    tie.close
-    (tie.spec open-port-requires enum-known-p opened-requires enum-known-q returns returns-2)
+identify-open-spec = tie.close (tie.spec open-port-requires enum-known-p opened-requires enum-known-q returns returns-2)

@@ -37,5 +37,4 @@ returns-2 c = record { yields = rw (← c .before .before .before .open-port .en
 
 pub identify-qsfp-open-spec : {M : Type 1} → statement M
 identify-qsfp-open-spec =
-    tie.close
-    (tie.spec open-port-requires enum-known-p opened-requires enum-known-q returns returns-2)
+    tie.close (tie.spec open-port-requires enum-known-p opened-requires enum-known-q returns returns-2)

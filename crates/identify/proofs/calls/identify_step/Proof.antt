@@ -61,17 +61,5 @@ returns-3 c = rw (c .enum-told2 .given .1) (record { yields = refl; limits = tt 
 
 pub identify-step-spec : {M : Type 1} → statement M
 identify-step-spec =
-    tie.close
-    (tie.spec
-    enum-known-s
-    valid-requires
-    access-requires
-    admit-requires
-    enum-told
-    step-requires
-    told-requires
-    enum-known-n
-    enum-told-2
-    returns
-    returns-2
-    returns-3)
+    tie.close (tie.spec enum-known-s valid-requires access-requires admit-requires enum-told step-requires
+    told-requires enum-known-n enum-told-2 returns returns-2 returns-3)

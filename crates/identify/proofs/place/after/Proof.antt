@@ -29,5 +29,4 @@ unfolding toldAt valued got valueOf
 returns-2 c = record { yields = λ q port. rw (c .before .before .g2 .given .1) (c .failed .ensures .yields q port _); limits = λ port h. c .failed .ensures .limits port _ }
 
 pub after-spec : {M : Type 1} → statement M
-after-spec =
-    tie.close (tie.spec enum-known-g on-requires enum-known-g-2 failed-requires returns returns-2)
+after-spec = tie.close (tie.spec enum-known-g on-requires enum-known-g-2 failed-requires returns returns-2)

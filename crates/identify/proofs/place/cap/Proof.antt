@@ -36,14 +36,5 @@ returns c = rw (c .before .before .before .readings .ensures, c .before .before 
 
 pub cap-spec : {M : Type 1} → statement M
 cap-spec =
-    tie.close
-    (tie.spec
-    readings-requires
-    cast-result
-    mul-result
-    row-at-requires
-    cast-result-2
-    attempts-requires
-    mul-result-2
-    add-result
-    returns)
+    tie.close (tie.spec readings-requires cast-result mul-result row-at-requires cast-result-2 attempts-requires
+    mul-result-2 add-result returns)

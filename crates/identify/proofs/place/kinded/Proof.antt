@@ -27,5 +27,4 @@ unfolding restThen Later triesAt validPlace pick capAt most
 returns-2 c = record { yields = λ q port. kinded-open q port _ _ (sym (c .before .before .coded .ensures) ∙ c .enum-told .given .1); limits = λ port n h. (refl, h) }
 
 pub kinded-spec : {M : Type 1} → statement M
-kinded-spec =
-    tie.close (tie.spec coded-requires enum-known-kind found-requires enum-told returns returns-2)
+kinded-spec = tie.close (tie.spec coded-requires enum-known-kind found-requires enum-told returns returns-2)

@@ -141,45 +141,9 @@ returns-14 c = rw (c .before .before .p11 .given .1) (record { yields = c .after
 
 pub on-spec : {M : Type 1} → statement M
 on-spec =
-    tie.close
-    (tie.spec
-    enum-known-p
-    after-identifier-requires
-    enum-told
-    enum-known-p-2
-    enum-known-p-3
-    after-cable-requires
-    enum-known-p-4
-    after-rate-requires
-    enum-known-p-5
-    enum-known-p-6
-    reach-requires
-    kinded-requires
-    enum-known-p-7
-    cable-of-requires
-    found-requires
-    enum-told-2
-    after-qsfp-identifier-requires
-    enum-told-3
-    enum-known-p-8
-    qsfp-codes-requires
-    enum-known-p-9
-    after-connector-requires
-    enum-known-p-10
-    after-length-requires
-    enum-known-p-11
-    after-technology-requires
-    returns
-    returns-2
-    returns-3
-    returns-4
-    returns-5
-    returns-6
-    returns-7
-    returns-8
-    returns-9
-    returns-10
-    returns-11
-    returns-12
-    returns-13
-    returns-14)
+    tie.close (tie.spec enum-known-p after-identifier-requires enum-told enum-known-p-2 enum-known-p-3
+    after-cable-requires enum-known-p-4 after-rate-requires enum-known-p-5 enum-known-p-6 reach-requires
+    kinded-requires enum-known-p-7 cable-of-requires found-requires enum-told-2 after-qsfp-identifier-requires
+    enum-told-3 enum-known-p-8 qsfp-codes-requires enum-known-p-9 after-connector-requires enum-known-p-10
+    after-length-requires enum-known-p-11 after-technology-requires returns returns-2 returns-3 returns-4 returns-5
+    returns-6 returns-7 returns-8 returns-9 returns-10 returns-11 returns-12 returns-13 returns-14)

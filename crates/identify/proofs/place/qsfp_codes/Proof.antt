@@ -28,6 +28,4 @@ unfolding restThen Later triesAt validPlace pick capAt most
 returns-2 c = record { yields = λ q port. qsfp-open q port _ _ (sym (c .before .before .coded .ensures) ∙ c .enum-told .given .1); limits = λ port. (refl, omega arith) }
 
 pub qsfp-codes-spec : {M : Type 1} → statement M
-qsfp-codes-spec =
-    tie.close
-    (tie.spec coded-requires enum-known-kind qsfp-found-requires enum-told returns returns-2)
+qsfp-codes-spec = tie.close (tie.spec coded-requires enum-known-kind qsfp-found-requires enum-told returns returns-2)

@@ -50,6 +50,4 @@ returns-2 c =
     }
 
 pub begin-spec : {M : Type 1} → statement M
-begin-spec =
-    tie.close
-    (tie.spec request-requires tries-requires open-requires enum-known-k enum-told returns returns-2)
+begin-spec = tie.close (tie.spec request-requires tries-requires open-requires enum-known-k enum-told returns returns-2)

@@ -34,12 +34,4 @@ returns-3 c = rw (c .before .t3 .given .1) (record { yields = refl; limits = λ 
 
 pub conclude-spec : {M : Type 1} → statement M
 conclude-spec =
-    tie.close
-    (tie.spec
-    enum-known-t
-    begin-requires
-    enum-known-t-2
-    enum-known-t-3
-    returns
-    returns-2
-    returns-3)
+    tie.close (tie.spec enum-known-t begin-requires enum-known-t-2 enum-known-t-3 returns returns-2 returns-3)

@@ -33,13 +33,5 @@ returns-2 c = rw (← c .before .valid .ensures, c .if1 .left)
 
 pub valid-spec : {M : Type 1} → statement M
 valid-spec =
-    tie.close
-    (tie.spec
-    valid-requires
-    request-requires
-    tries-requires
-    cast-valid-request
-    cap-requires
-    valid-request-requires
-    returns
-    returns-2)
+    tie.close (tie.spec valid-requires request-requires tries-requires cast-valid-request cap-requires
+    valid-request-requires returns returns-2)

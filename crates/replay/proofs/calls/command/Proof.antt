@@ -25,11 +25,5 @@ returns-2 c = search needs
 
 pub command-spec : {M : Type 1} → statement M
 command-spec =
-    tie.close
-    (tie.spec
-    unended-requires
-    returns
-    array-borrow-prefix-block
-    slice-aggregate-command-in
-    command-in-requires
-    returns-2)
+    tie.close (tie.spec unended-requires returns array-borrow-prefix-block slice-aggregate-command-in
+    command-in-requires returns-2)

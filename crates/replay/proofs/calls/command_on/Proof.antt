@@ -70,26 +70,6 @@ returns-3 c = search needs
 
 pub command-on-spec : {M : Type 1} → statement M
 command-on-spec =
-    tie.close
-    (tie.spec
-    Inv-loop
-    μ-loop
-    command-open-requires
-    loop-holds
-    enum-known-told
-    answer-requires
-    command-step-requires
-    enum-known-told-2
-    of-byte-requires
-    same-length
-    returns
-    enum-told
-    unended-requires
-    same-length-2
-    returns-2
-    sub-left
-    loop-less
-    loop-again
-    unended-requires-2
-    same-length-3
-    returns-3)
+    tie.close (tie.spec Inv-loop μ-loop command-open-requires loop-holds enum-known-told answer-requires
+    command-step-requires enum-known-told-2 of-byte-requires same-length returns enum-told unended-requires
+    same-length-2 returns-2 sub-left loop-less loop-again unended-requires-2 same-length-3 returns-3)

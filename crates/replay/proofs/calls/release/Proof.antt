@@ -59,23 +59,6 @@ returns-3 c = search needs
 
 pub release-spec : {M : Type 1} → statement M
 release-spec =
-    tie.close
-    (tie.spec
-    Inv-loop
-    μ-loop
-    release-open-requires
-    loop-holds
-    enum-known-told
-    answer-requires
-    release-step-requires
-    enum-known-told-2
-    of-outcome-requires
-    returns
-    enum-told
-    unended-requires
-    returns-2
-    sub-left
-    loop-less
-    loop-again
-    unended-requires-2
-    returns-3)
+    tie.close (tie.spec Inv-loop μ-loop release-open-requires loop-holds enum-known-told answer-requires
+    release-step-requires enum-known-told-2 of-outcome-requires returns enum-told unended-requires returns-2 sub-left
+    loop-less loop-again unended-requires-2 returns-3)

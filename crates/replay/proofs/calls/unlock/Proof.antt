@@ -59,23 +59,6 @@ returns-3 c = search needs
 
 pub unlock-spec : {M : Type 1} → statement M
 unlock-spec =
-    tie.close
-    (tie.spec
-    Inv-loop
-    μ-loop
-    unlock-open-requires
-    loop-holds
-    enum-known-told
-    answer-requires
-    unlock-step-requires
-    enum-known-told-2
-    of-outcome-requires
-    returns
-    enum-told
-    unended-requires
-    returns-2
-    sub-left
-    loop-less
-    loop-again
-    unended-requires-2
-    returns-3)
+    tie.close (tie.spec Inv-loop μ-loop unlock-open-requires loop-holds enum-known-told answer-requires
+    unlock-step-requires enum-known-told-2 of-outcome-requires returns enum-told unended-requires returns-2 sub-left
+    loop-less loop-again unended-requires-2 returns-3)

@@ -35,15 +35,5 @@ returns c = search needs
 
 pub reads-spec : {M : Type 1} → statement M
 reads-spec =
-    tie.close
-    (tie.spec
-    Inv-loop
-    μ-loop
-    addressed-requires
-    loop-holds
-    put-requires
-    sub-left
-    loop-less
-    loop-again
-    put-requires-2
-    returns)
+    tie.close (tie.spec Inv-loop μ-loop addressed-requires loop-holds put-requires sub-left loop-less loop-again
+    put-requires-2 returns)

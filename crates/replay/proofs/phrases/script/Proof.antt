@@ -35,15 +35,5 @@ returns c = search needs
 
 pub script-spec : {M : Type 1} → statement M
 script-spec =
-    tie.close
-    (tie.spec
-    Inv-loop
-    μ-loop
-    begun-requires
-    loop-holds
-    sub-phrase
-    phrase-requires
-    loop-less
-    loop-again
-    put-requires
-    returns)
+    tie.close (tie.spec Inv-loop μ-loop begun-requires loop-holds sub-phrase phrase-requires loop-less loop-again
+    put-requires returns)

@@ -32,14 +32,5 @@ returns c = search needs
 
 pub sends-spec : {M : Type 1} → statement M
 sends-spec =
-    tie.close
-    (tie.spec
-    Inv-loop
-    μ-loop
-    addressed-requires
-    loop-holds
-    sent-requires
-    sub-left
-    loop-less
-    loop-again
+    tie.close (tie.spec Inv-loop μ-loop addressed-requires loop-holds sent-requires sub-left loop-less loop-again
     returns)

@@ -45,17 +45,5 @@ returns c = search needs
 
 pub fill-spec : {M : Type 1} → statement M
 fill-spec =
-    tie.close
-    (tie.spec
-    Inv-loop
-    μ-loop
-    loop-holds
-    next-requires
-    swapped-requires
-    mul-block
-    slice-write-block
-    add-i
-    loop-less
-    loop-again
-    same-length
-    returns)
+    tie.close (tie.spec Inv-loop μ-loop loop-holds next-requires swapped-requires mul-block slice-write-block add-i
+    loop-less loop-again same-length returns)

@@ -37,15 +37,5 @@ returns c = search needs
 
 pub sum-spec : {M : Type 1} → statement M
 sum-spec =
-    tie.close
-    (tie.spec
-    Inv-loop
-    μ-loop
-    loop-holds
-    mul-fnv
-    shared-slice-read-fnv
-    fnv-requires
-    add-i
-    loop-less
-    loop-again
-    returns)
+    tie.close (tie.spec Inv-loop μ-loop loop-holds mul-fnv shared-slice-read-fnv fnv-requires add-i loop-less
+    loop-again returns)

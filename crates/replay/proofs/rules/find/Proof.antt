@@ -39,16 +39,5 @@ returns-2 c = search needs
 
 pub find-spec : {M : Type 1} → statement M
 find-spec =
-    tie.close
-    (tie.spec
-    Inv-loop
-    μ-loop
-    loop-holds
-    mul-rule
-    element-copy-out-rule
-    names-requires
-    returns
-    add-i
-    loop-less
-    loop-again
-    returns-2)
+    tie.close (tie.spec Inv-loop μ-loop loop-holds mul-rule element-copy-out-rule names-requires returns add-i
+    loop-less loop-again returns-2)

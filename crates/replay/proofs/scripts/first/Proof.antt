@@ -25,11 +25,4 @@ returns-2 c = search needs
 
 pub first-spec : {M : Type 1} → statement M
 first-spec =
-    tie.close
-    (tie.spec
-    array-share-prefix-bytes
-    slice-aggregate-run
-    run-requires
-    returns
-    unended-requires
-    returns-2)
+    tie.close (tie.spec array-share-prefix-bytes slice-aggregate-run run-requires returns unended-requires returns-2)

@@ -74,28 +74,7 @@ returns-3 c = search needs
 
 pub run-spec : {M : Type 1} → statement M
 run-spec =
-    tie.close
-    (tie.spec
-    Inv-loop
-    μ-loop
-    nothing-requires
-    script-open-requires
-    loop-holds
-    enum-known-told
-    answer-requires
-    script-step-requires
-    enum-known-told-2
-    fed-requires
-    answer-requires-2
-    script-step-requires-2
-    enum-known-told-3
-    ended-requires
-    returns
-    enum-told
-    unended-requires
-    returns-2
-    sub-left
-    loop-less
-    loop-again
-    unended-requires-2
-    returns-3)
+    tie.close (tie.spec Inv-loop μ-loop nothing-requires script-open-requires loop-holds enum-known-told
+    answer-requires script-step-requires enum-known-told-2 fed-requires answer-requires-2 script-step-requires-2
+    enum-known-told-3 ended-requires returns enum-told unended-requires returns-2 sub-left loop-less loop-again
+    unended-requires-2 returns-3)

@@ -56,22 +56,6 @@ returns-3 c = search needs
 
 pub run-spec : {M : Type 1} → statement M
 run-spec =
-    tie.close
-    (tie.spec
-    Inv-loop
-    μ-loop
-    loop-holds
-    enum-known-told
-    answer-requires
-    transfer-step-requires
-    enum-known-told-2
-    of-word-requires
-    returns
-    enum-told
-    unended-requires
-    returns-2
-    sub-left
-    loop-less
-    loop-again
-    unended-requires-2
-    returns-3)
+    tie.close (tie.spec Inv-loop μ-loop loop-holds enum-known-told answer-requires transfer-step-requires
+    enum-known-told-2 of-word-requires returns enum-told unended-requires returns-2 sub-left loop-less loop-again
+    unended-requires-2 returns-3)

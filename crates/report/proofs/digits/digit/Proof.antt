@@ -34,14 +34,4 @@ returns-7 c = above _ (omega arith)
 
 pub digit-spec : {M : Type 1} → statement M
 digit-spec =
-    tie.close
-    (tie.spec
-    add-result
-    add-result-2
-    returns
-    returns-2
-    returns-3
-    returns-4
-    returns-5
-    returns-6
-    returns-7)
+    tie.close (tie.spec add-result add-result-2 returns returns-2 returns-3 returns-4 returns-5 returns-6 returns-7)

@@ -34,14 +34,4 @@ unfolding moreOf
 returns-2 c = rw (← c .before .before .before .digit .ensures, c .before .most .ensures, le-ltb _ _ (c .if1 .left))
 
 pub more-spec : {M : Type 1} → statement M
-more-spec =
-    tie.close
-    (tie.spec
-    digit-requires
-    cast-most
-    mul-most
-    cast-most-2
-    add-most
-    most-requires
-    returns
-    returns-2)
+more-spec = tie.close (tie.spec digit-requires cast-most mul-most cast-most-2 add-most most-requires returns returns-2)

@@ -30,5 +30,4 @@ unfolding readOf pick
 returns-3 c = rw (c .run .ensures, lt-ltb 0 (length (c .before .before .before .before .args .text .now)) (omega arith), le-leb (length (c .before .before .before .before .args .text .now)) (c .before .before .before .before .args .limit) (omega arith))
 
 pub read-spec : {M : Type 1} → statement M
-read-spec =
-    tie.close (tie.spec bad-requires returns bad-requires-2 returns-2 run-requires returns-3)
+read-spec = tie.close (tie.spec bad-requires returns bad-requires-2 returns-2 run-requires returns-3)

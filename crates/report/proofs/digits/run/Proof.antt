@@ -39,14 +39,5 @@ returns c = sym (run-end (c .before .before .before .args .base) (c .before .loo
 
 pub run-spec : {M : Type 1} → statement M
 run-spec =
-    tie.close
-    (tie.spec
-    Inv-loop
-    μ-loop
-    loop-holds
-    shared-slice-read-more
-    more-requires
-    add-i
-    loop-less
-    loop-again
+    tie.close (tie.spec Inv-loop μ-loop loop-holds shared-slice-read-more more-requires add-i loop-less loop-again
     returns)

@@ -21,6 +21,4 @@ returns-2 : tie.Need-returns-2
 returns-2 c = search needs
 
 pub blanks-spec : {M : Type 1} → statement M
-blanks-spec =
-    tie.close
-    (tie.spec array-share-prefix-line slice-aggregate-text text-requires returns returns-2)
+blanks-spec = tie.close (tie.spec array-share-prefix-line slice-aggregate-text text-requires returns returns-2)

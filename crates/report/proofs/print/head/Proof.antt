@@ -29,6 +29,4 @@ returns : tie.Need-returns Inv-loop μ-loop
 returns c = search needs
 
 pub head-spec : {M : Type 1} → statement M
-head-spec =
-    tie.close
-    (tie.spec Inv-loop μ-loop loop-holds shown-at-requires add-i loop-less loop-again returns)
+head-spec = tie.close (tie.spec Inv-loop μ-loop loop-holds shown-at-requires add-i loop-less loop-again returns)

@@ -40,16 +40,5 @@ returns c = search needs
 
 pub sums-spec : {M : Type 1} → statement M
 sums-spec =
-    tie.close
-    (tie.spec
-    array-share-prefix-a0
-    slice-aggregate-sum
-    sum-requires
-    array-read-base
-    sub-sum
-    part-sum-start
-    part-sum-end
-    sum-requires-2
-    array-read-extended
-    text-of-sums-requires
-    returns)
+    tie.close (tie.spec array-share-prefix-a0 slice-aggregate-sum sum-requires array-read-base sub-sum part-sum-start
+    part-sum-end sum-requires-2 array-read-extended text-of-sums-requires returns)

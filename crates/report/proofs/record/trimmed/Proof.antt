@@ -37,15 +37,5 @@ returns-2 c = search needs
 
 pub trimmed-spec : {M : Type 1} → statement M
 trimmed-spec =
-    tie.close
-    (tie.spec
-    Inv-loop
-    μ-loop
-    loop-holds
-    sub-if1
-    shared-slice-read-if1
-    returns
-    sub-n
-    loop-less
-    loop-again
+    tie.close (tie.spec Inv-loop μ-loop loop-holds sub-if1 shared-slice-read-if1 returns sub-n loop-less loop-again
     returns-2)

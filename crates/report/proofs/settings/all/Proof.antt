@@ -36,15 +36,5 @@ returns c = search needs
 
 pub all-spec : {M : Type 1} → statement M
 all-spec =
-    tie.close
-    (tie.spec
-    Inv-loop
-    μ-loop
-    defaults-requires
-    wrong-requires
-    loop-holds
-    further-requires
-    add-place
-    loop-less
-    loop-again
-    returns)
+    tie.close (tie.spec Inv-loop μ-loop defaults-requires wrong-requires loop-holds further-requires add-place
+    loop-less loop-again returns)

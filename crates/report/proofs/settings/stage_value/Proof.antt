@@ -43,17 +43,5 @@ returns-3 c = search needs
 
 pub stage-value-spec : {M : Type 1} → statement M
 stage-value-spec =
-    tie.close
-    (tie.spec
-    find-requires
-    add-rest
-    sub-read
-    part-read-start
-    part-read-end
-    read-requires
-    slice-aggregate-counted
-    counted-requires
-    returns
-    returns-2
-    plain-requires
-    returns-3)
+    tie.close (tie.spec find-requires add-rest sub-read part-read-start part-read-end read-requires
+    slice-aggregate-counted counted-requires returns returns-2 plain-requires returns-3)

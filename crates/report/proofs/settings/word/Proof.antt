@@ -40,16 +40,5 @@ returns-2 c = search needs
 
 pub word-spec : {M : Type 1} → statement M
 word-spec =
-    tie.close
-    (tie.spec
-    find-requires
-    find-requires-2
-    add-rest
-    slice-aggregate-setting
-    sub-setting
-    part-setting-start
-    part-setting-end
-    setting-requires
-    returns
-    image-requires
-    returns-2)
+    tie.close (tie.spec find-requires find-requires-2 add-rest slice-aggregate-setting sub-setting part-setting-start
+    part-setting-end setting-requires returns image-requires returns-2)

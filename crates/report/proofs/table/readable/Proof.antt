@@ -33,14 +33,4 @@ returns-2 c = search needs
 
 pub readable-spec : {M : Type 1} → statement M
 readable-spec =
-    tie.close
-    (tie.spec
-    Inv-loop
-    μ-loop
-    loop-holds
-    shipped-requires
-    returns
-    add-n
-    loop-less
-    loop-again
-    returns-2)
+    tie.close (tie.spec Inv-loop μ-loop loop-holds shipped-requires returns add-n loop-less loop-again returns-2)

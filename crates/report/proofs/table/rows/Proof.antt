@@ -29,6 +29,4 @@ returns : tie.Need-returns Inv-loop μ-loop
 returns c = search needs
 
 pub rows-spec : {M : Type 1} → statement M
-rows-spec =
-    tie.close
-    (tie.spec Inv-loop μ-loop loop-holds shipped-requires add-n loop-less loop-again returns)
+rows-spec = tie.close (tie.spec Inv-loop μ-loop loop-holds shipped-requires add-n loop-less loop-again returns)

@@ -29,6 +29,4 @@ returns : tie.Need-returns Inv-loop μ-loop
 returns c = search needs
 
 pub tallied-spec : {M : Type 1} → statement M
-tallied-spec =
-    tie.close
-    (tie.spec Inv-loop μ-loop loop-holds counted-requires add-n loop-less loop-again returns)
+tallied-spec = tie.close (tie.spec Inv-loop μ-loop loop-holds counted-requires add-n loop-less loop-again returns)

@@ -40,13 +40,5 @@ returns-3 c = rw (drop-of-length-le (c .before .before .before .before .args .sc
 
 pub command-spec : {M : Type 1} → statement M
 command-spec =
-    tie.close
-    (tie.spec
-    sending-requires
-    add-t4
-    shared-slice-read-t6
-    returns
-    shared-slice-read-alone
-    alone-requires
-    returns-2
-    returns-3)
+    tie.close (tie.spec sending-requires add-t4 shared-slice-read-t6 returns shared-slice-read-alone alone-requires
+    returns-2 returns-3)

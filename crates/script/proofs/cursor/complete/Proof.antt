@@ -48,4 +48,6 @@ returns-2 : tie.Need-returns-2 Inv-loop μ-loop
 returns-2 c = sym (c .before .loop .inv .1 ∙ complete-past (c .before .before .before .args .script .now) (c .before .loop .at) (c .loop-test .left))
 
 pub complete-spec : {M : Type 1} → statement M
-complete-spec = tie.close (tie.spec Inv-loop μ-loop loop-holds known-requires returns next-requires loop-less loop-again returns-2)
+complete-spec =
+    tie.close (tie.spec Inv-loop μ-loop loop-holds known-requires returns next-requires loop-less loop-again
+    returns-2)

@@ -24,5 +24,4 @@ unfolding device firstAddress
 returns c = ap (λ a. a - a % 2) (c .operand .ensures ∙ ap operand (c .before .command .ensures ∙ ap (commandAt (c .before .before .before .before .args .script .now)) (c .before .before .next .ensures) ∙ sym (commands-second (c .before .before .before .before .args .script .now))))
 
 pub device-spec : {M : Type 1} → statement M
-device-spec =
-    tie.close (tie.spec next-requires command-requires operand-requires sub-result returns)
+device-spec = tie.close (tie.spec next-requires command-requires operand-requires sub-result returns)

@@ -49,19 +49,5 @@ returns-5 c = rw (c .enum-told3 .given .1) (sym (free-wrong _))
 
 pub follows-spec : {M : Type 1} → statement M
 follows-spec =
-    tie.close
-    (tie.spec
-    enum-told
-    started-requires
-    enum-known-c
-    sent-requires
-    enum-known-c-2
-    taken-requires
-    enum-told-2
-    stopped-requires
-    enum-told-3
-    returns
-    returns-2
-    returns-3
-    returns-4
-    returns-5)
+    tie.close (tie.spec enum-told started-requires enum-known-c sent-requires enum-known-c-2 taken-requires
+    enum-told-2 stopped-requires enum-told-3 returns returns-2 returns-3 returns-4 returns-5)

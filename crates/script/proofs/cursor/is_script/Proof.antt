@@ -50,4 +50,6 @@ returns c =
     c .closed .ensures ∙ ap atEnd (sym (at-loop .loop .inv .1 ∙ ap (walked (at-loop .loop .w)) none))
 
 pub is-script-spec : {M : Type 1} → statement M
-is-script-spec = tie.close (tie.spec Inv-loop μ-loop loop-holds command-requires follows-requires next-requires loop-less loop-again closed-requires returns)
+is-script-spec =
+    tie.close (tie.spec Inv-loop μ-loop loop-holds command-requires follows-requires next-requires loop-less
+    loop-again closed-requires returns)

@@ -33,12 +33,5 @@ returns-4 c = rw (← c .before .length-fits .ensures _ refl, c .if1 .left)
 
 pub judge-spec : {M : Type 1} → statement M
 judge-spec =
-    tie.close
-    (tie.spec
-    length-fits-requires
-    complete-requires
-    is-script-requires
-    returns
-    returns-2
-    returns-3
+    tie.close (tie.spec length-fits-requires complete-requires is-script-requires returns returns-2 returns-3
     returns-4)

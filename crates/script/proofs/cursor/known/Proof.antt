@@ -30,12 +30,4 @@ unfolding headKnown headSends single pick
 returns-3 c = rw (drop-of-length-le (c .before .before .before .before .args .script .now) (c .if2 .left))
 
 pub known-spec : {M : Type 1} → statement M
-known-spec =
-    tie.close
-    (tie.spec
-    sending-requires
-    returns
-    shared-slice-read-single
-    single-requires
-    returns-2
-    returns-3)
+known-spec = tie.close (tie.spec sending-requires returns shared-slice-read-single single-requires returns-2 returns-3)

@@ -32,5 +32,4 @@ unfolding nextAt headWidth
 returns-3 c = rw (drop-of-length-le (c .before .before .before .before .args .script .now) (c .if2 .left)) (sym (add-zero _))
 
 pub next-spec : {M : Type 1} → statement M
-next-spec =
-    tie.close (tie.spec sending-requires add-result returns add-result-2 returns-2 returns-3)
+next-spec = tie.close (tie.spec sending-requires add-result returns add-result-2 returns-2 returns-3)

@@ -61,20 +61,5 @@ returns-8 c = rw (c .enum-told7 .given .1)
 
 pub sent-spec : {M : Type 1} → statement M
 sent-spec =
-    tie.close
-    (tie.spec
-    enum-told
-    enum-told-2
-    returns
-    enum-told-3
-    enum-told-4
-    enum-told-5
-    enum-told-6
-    enum-told-7
-    returns-2
-    returns-3
-    returns-4
-    returns-5
-    returns-6
-    returns-7
-    returns-8)
+    tie.close (tie.spec enum-told enum-told-2 returns enum-told-3 enum-told-4 enum-told-5 enum-told-6 enum-told-7
+    returns-2 returns-3 returns-4 returns-5 returns-6 returns-7 returns-8)

@@ -21,5 +21,4 @@ unfolding readCheck checkByte onesSum onesSumFrom
 returns c = rw (c .ones-add .ensures, c .before .low .ensures, c .before .before .high-read .ensures)
 
 pub read-check-spec : {M : Type 1} → statement M
-read-check-spec =
-    tie.close (tie.spec high-read-requires low-requires ones-add-requires sub-result returns)
+read-check-spec = tie.close (tie.spec high-read-requires low-requires ones-add-requires sub-result returns)

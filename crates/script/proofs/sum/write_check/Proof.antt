@@ -34,14 +34,5 @@ returns c = rw (c .ones-add3 .ensures, c .before .low2 .ensures, c .before .befo
 
 pub write-check-spec : {M : Type 1} → statement M
 write-check-spec =
-    tie.close
-    (tie.spec
-    high-write-requires
-    low-requires
-    ones-add-requires
-    high-requires
-    ones-add-requires-2
-    low-requires-2
-    ones-add-requires-3
-    sub-result
-    returns)
+    tie.close (tie.spec high-write-requires low-requires ones-add-requires high-requires ones-add-requires-2
+    low-requires-2 ones-add-requires-3 sub-result returns)

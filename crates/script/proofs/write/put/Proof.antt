@@ -46,4 +46,6 @@ returns : tie.Need-returns Inv-loop μ-loop
 returns c = put-all (c .before .before .args .script .now) (c .before .before .args .buffer .now) (c .before .loop .i) (c .loop-test .left) (c .before .loop .inv .0) (c .before .loop .inv .1)
 
 pub put-spec : {M : Type 1} → statement M
-put-spec = tie.close (tie.spec Inv-loop μ-loop loop-holds shared-slice-read-buffer slice-write-buffer add-i loop-less loop-again same-length returns)
+put-spec =
+    tie.close (tie.spec Inv-loop μ-loop loop-holds shared-slice-read-buffer slice-write-buffer add-i loop-less
+    loop-again same-length returns)

@@ -18,5 +18,4 @@ unfolding readCombinedScript
 returns c = rw (c .read-check .ensures, c .before .low .ensures, c .before .before .high-read .ensures)
 
 pub read-combined-script-spec : {M : Type 1} → statement M
-read-combined-script-spec =
-    tie.close (tie.spec high-read-requires low-requires read-check-requires returns)
+read-combined-script-spec = tie.close (tie.spec high-read-requires low-requires read-check-requires returns)

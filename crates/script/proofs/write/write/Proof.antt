@@ -28,5 +28,4 @@ unfolding writeScript wroteAs pick
 returns-3 c = rw (← c .before .even .ensures, c .if1 .left)
 
 pub write-spec : {M : Type 1} → statement M
-write-spec =
-    tie.close (tie.spec even-requires put-requires same-length returns returns-2 returns-3)
+write-spec = tie.close (tie.spec even-requires put-requires same-length returns returns-2 returns-3)

@@ -25,11 +25,4 @@ returns c = rw (c .write-check .ensures, c .before .low2 .ensures, c .before .be
 
 pub write-combined-script-spec : {M : Type 1} → statement M
 write-combined-script-spec =
-    tie.close
-    (tie.spec
-    high-write-requires
-    low-requires
-    high-requires
-    low-requires-2
-    write-check-requires
-    returns)
+    tie.close (tie.spec high-write-requires low-requires high-requires low-requires-2 write-check-requires returns)

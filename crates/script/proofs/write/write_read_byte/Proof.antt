@@ -20,5 +20,4 @@ returns c = rw (← c .before .before .before .before .before .read-byte-script 
 
 pub write-read-byte-spec : {M : Type 1} → statement M
 write-read-byte-spec =
-    tie.close
-    (tie.spec read-byte-script-requires slice-aggregate-write write-requires same-length returns)
+    tie.close (tie.spec read-byte-script-requires slice-aggregate-write write-requires same-length returns)

@@ -20,10 +20,4 @@ returns c = rw (← c .before .before .before .before .before .read-combined-scr
 
 pub write-read-combined-spec : {M : Type 1} → statement M
 write-read-combined-spec =
-    tie.close
-    (tie.spec
-    read-combined-script-requires
-    slice-aggregate-write
-    write-requires
-    same-length
-    returns)
+    tie.close (tie.spec read-combined-script-requires slice-aggregate-write write-requires same-length returns)

@@ -20,5 +20,4 @@ returns c = rw (← c .before .before .before .before .before .write-byte-script
 
 pub write-write-byte-spec : {M : Type 1} → statement M
 write-write-byte-spec =
-    tie.close
-    (tie.spec write-byte-script-requires slice-aggregate-write write-requires same-length returns)
+    tie.close (tie.spec write-byte-script-requires slice-aggregate-write write-requires same-length returns)

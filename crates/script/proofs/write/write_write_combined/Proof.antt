@@ -20,10 +20,4 @@ returns c = rw (← c .before .before .before .before .before .write-combined-sc
 
 pub write-write-combined-spec : {M : Type 1} → statement M
 write-write-combined-spec =
-    tie.close
-    (tie.spec
-    write-combined-script-requires
-    slice-aggregate-write
-    write-requires
-    same-length
-    returns)
+    tie.close (tie.spec write-combined-script-requires slice-aggregate-write write-requires same-length returns)

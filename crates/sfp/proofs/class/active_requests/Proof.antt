@@ -25,5 +25,4 @@ unfolding asksActive sfpBytes pick
 returns-3 c = rw (← c .before .none-of .ensures, c .if1 .left)
 
 pub active-requests-spec : {M : Type 1} → statement M
-active-requests-spec =
-    tie.close (tie.spec none-of-requires has-requires returns returns-2 returns-3)
+active-requests-spec = tie.close (tie.spec none-of-requires has-requires returns returns-2 returns-3)

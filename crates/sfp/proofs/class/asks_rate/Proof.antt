@@ -24,5 +24,4 @@ unfolding codesAskRate
 returns-3 c = rw (ne-eqb _ _ (c .if1 .left))
 
 pub asks-rate-spec : {M : Type 1} → statement M
-asks-rate-spec =
-    tie.close (tie.spec none-of-requires none-of-requires-2 returns returns-2 returns-3)
+asks-rate-spec = tie.close (tie.spec none-of-requires none-of-requires-2 returns returns-2 returns-3)

@@ -27,5 +27,4 @@ unfolding asksReach sfpBytes pick
 returns-3 c = rw (← rate-asked (sfpBytes (c .before .before .before .args .b)) (c .before .asks-rate .ensures) (c .before .before .codes .ensures), c .if1 .left)
 
 pub bx-requests-spec : {M : Type 1} → statement M
-bx-requests-spec =
-    tie.close (tie.spec codes-requires asks-rate-requires returns returns-2 returns-3)
+bx-requests-spec = tie.close (tie.spec codes-requires asks-rate-requires returns returns-2 returns-3)

@@ -26,5 +26,4 @@ unfolding classOf sfpBytes pick
 returns-2 c = rw (ne-eqb _ _ (c .if1 .left))
 
 pub class-spec : {M : Type 1} → statement M
-class-spec =
-    tie.close (tie.spec codes-requires kind-of-requires recorded-requires returns returns-2)
+class-spec = tie.close (tie.spec codes-requires kind-of-requires recorded-requires returns returns-2)

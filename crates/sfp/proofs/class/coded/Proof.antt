@@ -27,5 +27,4 @@ unfolding codedBy pick
 returns-3 c = rw (← c .before .before .before .before .has .ensures, c .before .before .before .if1 .left, ← c .before .before .has2 .ensures, c .before .if2 .left, c .fibre .ensures)
 
 pub coded-spec : {M : Type 1} → statement M
-coded-spec =
-    tie.close (tie.spec has-requires returns has-requires-2 returns-2 fibre-requires returns-3)
+coded-spec = tie.close (tie.spec has-requires returns has-requires-2 returns-2 fibre-requires returns-3)

@@ -50,17 +50,5 @@ returns-7 c = rw (← c .before .before .before .before .before .before .before 
 
 pub fibre-spec : {M : Type 1} → statement M
 fibre-spec =
-    tie.close
-    (tie.spec
-    has-requires
-    returns
-    has-requires-2
-    returns-2
-    has-requires-3
-    returns-3
-    has-requires-4
-    returns-4
-    returns-5
-    has-requires-5
-    returns-6
-    returns-7)
+    tie.close (tie.spec has-requires returns has-requires-2 returns-2 has-requires-3 returns-3 has-requires-4
+    returns-4 returns-5 has-requires-5 returns-6 returns-7)

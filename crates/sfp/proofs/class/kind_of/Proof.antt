@@ -34,13 +34,5 @@ returns-2 c = c .cable-of .ensures ∙ (rw (c .before .enum-told .given .1) at (
 
 pub kind-of-spec : {M : Type 1} → statement M
 kind-of-spec =
-    tie.close
-    (tie.spec
-    codes-requires
-    bx10g-requires
-    coded-requires
-    enum-known-kind
-    enum-told
-    cable-of-requires
-    returns
-    returns-2)
+    tie.close (tie.spec codes-requires bx10g-requires coded-requires enum-known-kind enum-told cable-of-requires
+    returns returns-2)

@@ -26,6 +26,4 @@ unfolding recorded
 returns-3 c = rw (← c .before .before .before .before .both .ensures, c .before .before .before .if1 .left, ← c .before .before .both2 .ensures, c .before .if2 .left) (c .is-cable .ensures)
 
 pub multispeed-spec : {M : Type 1} → statement M
-multispeed-spec =
-    tie.close
-    (tie.spec both-requires returns both-requires-2 returns-2 is-cable-requires returns-3)
+multispeed-spec = tie.close (tie.spec both-requires returns both-requires-2 returns-2 is-cable-requires returns-3)

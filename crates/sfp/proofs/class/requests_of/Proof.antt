@@ -31,11 +31,4 @@ returns-2 c = rw (ne-eqb _ _ (c .if1 .left))
 
 pub requests-of-spec : {M : Type 1} → statement M
 requests-of-spec =
-    tie.close
-    (tie.spec
-    bx-requests-requires
-    add-result
-    active-requests-requires
-    add-result-2
-    returns
-    returns-2)
+    tie.close (tie.spec bx-requests-requires add-result active-requests-requires add-result-2 returns returns-2)

@@ -30,5 +30,4 @@ unfolding keyOf pick
 returns-3 c = rw (← c .before .known .ensures, c .if1 .left)
 
 pub nvm-key-spec : {M : Type 1} → statement M
-nvm-key-spec =
-    tie.close (tie.spec known-requires linear-requires add-t6 returns add-t7 returns-2 returns-3)
+nvm-key-spec = tie.close (tie.spec known-requires linear-requires add-t6 returns add-t7 returns-2 returns-3)

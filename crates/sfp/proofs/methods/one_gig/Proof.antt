@@ -34,13 +34,5 @@ returns-4 c = rw (← c .before .before .before .before .before .before .same .e
 
 pub one-gig-spec : {M : Type 1} → statement M
 one-gig-spec =
-    tie.close
-    (tie.spec
-    same-requires
-    returns
-    same-requires-2
-    returns-2
-    same-requires-3
-    returns-3
-    same-requires-4
+    tie.close (tie.spec same-requires returns same-requires-2 returns-2 same-requires-3 returns-3 same-requires-4
     returns-4)

@@ -28,5 +28,4 @@ unfolding isSupported
 returns-3 c = rw (← c .before .known .ensures, c .if1 .left)
 
 pub supported-spec : {M : Type 1} → statement M
-supported-spec =
-    tie.close (tie.spec known-requires same-requires x550em-requires returns returns-2 returns-3)
+supported-spec = tie.close (tie.spec known-requires same-requires x550em-requires returns returns-2 returns-3)

@@ -26,6 +26,4 @@ unfolding pick
 returns-3 c = rw (← c .before .fixed .ensures, c .if1 .left)
 
 pub cabled-spec : {M : Type 1} → statement M
-cabled-spec =
-    tie.close
-    (tie.spec fixed-requires measured-requires cable-of-requires returns returns-2 returns-3)
+cabled-spec = tie.close (tie.spec fixed-requires measured-requires cable-of-requires returns returns-2 returns-3)

@@ -31,6 +31,4 @@ unfolding qsfpCoded pick
 returns-4 c = rw (← c .before .before .before .before .before .has .ensures, c .before .before .before .before .if1 .left, ← c .before .before .before .has2 .ensures, c .before .before .if2 .left, ← c .before .has3 .ensures, c .if3 .left)
 
 pub coded-spec : {M : Type 1} → statement M
-coded-spec =
-    tie.close
-    (tie.spec has-requires returns has-requires-2 returns-2 has-requires-3 returns-3 returns-4)
+coded-spec = tie.close (tie.spec has-requires returns has-requires-2 returns-2 has-requires-3 returns-3 returns-4)

@@ -28,5 +28,4 @@ unfolding qsfpBytes pick
 returns-2 c = c .cabled .ensures ∙ (rw (c .before .enum-told .given .1) at (qsfp-coded-kind (qsfpBytes (c .before .before .before .before .args .b)) (c .before .before .before .coded .ensures)))
 
 pub kind-of-spec : {M : Type 1} → statement M
-kind-of-spec =
-    tie.close (tie.spec coded-requires enum-known-kind enum-told cabled-requires returns returns-2)
+kind-of-spec = tie.close (tie.spec coded-requires enum-known-kind enum-told cabled-requires returns returns-2)

@@ -39,14 +39,5 @@ returns c = omega (arith, total-end (c .before .before .before .args .bytes .now
 
 pub sum-spec : {M : Type 1} → statement M
 sum-spec =
-    tie.close
-    (tie.spec
-    Inv-loop
-    μ-loop
-    loop-holds
-    shared-slice-read-wrapping-add-u8
-    wrapping-add-u8-requires
-    add-i
-    loop-less
-    loop-again
-    returns)
+    tie.close (tie.spec Inv-loop μ-loop loop-holds shared-slice-read-wrapping-add-u8 wrapping-add-u8-requires add-i
+    loop-less loop-again returns)

@@ -32,5 +32,4 @@ returns-2 c = record { yields = rw (← c .before .before .before .open-port .en
 
 pub soft-rate-select-open-spec : {M : Type 1} → statement M
 soft-rate-select-open-spec =
-    tie.close
-    (tie.spec open-port-requires enum-known-p opened-requires enum-known-q returns returns-2)
+    tie.close (tie.spec open-port-requires enum-known-p opened-requires enum-known-q returns returns-2)

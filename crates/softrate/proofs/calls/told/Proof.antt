@@ -31,6 +31,4 @@ unfolding saidRate rateNext tally standsRate
 returns-2 c = rw (c .before .n2 .given .1) (record { yields = λ h. refl; limits = λ p v. tt })
 
 pub told-spec : {M : Type 1} → statement M
-told-spec =
-    tie.close
-    (tie.spec enum-known-n access-requires meter-on-requires enum-known-n-2 returns returns-2)
+told-spec = tie.close (tie.spec enum-known-n access-requires meter-on-requires enum-known-n-2 returns returns-2)

@@ -29,12 +29,4 @@ returns-2 c = rw (c .before .before .before .p .given .1, c .before .offset2 .en
 
 pub requested-spec : {M : Type 1} → statement M
 requested-spec =
-    tie.close
-    (tie.spec
-    enum-told
-    offset-requires
-    enum-known-p
-    offset-requires-2
-    selected-requires
-    returns
-    returns-2)
+    tie.close (tie.spec enum-told offset-requires enum-known-p offset-requires-2 selected-requires returns returns-2)

@@ -27,5 +27,4 @@ unfolding triesAt
 returns-2 c = rw (c .enum-told2 .given .1)
 
 pub tries-spec : {M : Type 1} → statement M
-tries-spec =
-    tie.close (tie.spec enum-told attempts-requires cast-result enum-told-2 returns returns-2)
+tries-spec = tie.close (tie.spec enum-told attempts-requires cast-result enum-told-2 returns returns-2)

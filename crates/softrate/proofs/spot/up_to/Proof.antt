@@ -31,12 +31,4 @@ returns-2 c = rw (c .before .enum-told2 .given .1, c .attempts2 .ensures)
 
 pub up-to-spec : {M : Type 1} → statement M
 up-to-spec =
-    tie.close
-    (tie.spec
-    enum-told
-    attempts-requires
-    enum-told-2
-    attempts-requires-2
-    add-result
-    returns
-    returns-2)
+    tie.close (tie.spec enum-told attempts-requires enum-told-2 attempts-requires-2 add-result returns returns-2)

@@ -28,5 +28,4 @@ unfolding got
 returns-2 c = record { yields = rw (c .before .before .g2 .given .1) (c .failed .ensures .yields); limits = λ m v h. c .failed .ensures .limits m h }
 
 pub concluded-spec : {M : Type 1} → statement M
-concluded-spec =
-    tie.close (tie.spec enum-known-g on-requires enum-known-g-2 failed-requires returns returns-2)
+concluded-spec = tie.close (tie.spec enum-known-g on-requires enum-known-g-2 failed-requires returns returns-2)

@@ -29,5 +29,4 @@ unfolding onPlace
 returns-2 c = record { yields = rw (c .before .enum-told2 .given .1) (c .next-byte .ensures .yields); limits = λ m v h. c .next-byte .ensures .limits m (omega (arith, h, cap-done (c .before .before .before .args .port) (c .before .before .before .args .s))) }
 
 pub on-spec : {M : Type 1} → statement M
-on-spec =
-    tie.close (tie.spec enum-told begin-requires enum-told-2 next-byte-requires returns returns-2)
+on-spec = tie.close (tie.spec enum-told begin-requires enum-told-2 next-byte-requires returns returns-2)

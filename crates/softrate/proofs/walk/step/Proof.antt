@@ -16,12 +16,12 @@ request-requires c κs = search needs
 step-requires : tie.Need-step-requires
 step-requires c κs = search needs
 
-moved-requires : tie.Need-moved-requires
-moved-requires c κs = search needs
+from-request-requires : tie.Need-from-request-requires
+from-request-requires c κs = search needs
 
 returns : tie.Need-returns
 unfolding restRate restRequest toldAt validRate
-returns c = record { yields = over _ _ (c .moved .ensures .yields) (rw (← c .before .before .request .ensures) (c .before .step .ensures .yields)); limits = λ m h. c .moved .ensures .limits m (picked-first (validSpot (c .before .before .before .before .args .s .spot)) _ h) (rw (← c .before .before .request .ensures) (c .before .step .ensures .limits _ (rw (c .before .before .request .ensures) (valid-fits _ _ _ _ _ _ (picked-second (validSpot (c .before .before .before .before .args .s .spot)) _ h) .counters)))) (omega (arith, (rw (c .before .before .request .ensures) at (c .before .step .ensures .due)), (valid-fits _ _ _ _ _ _ (picked-second (validSpot (c .before .before .before .before .args .s .spot)) _ h) .all))) }
+returns c = record { yields = over _ _ (c .from-request .ensures .yields) (rw (← c .before .before .request .ensures) (c .before .step .ensures .yields)); limits = λ m h. c .from-request .ensures .limits m (picked-first (validSpot (c .before .before .before .before .args .s .spot)) _ h) (rw (← c .before .before .request .ensures) (c .before .step .ensures .limits _ (rw (c .before .before .request .ensures) (valid-fits _ _ _ _ _ _ (picked-second (validSpot (c .before .before .before .before .args .s .spot)) _ h) .counters)))) (omega (arith, (rw (c .before .before .request .ensures) at (c .before .step .ensures .due)), (valid-fits _ _ _ _ _ _ (picked-second (validSpot (c .before .before .before .before .args .s .spot)) _ h) .all))) }
 
 pub step-spec : {M : Type 1} → statement M
-step-spec = tie.close (tie.spec request-requires step-requires moved-requires returns)
+step-spec = tie.close (tie.spec request-requires step-requires from-request-requires returns)

@@ -35,6 +35,4 @@ unfolding acquireBitsNext lockNext followed _>>=_ erase orErr outcome accessUpda
 returns-3 c = (rw (c .before .before .before .before .n2 .given .1, c .before .o .given .1), λ h v. refl)
 
 pub locking-spec : {M : Type 1} → statement M
-locking-spec =
-    tie.close
-    (tie.spec enum-known-n enum-known-n-2 enum-told enum-known-o returns returns-2 returns-3)
+locking-spec = tie.close (tie.spec enum-known-n enum-known-n-2 enum-told enum-known-o returns returns-2 returns-3)

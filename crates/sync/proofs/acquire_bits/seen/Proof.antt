@@ -48,17 +48,5 @@ returns-3 c = (rw (c .before .before .before .w2 .given .1) (over _ _ (c .taking
 
 pub seen-spec : {M : Type 1} → statement M
 seen-spec =
-    tie.close
-    (tie.spec
-    enum-known-w
-    all-requires
-    none-of-requires
-    bits-requires
-    returns
-    open-requires
-    unlocking-requires
-    enum-known-w-2
-    open-requires-2
-    taking-requires
-    returns-2
-    returns-3)
+    tie.close (tie.spec enum-known-w all-requires none-of-requires bits-requires returns open-requires
+    unlocking-requires enum-known-w-2 open-requires-2 taking-requires returns-2 returns-3)

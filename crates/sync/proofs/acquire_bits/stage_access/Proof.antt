@@ -79,27 +79,7 @@ returns-7 c = rw (c .before .enum-told2 .given .1, ← c .delay-ms .ensures)
 
 pub stage-access-spec : {M : Type 1} → statement M
 stage-access-spec =
-    tie.close
-    (tie.spec
-    enum-known-s
-    access-requires
-    enum-told
-    regs-requires
-    enum-known-s-2
-    regs-requires-2
-    enum-known-s-3
-    access-requires-2
-    enum-known-s-4
-    set-mux-requires
-    access-requires-3
-    enum-known-s-5
-    access-requires-4
-    enum-told-2
-    delay-ms-requires
-    returns
-    returns-2
-    returns-3
-    returns-4
-    returns-5
-    returns-6
+    tie.close (tie.spec enum-known-s access-requires enum-told regs-requires enum-known-s-2 regs-requires-2
+    enum-known-s-3 access-requires-2 enum-known-s-4 set-mux-requires access-requires-3 enum-known-s-5
+    access-requires-4 enum-told-2 delay-ms-requires returns returns-2 returns-3 returns-4 returns-5 returns-6
     returns-7)

@@ -103,34 +103,7 @@ returns-7 c = (rw (c .before .before .s5 .given .1) (c .open2 .ensures .0), λ h
 
 pub stage-step-spec : {M : Type 1} → statement M
 stage-step-spec =
-    tie.close
-    (tie.spec
-    enum-known-s
-    step-requires
-    locking-requires
-    enum-told
-    read-requires
-    seen-requires
-    enum-told-2
-    write-requires
-    open-requires
-    taking-requires
-    enum-known-s-2
-    step-requires-2
-    taking-requires-2
-    enum-known-s-3
-    set-mux-requires
-    step-requires-3
-    muxing-requires
-    enum-known-s-4
-    step-requires-4
-    unlocking-requires
-    enum-known-s-5
-    open-requires-2
-    returns
-    returns-2
-    returns-3
-    returns-4
-    returns-5
-    returns-6
-    returns-7)
+    tie.close (tie.spec enum-known-s step-requires locking-requires enum-told read-requires seen-requires enum-told-2
+    write-requires open-requires taking-requires enum-known-s-2 step-requires-2 taking-requires-2 enum-known-s-3
+    set-mux-requires step-requires-3 muxing-requires enum-known-s-4 step-requires-4 unlocking-requires enum-known-s-5
+    open-requires-2 returns returns-2 returns-3 returns-4 returns-5 returns-6 returns-7)

@@ -59,20 +59,5 @@ returns-7 c = rw (c .enum-told6 .given .1)
 
 pub stage-valid-spec : {M : Type 1} → statement M
 stage-valid-spec =
-    tie.close
-    (tie.spec
-    enum-known-s
-    valid-requires
-    enum-told
-    enum-told-2
-    enum-told-3
-    enum-told-4
-    enum-told-5
-    enum-told-6
-    returns
-    returns-2
-    returns-3
-    returns-4
-    returns-5
-    returns-6
-    returns-7)
+    tie.close (tie.spec enum-known-s valid-requires enum-told enum-told-2 enum-told-3 enum-told-4 enum-told-5
+    enum-told-6 returns returns-2 returns-3 returns-4 returns-5 returns-6 returns-7)

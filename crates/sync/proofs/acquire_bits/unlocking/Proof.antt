@@ -35,6 +35,4 @@ unfolding acquireBitsNext unlockNext followed _>>=_ erase orErr outcome accessUp
 returns-3 c = (rw (c .before .before .before .before .n2 .given .1, c .before .o .given .1), λ h. refl)
 
 pub unlocking-spec : {M : Type 1} → statement M
-unlocking-spec =
-    tie.close
-    (tie.spec enum-known-n enum-known-n-2 enum-told enum-known-o returns returns-2 returns-3)
+unlocking-spec = tie.close (tie.spec enum-known-n enum-known-n-2 enum-told enum-known-o returns returns-2 returns-3)

@@ -31,12 +31,5 @@ returns-2 c = record { yields = rw (← c .before .before .before .open-family .
 
 pub lock-open-spec : {M : Type 1} → statement M
 lock-open-spec =
-    tie.close
-    (tie.spec
-    open-family-requires
-    enum-known-f
-    open-requires
-    lock-told-requires
-    enum-known-q
-    returns
+    tie.close (tie.spec open-family-requires enum-known-f open-requires lock-told-requires enum-known-q returns
     returns-2)

@@ -31,12 +31,5 @@ returns-2 c = record { yields = rw (← c .before .before .before .open-family .
 
 pub unlock-open-spec : {M : Type 1} → statement M
 unlock-open-spec =
-    tie.close
-    (tie.spec
-    open-family-requires
-    enum-known-f
-    open-requires
-    unlock-told-requires
-    enum-known-q
-    returns
+    tie.close (tie.spec open-family-requires enum-known-f open-requires unlock-told-requires enum-known-q returns
     returns-2)

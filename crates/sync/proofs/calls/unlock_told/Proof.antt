@@ -23,5 +23,4 @@ unfolding saidUnlock unlockNext standsUnlock
 returns-2 c = record { yields = rw (c .before .n2 .given .1); limits = tt }
 
 pub unlock-told-spec : {M : Type 1} → statement M
-unlock-told-spec =
-    tie.close (tie.spec enum-known-n access-requires enum-known-n-2 returns returns-2)
+unlock-told-spec = tie.close (tie.spec enum-known-n access-requires enum-known-n-2 returns returns-2)

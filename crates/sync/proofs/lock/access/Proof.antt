@@ -55,20 +55,6 @@ returns-4 c = rw (c .before .before .before .s4 .given .1, ← c .before .back .
 
 pub access-spec : {M : Type 1} → statement M
 access-spec =
-    tie.close
-    (tie.spec
-    enum-known-s
-    smbi-requires
-    access-requires
-    enum-known-s-2
-    access-requires-2
-    enum-known-s-3
-    regsmp-requires
-    access-requires-3
-    enum-known-s-4
-    back-requires
-    access-requires-4
-    returns
-    returns-2
-    returns-3
+    tie.close (tie.spec enum-known-s smbi-requires access-requires enum-known-s-2 access-requires-2 enum-known-s-3
+    regsmp-requires access-requires-3 enum-known-s-4 back-requires access-requires-4 returns returns-2 returns-3
     returns-4)

@@ -33,6 +33,4 @@ unfolding lockNext followed _>>=_ erase orErr outcome updateNext validLockNext
 returns-3 c = (rw (c .before .before .before .before .n2 .given .1, c .before .o .given .1), refl)
 
 pub back-spec : {M : Type 1} → statement M
-back-spec =
-    tie.close
-    (tie.spec enum-known-n enum-known-n-2 enum-told enum-known-o returns returns-2 returns-3)
+back-spec = tie.close (tie.spec enum-known-n enum-known-n-2 enum-told enum-known-o returns returns-2 returns-3)

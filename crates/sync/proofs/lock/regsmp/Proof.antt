@@ -24,5 +24,4 @@ unfolding followed _>>=_ pollNext
 returns-2 c = (rw (c .before .before .n2 .given .1) (c .regsmp-done .ensures .0), λ h. c .regsmp-done .ensures .1)
 
 pub regsmp-spec : {M : Type 1} → statement M
-regsmp-spec =
-    tie.close (tie.spec enum-known-n enum-known-n-2 regsmp-done-requires returns returns-2)
+regsmp-spec = tie.close (tie.spec enum-known-n enum-known-n-2 regsmp-done-requires returns returns-2)

@@ -33,12 +33,4 @@ returns-3 c = (rw (c .before .w2 .given .1), refl)
 
 pub regsmp-done-spec : {M : Type 1} → statement M
 regsmp-done-spec =
-    tie.close
-    (tie.spec
-    enum-known-w
-    none-of-requires
-    returns
-    lapse-requires
-    enum-known-w-2
-    returns-2
-    returns-3)
+    tie.close (tie.spec enum-known-w none-of-requires returns lapse-requires enum-known-w-2 returns-2 returns-3)

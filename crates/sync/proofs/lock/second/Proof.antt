@@ -35,13 +35,5 @@ returns-2 c = (rw (← c .before .before .before .before .same .ensures, c .befo
 
 pub second-spec : {M : Type 1} → statement M
 second-spec =
-    tie.close
-    (tie.spec
-    same-requires
-    open-requires
-    swesmbi-requires
-    returns
-    regsmp-requires
-    open-requires-2
-    regsmp-requires-2
-    returns-2)
+    tie.close (tie.spec same-requires open-requires swesmbi-requires returns regsmp-requires open-requires-2
+    regsmp-requires-2 returns-2)

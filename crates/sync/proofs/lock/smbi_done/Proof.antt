@@ -33,12 +33,4 @@ returns-3 c = (rw (c .before .w2 .given .1), refl)
 
 pub smbi-done-spec : {M : Type 1} → statement M
 smbi-done-spec =
-    tie.close
-    (tie.spec
-    enum-known-w
-    none-of-requires
-    second-requires
-    returns
-    enum-known-w-2
-    returns-2
-    returns-3)
+    tie.close (tie.spec enum-known-w none-of-requires second-requires returns enum-known-w-2 returns-2 returns-3)

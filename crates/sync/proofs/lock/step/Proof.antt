@@ -69,24 +69,6 @@ returns-4 c = (rw (c .before .before .before .before .s4 .given .1) (over _ _ (c
 
 pub step-spec : {M : Type 1} → statement M
 step-spec =
-    tie.close
-    (tie.spec
-    enum-known-s
-    smbi-requires
-    step-requires
-    smbi-requires-2
-    enum-known-s-2
-    step-requires-2
-    swesmbi-requires
-    enum-known-s-3
-    regsmp-requires
-    step-requires-3
-    regsmp-requires-2
-    enum-known-s-4
-    back-requires
-    step-requires-4
-    back-requires-2
-    returns
-    returns-2
-    returns-3
-    returns-4)
+    tie.close (tie.spec enum-known-s smbi-requires step-requires smbi-requires-2 enum-known-s-2 step-requires-2
+    swesmbi-requires enum-known-s-3 regsmp-requires step-requires-3 regsmp-requires-2 enum-known-s-4 back-requires
+    step-requires-4 back-requires-2 returns returns-2 returns-3 returns-4)

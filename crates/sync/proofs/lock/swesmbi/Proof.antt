@@ -23,5 +23,4 @@ unfolding swesmbiNext followed _>>=_
 returns-2 c = (rw (c .before .before .n2 .given .1) (c .swesmbi-done .ensures .0), λ h. c .swesmbi-done .ensures .1)
 
 pub swesmbi-spec : {M : Type 1} → statement M
-swesmbi-spec =
-    tie.close (tie.spec enum-known-n enum-known-n-2 swesmbi-done-requires returns returns-2)
+swesmbi-spec = tie.close (tie.spec enum-known-n enum-known-n-2 swesmbi-done-requires returns returns-2)

@@ -29,5 +29,4 @@ unfolding lockNext erase orErr outcome flag validLockNext
 returns-3 c = (rw (c .before .v2 .given .1), refl)
 
 pub swesmbi-done-spec : {M : Type 1} → statement M
-swesmbi-done-spec =
-    tie.close (tie.spec enum-known-v returns lapse-requires enum-known-v-2 returns-2 returns-3)
+swesmbi-done-spec = tie.close (tie.spec enum-known-v returns lapse-requires enum-known-v-2 returns-2 returns-3)

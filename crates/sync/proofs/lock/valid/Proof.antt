@@ -44,16 +44,5 @@ returns-4 c = rw (c .enum-told .given .1)
 
 pub valid-spec : {M : Type 1} → statement M
 valid-spec =
-    tie.close
-    (tie.spec
-    enum-known-s
-    valid-requires
-    enum-known-s-2
-    valid-requires-2
-    enum-known-s-3
-    valid-requires-3
-    enum-told
-    returns
-    returns-2
-    returns-3
-    returns-4)
+    tie.close (tie.spec enum-known-s valid-requires enum-known-s-2 valid-requires-2 enum-known-s-3 valid-requires-3
+    enum-told returns returns-2 returns-3 returns-4)

@@ -23,5 +23,4 @@ unfolding pick bits
 returns-2 c = rw (← c .before .before .same .ensures, c .before .if1 .left) (c .bits-x540 .ensures)
 
 pub bits-spec : {M : Type 1} → statement M
-bits-spec =
-    tie.close (tie.spec same-requires bits-82599-requires returns bits-x540-requires returns-2)
+bits-spec = tie.close (tie.spec same-requires bits-82599-requires returns bits-x540-requires returns-2)

@@ -29,5 +29,4 @@ unfolding pick mux
 returns-4 c = rw (← c .before .same .ensures, c .if1 .left)
 
 pub mux-spec : {M : Type 1} → statement M
-mux-spec =
-    tie.close (tie.spec same-requires none-of-requires returns returns-2 returns-3 returns-4)
+mux-spec = tie.close (tie.spec same-requires none-of-requires returns returns-2 returns-3 returns-4)

@@ -62,22 +62,6 @@ returns-5 c = rw (c .before .enum-told .given .1, ← c .release-us .ensures)
 
 pub access-spec : {M : Type 1} → statement M
 access-spec =
-    tie.close
-    (tie.spec
-    enum-known-s
-    set-mux-requires
-    access-requires
-    enum-known-s-2
-    access-requires-2
-    enum-known-s-3
-    change-requires
-    access-requires-3
-    enum-known-s-4
-    access-requires-4
-    enum-told
-    release-us-requires
-    returns
-    returns-2
-    returns-3
-    returns-4
-    returns-5)
+    tie.close (tie.spec enum-known-s set-mux-requires access-requires enum-known-s-2 access-requires-2 enum-known-s-3
+    change-requires access-requires-3 enum-known-s-4 access-requires-4 enum-told release-us-requires returns
+    returns-2 returns-3 returns-4 returns-5)

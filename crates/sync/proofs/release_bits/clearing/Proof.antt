@@ -25,5 +25,4 @@ unfolding updateNext followed _>>=_ validReleaseBits
 returns-2 c = (rw (c .before .before .n2 .given .1) (c .clear-done .ensures .0), c .clear-done .ensures .1)
 
 pub clearing-spec : {M : Type 1} → statement M
-clearing-spec =
-    tie.close (tie.spec enum-known-n enum-known-n-2 clear-done-requires returns returns-2)
+clearing-spec = tie.close (tie.spec enum-known-n enum-known-n-2 clear-done-requires returns returns-2)

@@ -34,6 +34,4 @@ unfolding releaseBitsNext lockNext followed _>>=_ erase orErr outcome validRelea
 returns-3 c = (rw (c .before .before .before .before .n2 .given .1, c .before .o .given .1), λ h. refl)
 
 pub locking-spec : {M : Type 1} → statement M
-locking-spec =
-    tie.close
-    (tie.spec enum-known-n enum-known-n-2 enum-told enum-known-o returns returns-2 returns-3)
+locking-spec = tie.close (tie.spec enum-known-n enum-known-n-2 enum-told enum-known-o returns returns-2 returns-3)

@@ -37,13 +37,4 @@ returns-3 c = (rw (c .before .before .before .before .n2 .given .1, c .before .o
 
 pub muxing-spec : {M : Type 1} → statement M
 muxing-spec =
-    tie.close
-    (tie.spec
-    enum-known-n
-    enum-known-n-2
-    enum-told
-    lock-requires
-    enum-known-o
-    returns
-    returns-2
-    returns-3)
+    tie.close (tie.spec enum-known-n enum-known-n-2 enum-told lock-requires enum-known-o returns returns-2 returns-3)

@@ -75,25 +75,6 @@ returns-5 c = (rw (c .enum-told .given .1), λ h. refl)
 
 pub step-spec : {M : Type 1} → statement M
 step-spec =
-    tie.close
-    (tie.spec
-    enum-known-s
-    set-mux-requires
-    step-requires
-    muxing-requires
-    enum-known-s-2
-    step-requires-2
-    locking-requires
-    enum-known-s-3
-    change-requires
-    step-requires-3
-    clearing-requires
-    enum-known-s-4
-    step-requires-4
-    unlocking-requires
-    enum-told
-    returns
-    returns-2
-    returns-3
-    returns-4
-    returns-5)
+    tie.close (tie.spec enum-known-s set-mux-requires step-requires muxing-requires enum-known-s-2 step-requires-2
+    locking-requires enum-known-s-3 change-requires step-requires-3 clearing-requires enum-known-s-4 step-requires-4
+    unlocking-requires enum-told returns returns-2 returns-3 returns-4 returns-5)

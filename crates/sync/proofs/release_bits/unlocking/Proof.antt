@@ -37,13 +37,5 @@ returns-3 c = (rw (c .before .before .before .before .n2 .given .1, c .before .o
 
 pub unlocking-spec : {M : Type 1} → statement M
 unlocking-spec =
-    tie.close
-    (tie.spec
-    enum-known-n
-    enum-known-n-2
-    enum-told
-    finish-requires
-    enum-known-o
-    returns
-    returns-2
+    tie.close (tie.spec enum-known-n enum-known-n-2 enum-told finish-requires enum-known-o returns returns-2
     returns-3)

@@ -45,16 +45,5 @@ returns-5 c = rw (c .enum-told4 .given .1)
 
 pub valid-spec : {M : Type 1} → statement M
 valid-spec =
-    tie.close
-    (tie.spec
-    enum-told
-    enum-known-s
-    valid-requires
-    enum-told-2
-    enum-told-3
-    enum-told-4
-    returns
-    returns-2
-    returns-3
-    returns-4
-    returns-5)
+    tie.close (tie.spec enum-told enum-known-s valid-requires enum-told-2 enum-told-3 enum-told-4 returns returns-2
+    returns-3 returns-4 returns-5)

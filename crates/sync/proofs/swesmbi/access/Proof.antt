@@ -33,13 +33,5 @@ returns-3 c = rw (c .enum-told2 .given .1)
 
 pub access-spec : {M : Type 1} → statement M
 access-spec =
-    tie.close
-    (tie.spec
-    enum-known-s
-    setting-requires
-    access-requires
-    enum-told
-    enum-told-2
-    returns
-    returns-2
+    tie.close (tie.spec enum-known-s setting-requires access-requires enum-told enum-told-2 returns returns-2
     returns-3)

@@ -30,5 +30,4 @@ unfolding swesmbiNext erase orErr word flag validSwesmbiNext
 returns-3 c = (rw (c .before .w2 .given .1), λ h. refl)
 
 pub seen-spec : {M : Type 1} → statement M
-seen-spec =
-    tie.close (tie.spec enum-known-w none-of-requires returns enum-known-w-2 returns-2 returns-3)
+seen-spec = tie.close (tie.spec enum-known-w none-of-requires returns enum-known-w-2 returns-2 returns-3)

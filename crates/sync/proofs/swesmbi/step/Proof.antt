@@ -48,17 +48,5 @@ returns-3 c = (rw (c .before .before .s3 .given .1) (c .«open» .ensures .0), �
 
 pub step-spec : {M : Type 1} → statement M
 step-spec =
-    tie.close
-    (tie.spec
-    enum-known-s
-    setting-requires
-    step-requires
-    set-requires
-    enum-known-s-2
-    read-requires
-    seen-requires
-    enum-known-s-3
-    open-requires
-    returns
-    returns-2
-    returns-3)
+    tie.close (tie.spec enum-known-s setting-requires step-requires set-requires enum-known-s-2 read-requires
+    seen-requires enum-known-s-3 open-requires returns returns-2 returns-3)

@@ -27,5 +27,4 @@ unfolding validSwesmbi pick
 returns-3 c = rw (c .before .s3 .given .1)
 
 pub valid-spec : {M : Type 1} → statement M
-valid-spec =
-    tie.close (tie.spec enum-known-s enum-known-s-2 enum-known-s-3 returns returns-2 returns-3)
+valid-spec = tie.close (tie.spec enum-known-s enum-known-s-2 enum-known-s-3 returns returns-2 returns-3)

@@ -32,13 +32,5 @@ returns-2 c = rw (c .before .before .before .s2 .given .1, ← c .before .back .
 
 pub access-spec : {M : Type 1} → statement M
 access-spec =
-    tie.close
-    (tie.spec
-    enum-known-s
-    clear-sync-requires
-    access-requires
-    enum-known-s-2
-    back-requires
-    access-requires-2
-    returns
-    returns-2)
+    tie.close (tie.spec enum-known-s clear-sync-requires access-requires enum-known-s-2 back-requires
+    access-requires-2 returns returns-2)

@@ -40,15 +40,5 @@ returns-2 c = rw (c .before .before .before .before .s2 .given .1) (c .swsm .ens
 
 pub step-spec : {M : Type 1} → statement M
 step-spec =
-    tie.close
-    (tie.spec
-    enum-known-s
-    clear-sync-requires
-    step-requires
-    sync-requires
-    enum-known-s-2
-    back-requires
-    step-requires-2
-    swsm-requires
-    returns
-    returns-2)
+    tie.close (tie.spec enum-known-s clear-sync-requires step-requires sync-requires enum-known-s-2 back-requires
+    step-requires-2 swsm-requires returns returns-2)

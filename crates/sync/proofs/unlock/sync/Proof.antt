@@ -32,6 +32,4 @@ unfolding unlockNext followed _>>=_ erase orErr outcome updateNext
 returns-3 c = rw (c .before .before .before .before .n2 .given .1, c .before .o .given .1)
 
 pub sync-spec : {M : Type 1} → statement M
-sync-spec =
-    tie.close
-    (tie.spec enum-known-n enum-known-n-2 enum-told enum-known-o returns returns-2 returns-3)
+sync-spec = tie.close (tie.spec enum-known-n enum-known-n-2 enum-told enum-known-o returns returns-2 returns-3)

@@ -33,13 +33,5 @@ returns-3 c = rw (c .before .before .s2 .given .1) (c .access2 .ensures)
 
 pub access-spec : {M : Type 1} → statement M
 access-spec =
-    tie.close
-    (tie.spec
-    enum-told
-    enum-known-s
-    access-requires
-    enum-known-s-2
-    access-requires-2
-    returns
-    returns-2
+    tie.close (tie.spec enum-told enum-known-s access-requires enum-known-s-2 access-requires-2 returns returns-2
     returns-3)

@@ -36,13 +36,5 @@ returns-3 c = (λ m q s. rw (c .before .before .before .before .before .n2 .give
 
 pub cleared-spec : {M : Type 1} → statement M
 cleared-spec =
-    tie.close
-    (tie.spec
-    enum-known-n
-    enum-known-n-2
-    enum-told
-    enum-known-o
-    clear-done-requires
-    returns
-    returns-2
+    tie.close (tie.spec enum-known-n enum-known-n-2 enum-told enum-known-o clear-done-requires returns returns-2
     returns-3)

@@ -24,5 +24,4 @@ unfolding orTried pick attemptNext got erase validAttemptNext
 returns-2 c = (λ m s. rw (← c .before .is-i2c .ensures, c .if1 .left), λ s. refl)
 
 pub failed-spec : {M : Type 1} → statement M
-failed-spec =
-    tie.close (tie.spec is-i2c-requires clear-requires cleared-requires returns returns-2)
+failed-spec = tie.close (tie.spec is-i2c-requires clear-requires cleared-requires returns returns-2)

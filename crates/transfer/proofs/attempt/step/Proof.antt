@@ -20,8 +20,8 @@ enum-known-s c = search needs
 step-requires : tie.Need-step-requires
 step-requires c κs = search needs
 
-moved-requires : tie.Need-moved-requires
-moved-requires c κs = search needs
+from-transfer-requires : tie.Need-from-transfer-requires
+from-transfer-requires c κs = search needs
 
 enum-known-s-2 : tie.Need-enum-known-s-2
 enum-known-s-2 c = search needs
@@ -38,7 +38,7 @@ returns c = (λ m. rw (c .before .before .enum-told .given .1) (fed _ (c .begin 
 
 returns-2 : tie.Need-returns-2
 unfolding restAttempt validAttempt
-returns-2 c = (λ m. rw (c .before .before .before .s .given .1) (over _ _ (c .moved .ensures .0 m (c .before .before .before .before .before .before .args .script .now)) (c .before .step .ensures .0 m)), λ h g. c .moved .ensures .1 (c .before .before .before .before .before .before .args .script .now) (c .before .step .ensures .1 (rw (c .before .before .before .s .given .1) at g)))
+returns-2 c = (λ m. rw (c .before .before .before .s .given .1) (over _ _ (c .from-transfer .ensures .0 m (c .before .before .before .before .before .before .args .script .now)) (c .before .step .ensures .0 m)), λ h g. c .from-transfer .ensures .1 (c .before .before .before .before .before .before .args .script .now) (c .before .step .ensures .1 (rw (c .before .before .before .s .given .1) at g)))
 
 returns-3 : tie.Need-returns-3
 unfolding restAttempt validAttempt
@@ -46,17 +46,5 @@ returns-3 c = (λ m. rw (c .before .before .before .s2 .given .1) (over _ _ (c .
 
 pub step-spec : {M : Type 1} → statement M
 step-spec =
-    tie.close
-    (tie.spec
-    enum-told
-    read-raw-requires
-    begin-requires
-    enum-known-s
-    step-requires
-    moved-requires
-    enum-known-s-2
-    step-requires-2
-    cleared-requires
-    returns
-    returns-2
-    returns-3)
+    tie.close (tie.spec enum-told read-raw-requires begin-requires enum-known-s step-requires from-transfer-requires
+    enum-known-s-2 step-requires-2 cleared-requires returns returns-2 returns-3)

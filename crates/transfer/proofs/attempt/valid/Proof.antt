@@ -33,13 +33,5 @@ returns-3 c = rw (c .before .before .s2 .given .1) (c .valid2 .ensures)
 
 pub valid-spec : {M : Type 1} → statement M
 valid-spec =
-    tie.close
-    (tie.spec
-    enum-told
-    enum-known-s
-    valid-requires
-    enum-known-s-2
-    valid-requires-2
-    returns
-    returns-2
+    tie.close (tie.spec enum-told enum-known-s valid-requires enum-known-s-2 valid-requires-2 returns returns-2
     returns-3)

@@ -57,16 +57,5 @@ returns-2 c =
 
 pub script-on-spec : {M : Type 1} → statement M
 script-on-spec =
-    tie.close
-    (tie.spec
-    layout-of-requires
-    valid-requires
-    access-requires
-    admit-requires
-    enum-told
-    device-requires
-    step-requires
-    told-requires
-    enum-known-q
-    returns
-    returns-2)
+    tie.close (tie.spec layout-of-requires valid-requires access-requires admit-requires enum-told device-requires
+    step-requires told-requires enum-known-q returns returns-2)

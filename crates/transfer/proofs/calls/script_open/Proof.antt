@@ -44,15 +44,5 @@ returns-3 c = record { yields = rw (← c .before .before .before .open-port .en
 
 pub script-open-spec : {M : Type 1} → statement M
 script-open-spec =
-    tie.close
-    (tie.spec
-    open-port-requires
-    enum-known-p
-    judge-requires
-    enum-told
-    told-requires
-    enum-known-q
-    enum-known-q-2
-    returns
-    returns-2
-    returns-3)
+    tie.close (tie.spec open-port-requires enum-known-p judge-requires enum-told told-requires enum-known-q
+    enum-known-q-2 returns returns-2 returns-3)

@@ -39,14 +39,5 @@ returns-3 c = record { yields = sym (judged-no (c .before .before .before .befor
 
 pub script-step-spec : {M : Type 1} → statement M
 script-step-spec =
-    tie.close
-    (tie.spec
-    judge-requires
-    enum-told
-    enum-known-s
-    script-on-requires
-    enum-told-2
-    enum-known-q
-    returns
-    returns-2
-    returns-3)
+    tie.close (tie.spec judge-requires enum-told enum-known-s script-on-requires enum-told-2 enum-known-q returns
+    returns-2 returns-3)

@@ -44,15 +44,5 @@ returns-3 c = record { yields = λ s. rw (c .before .before .n3 .given .1, c .ou
 
 pub told-spec : {M : Type 1} → statement M
 told-spec =
-    tie.close
-    (tie.spec
-    layout-of-requires
-    enum-known-n
-    access-requires
-    enum-known-n-2
-    access-requires-2
-    enum-known-n-3
-    outcome-of-requires
-    returns
-    returns-2
-    returns-3)
+    tie.close (tie.spec layout-of-requires enum-known-n access-requires enum-known-n-2 access-requires-2
+    enum-known-n-3 outcome-of-requires returns returns-2 returns-3)

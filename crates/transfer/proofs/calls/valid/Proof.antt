@@ -23,6 +23,4 @@ unfolding validScript pick
 returns-2 c = rw (← c .before .valid-port .ensures, c .if1 .left)
 
 pub valid-spec : {M : Type 1} → statement M
-valid-spec =
-    tie.close
-    (tie.spec valid-port-requires layout-of-requires valid-requires returns returns-2)
+valid-spec = tie.close (tie.spec valid-port-requires layout-of-requires valid-requires returns returns-2)

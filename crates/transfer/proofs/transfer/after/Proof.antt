@@ -34,13 +34,5 @@ returns-2 c = (λ m device. rw (c .before .before .before .took .ensures, c .bef
 
 pub after-spec : {M : Type 1} → statement M
 after-spec =
-    tie.close
-    (tie.spec
-    command-requires
-    next-requires
-    took-requires
-    from-requires
-    is-read-requires
-    told-requires
-    returns
-    returns-2)
+    tie.close (tie.spec command-requires next-requires took-requires from-requires is-read-requires told-requires
+    returns returns-2)

@@ -39,13 +39,5 @@ returns-3 c = (λ m. rw (c .before .before .before .before .n2 .given .1, c .bef
 
 pub jobbed-spec : {M : Type 1} → statement M
 jobbed-spec =
-    tie.close
-    (tie.spec
-    enum-known-n
-    enum-known-n-2
-    enum-known-o
-    after-requires
-    enum-known-o-2
-    returns
-    returns-2
+    tie.close (tie.spec enum-known-n enum-known-n-2 enum-known-o after-requires enum-known-o-2 returns returns-2
     returns-3)

@@ -29,5 +29,4 @@ unfolding validTransferNext
 returns-3 c = (λ m l device s. rw (c .before .n3 .given .1) (told-end m (c .before .before .before .args .b) l device s _ _ _), λ l s h. refl)
 
 pub told-spec : {M : Type 1} → statement M
-told-spec =
-    tie.close (tie.spec enum-known-n enum-known-n-2 enum-known-n-3 returns returns-2 returns-3)
+told-spec = tie.close (tie.spec enum-known-n enum-known-n-2 enum-known-n-3 returns returns-2 returns-3)

@@ -23,5 +23,4 @@ unfolding validTransfer pick
 returns-2 c = rw (← c .before .on-command .ensures, c .if1 .left)
 
 pub valid-spec : {M : Type 1} → statement M
-valid-spec =
-    tie.close (tie.spec on-command-requires command-requires valid-requires returns returns-2)
+valid-spec = tie.close (tie.spec on-command-requires command-requires valid-requires returns returns-2)

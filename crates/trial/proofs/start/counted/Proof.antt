@@ -57,14 +57,5 @@ returns c i lt = c .before .loop .inv .3 i (omega (arith, lt))
 
 pub counted-spec : {M : Type 1} → statement M
 counted-spec =
-    tie.close
-    (tie.spec
-    Inv-loop
-    μ-loop
-    loop-holds
-    array-write-bytes
-    wrapping-add-u8-requires
-    add-i
-    loop-less
-    loop-again
-    returns)
+    tie.close (tie.spec Inv-loop μ-loop loop-holds array-write-bytes wrapping-add-u8-requires add-i loop-less
+    loop-again returns)

@@ -36,12 +36,5 @@ returns c = (
 
 pub state-spec : {M : Type 1} → statement M
 state-spec =
-    tie.close
-    (tie.spec
-    receiver-requires
-    counted-requires
-    counted-requires-2
-    wrapping-sub-u8-requires
-    wrapping-sub-u8-requires-2
-    word-requires
-    returns)
+    tie.close (tie.spec receiver-requires counted-requires counted-requires-2 wrapping-sub-u8-requires
+    wrapping-sub-u8-requires-2 word-requires returns)

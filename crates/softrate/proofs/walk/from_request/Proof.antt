@@ -1,4 +1,4 @@
--- `moved` meets its contract.
+-- `from_request` meets its contract.
 use Rattle.hardware.specs.Marks.{going-on}
 use Rattle.bus.proofs.Laws.{picked}
 use Rattle.hardware.specs.Prog.{_>>=_, followed}
@@ -9,8 +9,8 @@ use Rattle.softrate.specs.Spot.{toldAt}
 use Rattle.softrate.specs.Walk.{accessRate, rateNext, restRate, validRate, validRateNext}
 use borrow.Author.Needs.{needs}
 use native.Mathlib.Omega.{arith}
-use Rattle.softrate.proofs.walk.moved.Statement.{statement}
-use Rattle.softrate.proofs.walk.moved.Tie as tie
+use Rattle.softrate.proofs.walk.from_request.Statement.{statement}
+use Rattle.softrate.proofs.walk.from_request.Tie as tie
 
 enum-known-n : tie.Need-enum-known-n
 enum-known-n c = search needs
@@ -29,5 +29,5 @@ returns-2 : tie.Need-returns-2
 unfolding handshakeNext dueHandshakeNext followed _>>=_
 returns-2 c = rw (c .before .before .n2 .given .1) (record { yields = c .concluded .ensures .yields; limits = λ m p v all. c .concluded .ensures .limits m p (omega (arith, all)) })
 
-pub moved-spec : {M : Type 1} → statement M
-moved-spec = tie.close (tie.spec enum-known-n enum-known-n-2 concluded-requires returns returns-2)
+pub from-request-spec : {M : Type 1} → statement M
+from-request-spec = tie.close (tie.spec enum-known-n enum-known-n-2 concluded-requires returns returns-2)

@@ -1,4 +1,4 @@
--- `moved` meets its contract.
+-- `from_request` meets its contract.
 use Rattle.hardware.specs.Marks.{going-on}
 use Rattle.bus.proofs.Laws.{picked}
 use Rattle.hardware.specs.Prog.{_>>=_, erase, followed}
@@ -10,8 +10,8 @@ use Rattle.identify.specs.Walk.{accessIdentify, identifyNext, restIdenti
 use borrow.Author.Needs.{needs}
 use mathlib.Core.Path.{_∙_, ap}
 use native.Mathlib.Omega.{arith}
-use Rattle.identify.proofs.walk.moved.Statement.{statement}
-use Rattle.identify.proofs.walk.moved.Tie as tie
+use Rattle.identify.proofs.walk.from_request.Statement.{statement}
+use Rattle.identify.proofs.walk.from_request.Tie as tie
 
 enum-known-n : tie.Need-enum-known-n
 enum-known-n c = search needs
@@ -33,7 +33,5 @@ returns-2 : tie.Need-returns-2
 unfolding handshakeNext dueHandshakeNext followed _>>=_
 returns-2 c = rw (c .before .before .before .n2 .given .1) (record { yields = c .conclude .ensures .yields ∙ ap erase (c .before .after .ensures .yields _ _); limits = λ m p v all. c .conclude .ensures .limits m _ (omega (arith, all)) (c .before .after .ensures .limits _ p) })
 
-pub moved-spec : {M : Type 1} → statement M
-moved-spec =
-    tie.close
-    (tie.spec enum-known-n enum-known-n-2 after-requires conclude-requires returns returns-2)
+pub from-request-spec : {M : Type 1} → statement M
+from-request-spec = tie.close (tie.spec enum-known-n enum-known-n-2 after-requires conclude-requires returns returns-2)

@@ -1,12 +1,12 @@
--- `moved` meets its contract.
+-- `from_transfer` meets its contract.
 use Rattle.hardware.specs.Prog.{_>>=_, erase, followed, going}
 use Rattle.transfer.proofs.Laws.{told-on}
 use Rattle.transfer.specs.Attempt.{accessAttempt, attemptNext, awaiting, got, orTried, restAttempt, tried, validAttempt, validAttemptNext}
 use Rattle.transfer.specs.Transfer.{asking, transferNext, validTransferNext}
 use borrow.Author.Needs.{needs}
 use mathlib.Core.Path.{refl}
-use Rattle.transfer.proofs.attempt.moved.Statement.{statement}
-use Rattle.transfer.proofs.attempt.moved.Tie as tie
+use Rattle.transfer.proofs.attempt.from_transfer.Statement.{statement}
+use Rattle.transfer.proofs.attempt.from_transfer.Tie as tie
 
 enum-known-n : tie.Need-enum-known-n
 enum-known-n c = search needs
@@ -42,17 +42,7 @@ returns-4 : tie.Need-returns-4
 unfolding transferNext followed _>>=_ tried
 returns-4 c = (λ m s. rw (c .before .before .before .before .before .n3 .given .1, c .before .before .o .given .1) (c .failed .ensures .0 m s), λ s h. c .failed .ensures .1 s)
 
-pub moved-spec : {M : Type 1} → statement M
-moved-spec =
-    tie.close
-    (tie.spec
-    enum-known-n
-    enum-known-n-2
-    enum-known-n-3
-    enum-told
-    enum-known-o
-    failed-requires
-    returns
-    returns-2
-    returns-3
-    returns-4)
+pub from-transfer-spec : {M : Type 1} → statement M
+from-transfer-spec =
+    tie.close (tie.spec enum-known-n enum-known-n-2 enum-known-n-3 enum-told enum-known-o failed-requires returns
+    returns-2 returns-3 returns-4)

@@ -12,9 +12,15 @@ use Rattle.hardware.specs.Runs.{Ends}
 use Rattle.hardware.proofs.Ends.{ends-more, ends-bind, ends-try, ends-pick, ret-ends, note-ends, ask-ends}
 use Rattle.sync.specs.Regs.{tries}
 use Rattle.sync.specs.Resource.{acquireBits}
-use Rattle.sync.proofs.Ends.{ACQUIRE-BITS-STEPS, RELEASE-BITS-STEPS, acquire-bits-ends, release-bits-ends}
-use Rattle.hostif.proofs.Ends.{TOKEN-STEPS, token-ends}
-use Rattle.hostif.specs.Acquire.{TOKEN-TRIES, hwOf, withBits, acquiredAll, notGranted, givenBack, tokenSeen, acquireToken, acquire, giveBits, tokenGiven, release}
+use Rattle.sync.proofs.Ends.{ACQUIRE-BITS-STEPS, RELEASE-BITS-STEPS, acquire-bits-ends, release-bits-ends, acquireBitsAfter, releaseBitsAfter, acquire-bits-rest-ends, release-bits-rest-ends}
+use Rattle.hostif.proofs.Ends.{TOKEN-STEPS, token-ends, tokenAfter, token-rest-ends}
+use Rattle.hostif.specs.Acquire.{TOKEN-TRIES, hwOf, withBits, acquiredAll, notGranted, givenBack, tokenSeen, acquireToken, acquire, giveBits, tokenGiven, release, afterBits, tryToken}
+use Rattle.acquire.specs.declared.acquire.Acquire.{Acquire}
+use Rattle.acquire.specs.declared.acquire.Stage.{Stage}
+use Rattle.acquire.specs.declared.acquire.Stage.the-variants.{Bits, Token, Releasing, Waiting}
+use Rattle.acquire.specs.declared.release.Release.{Release}
+use Rattle.acquire.specs.declared.release.Release.the-variants.{Token as GivingToken, Bits as GivingBits}
+use Rattle.acquire.specs.Acquire.{restAcquireAt, restAcquire, restRelease}
 
 -- a try that the firmware refuses: the bits, the token, the bits back, a wait
 abbrev pub TOKEN-TRY-STEPS : Family → ℕ
@@ -89,3 +95,40 @@ release-ends port mask =
     (ends-pick _ _ _ (RELEASE-STEPS (port .family))
     (ends-more _ RELEASE-BITS-STEPS (RELEASE-STEPS (port .family)) (give-ends port (hwOf mask) _) (omega arith))
     (ends-bind _ _ (TOKEN-STEPS (port .family)) RELEASE-BITS-STEPS (token-ends port false) (λ g. give-ends port (hwOf mask) _)))
+
+-- the answers that the machines may still need after the one they await; left: the tries after this one
+abbrev pub acquireAtAfter : Family → ℕ → Stage → ℕ
+acquireAtAfter family left (Bits t token) = acquireBitsAfter t + (TOKEN-STEPS family + (RELEASE-BITS-STEPS + (1 + left * TOKEN-TRY-STEPS family)))
+acquireAtAfter family left (Token t) = tokenAfter t + (RELEASE-BITS-STEPS + (1 + left * TOKEN-TRY-STEPS family))
+acquireAtAfter family left (Releasing t g) = releaseBitsAfter t + (1 + left * TOKEN-TRY-STEPS family)
+acquireAtAfter family left Waiting = left * TOKEN-TRY-STEPS family
+
+abbrev pub acquireAfter : Family → Acquire → ℕ
+acquireAfter family s = acquireAtAfter family (s .left) (s .stage)
+
+abbrev pub releaseAfter : Release → ℕ
+releaseAfter (GivingToken t) = tokenAfter t + RELEASE-BITS-STEPS
+releaseAfter (GivingBits t w) = releaseBitsAfter t
+
+pub acquire-rest-ends : (port : Port) (hw : ℕ) (s : Acquire) (a : Answer) → Ends (restAcquire port hw s a) (acquireAfter (port .family) s)
+unfolding restAcquire restAcquireAt afterBits tryToken acquiredAll
+acquire-rest-ends port hw s a = by (s .left) (s .stage)
+  where
+    tried : (left : ℕ) → Ends (tryToken port hw left) (TOKEN-STEPS (port .family) + (RELEASE-BITS-STEPS + (1 + left * TOKEN-TRY-STEPS (port .family))))
+    tried left =
+        ends-bind _ _ (TOKEN-STEPS (port .family)) _ (token-ends port true) (λ g. seen-ends port hw _ (left * TOKEN-TRY-STEPS (port .family)) (λ _. acquire-token-ends port hw left) g)
+
+    by : (left : ℕ) (t : Stage) → Ends (restAcquireAt port hw left t a) (acquireAtAfter (port .family) left t)
+    by left (Bits t token) =
+        ends-try _ _ (acquireBitsAfter t) _ (acquire-bits-rest-ends port hw t a) (λ _. ends-pick _ _ _ _ (tried left) (note-ends _ _ _ (ret-ends _ _)))
+    by left (Token t) =
+        ends-bind _ _ (tokenAfter t) _ (token-rest-ends port true t a) (λ g. seen-ends port hw _ (left * TOKEN-TRY-STEPS (port .family)) (λ _. acquire-token-ends port hw left) g)
+    by left (Releasing t g) =
+        ends-try _ _ (releaseBitsAfter t) _ (release-bits-rest-ends port hw t a) (λ _. notGranted-ends _ (left * TOKEN-TRY-STEPS (port .family)) (λ _. acquire-token-ends port hw left) _)
+    by left Waiting = acquire-token-ends port hw left
+
+pub release-rest-ends : (port : Port) (hw : ℕ) (s : Release) (a : Answer) → Ends (restRelease port hw s a) (releaseAfter s)
+unfolding restRelease tokenGiven
+release-rest-ends port hw (GivingToken t) a = ends-bind _ _ (tokenAfter t) RELEASE-BITS-STEPS (token-rest-ends port false t a) (λ g. give-ends port hw _)
+release-rest-ends port hw (GivingBits t w) a =
+    ends-more _ (releaseBitsAfter t + 0) (releaseBitsAfter t) (ends-try _ _ (releaseBitsAfter t) 0 (release-bits-rest-ends port hw t a) (λ _. ret-ends _ 0)) (omega arith)

@@ -20,6 +20,7 @@ use Rattle.acquire.specs.declared.calls.ReleaseTold.{ReleaseTold}
 use Rattle.acquire.specs.declared.calls.ReleaseTold.the-variants.{Ask as ReleaseAsk, End as ReleaseEnd, Refused as ReleaseRefused}
 use Rattle.hostif.specs.Acquire.{acquire, release}
 use Rattle.acquire.specs.Acquire.{accessAcquire, restAcquire, validAcquire, accessRelease, restRelease, validRelease}
+use Rattle.hardware.specs.Promise.{Keeps}
 
 -- `acquire`: 1 and 2. The mask is any 32 bits
 unfoldable pub openAcquire : ℕ → ℕ → ℕ → ℕ → Asked (Prog (R (Unit {0})))
@@ -46,6 +47,12 @@ standsAcquire (AcquireAsk x AcquireOver) = ⊥
 standsAcquire (AcquireEnd o) = Unit {0}
 standsAcquire (AcquireRefused q) = Unit {0}
 
+-- what a step told, u, follows what was told before it, t: as the step promises
+unfoldable pub followsAcquire : AcquireTold → Answer → AcquireTold → Type 0
+followsAcquire (AcquireAsk x s) a u = Keeps (saidAcquire u ≡ stepAcquire s a) (standsAcquire u)
+followsAcquire (AcquireEnd o) a u = ⊥
+followsAcquire (AcquireRefused q) a u = ⊥
+
 -- `release`: 1 and 2
 unfoldable pub openRelease : ℕ → ℕ → ℕ → ℕ → Asked (Prog (R (Unit {0})))
 openRelease family device lan mask = andThen (openPort family device lan) (λ port. yes (erase (release port mask)))
@@ -68,3 +75,9 @@ standsRelease (ReleaseAsk x (ReleaseGoing port hw t)) = (x ≡ accessRelease por
 standsRelease (ReleaseAsk x ReleaseOver) = ⊥
 standsRelease (ReleaseEnd o) = Unit {0}
 standsRelease (ReleaseRefused q) = Unit {0}
+
+-- what a step told, u, follows what was told before it, t: as the step promises
+unfoldable pub followsRelease : ReleaseTold → Answer → ReleaseTold → Type 0
+followsRelease (ReleaseAsk x s) a u = Keeps (saidRelease u ≡ stepRelease s a) (standsRelease u)
+followsRelease (ReleaseEnd o) a u = ⊥
+followsRelease (ReleaseRefused q) a u = ⊥

@@ -8,10 +8,12 @@ use lib.Pow.{pow-lt}
 use Rattle.hardware.specs.declared.Family.{Family}
 use Rattle.hardware.specs.Registers.{not32, noneOf}
 use Rattle.bus.specs.Layout.{layoutOf}
-use Rattle.wire.specs.Bits.{bit, bit-two, bit-or, bit-and, bit-not, OneBit, absent, at}
-use Rattle.wire.specs.Lines.{pullsSda, pullsScl, master, levels, inputs, input, distinct}
+use Rattle.wire.specs.Bits.{OneBit, absent, at}
+use Rattle.wire.specs.Lines.{pullsSda, pullsScl, master, levels, inputs, input}
 use Rattle.wire.specs.Machine.{reading}
 use Rattle.wire.proofs.Words.{reads-sda, reads-scl}
+use Rattle.wire.proofs.Bits.{bit, bit-two, bit-or, bit-and, bit-not}
+use Rattle.wire.proofs.Distinct.{distinct}
 use Rattle.bench.specs.declared.register.BenchState.{BenchState}
 use Rattle.bench.specs.Bench.{pullsLow}
 use Rattle.bench.specs.Register.{side, world}

@@ -110,7 +110,7 @@ pub fn take(e: Edge, b: Bench) -> Bench
 {
     let receiver = b.receiver;
     let chosen = receiver.page;
-    let moved = receiver::edged(receiver, e);
+    let moved = lent::lend(receiver, e);
     let next = moved.receiver;
     let act = moved.act;
     with_page(chosen, act, next, b)

@@ -3,8 +3,8 @@ use Prim.Native.Nat.{ℕ}
 use mathlib.Core.Path.{_≡_, refl, ap, fun-ext}
 use mathlib.Core.Bool.{Bool, true, false}
 use lib.Dec.{eqb}
+use Rattle.hardware.specs.Failures.{I2c}
 use Rattle.hardware.specs.Prog.{pick}
-use Rattle.hardware.specs.declared.Error.the-variants.{I2c}
 use Rattle.bus.specs.declared.Layout.{Layout}
 use Rattle.bus.specs.declared.command.Command.the-variants.{Start, Send, Read, Stop, Free}
 use Rattle.bus.specs.Bus.{Bus, fail, start, stop, send, inByte, inBits, inBit, outBit, outBits, releaseSda, pulses, sclHigh, sclLow, wait, ackTries, shifted}

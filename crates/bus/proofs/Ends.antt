@@ -4,8 +4,7 @@ use Prim.Native.Nat.{ℕ, _+_, _*_, _≤_, suc, zero}
 use mathlib.Core.Path.{_≡_, refl}
 use mathlib.Core.Bool.{Bool, true, false}
 use native.Mathlib.Omega.{arith}
-use Rattle.hardware.specs.declared.Error.{Error}
-use Rattle.hardware.specs.declared.Error.the-variants.{I2c}
+use Rattle.hardware.specs.Failures.{Failure, I2c}
 use Rattle.hardware.specs.Prog.{R, Ok, Err, pick, erase}
 use Rattle.hardware.specs.Registers.{raw, written, flushed}
 use Rattle.hardware.specs.Runs.{Ends}
@@ -139,7 +138,7 @@ bus-more p n m e h ctl = ends-more _ n m (e ctl) h
 pub done-ends : (t : Taken) (n : ℕ) → EndsBus (done t) n
 done-ends t n ctl = ret-ends _ n
 
-pub fail-ends : (e : Error) (n : ℕ) → EndsBus (fail e) n
+pub fail-ends : (e : Failure) (n : ℕ) → EndsBus (fail e) n
 fail-ends e n ctl = ret-ends _ n
 
 held-ends : {A : Type 0} (k : A → Bus) (n : ℕ) → ((a : A) → EndsBus (k a) n) → (ctl : ℕ) (r : R A) → Ends (orHeld k ctl r) n

@@ -1,4 +1,5 @@
 pub mod Laws
 pub mod Commands
 pub mod Ends
+pub mod Spreads
 pub mod Noteless

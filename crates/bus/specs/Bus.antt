@@ -5,8 +5,7 @@ use mathlib.Core.Bool.{Bool, true, false}
 use lib.Bits.{bitAnd, bitOr}
 use lib.Dec.{eqb}
 use Rattle.hardware.specs.declared.Access.the-variants.{Read, Write, Wait}
-use Rattle.hardware.specs.declared.Error.{Error}
-use Rattle.hardware.specs.declared.Error.the-variants.{Io, Removed, Semaphore, I2c, HostInterface, Firmware}
+use Rattle.hardware.specs.Failures.{Failure, I2c}
 use Rattle.hardware.specs.Prog.{Prog, ret, ask, R, Ok, Err, pick, _>>=_}
 use Rattle.hardware.specs.Registers.{STATUS, not32, noneOf, raw, written, flushed, micros}
 use Rattle.bus.specs.declared.Layout.{Layout}
@@ -31,7 +30,7 @@ Bus = ℕ → Prog Held
 abbrev pub done : Taken → Bus
 done t ctl = ret (record { ctl = ctl; out = Ok t })
 
-abbrev pub fail : Error → Bus
+abbrev pub fail : Failure → Bus
 fail e ctl = ret (record { ctl = ctl; out = Err e })
 
 unfoldable pub orHeld : {A : Type 0} → (A → Bus) → ℕ → R A → Prog Held
@@ -152,13 +151,9 @@ unfoldable pub pulses : Layout → ℕ → Bus → Bus
 pulses l zero k = k
 pulses l (suc n) k = sclHigh l (wait 4 (sclLow l (wait 5 (pulses l n k))))
 
-unfoldable pub isI2c : Error → Bool
-isI2c Io = false
-isI2c Removed = false
-isI2c (Semaphore held) = false
-isI2c (I2c device) = true
-isI2c (HostInterface hicr) = false
-isI2c (Firmware command status) = false
+-- by its number
+unfoldable pub isI2c : Failure → Bool
+isI2c e = eqb (e .number) 23
 
 -- the Rust's `quiet`: an I2c failure counts as success
 unfoldable pub orQuiet : Bus → ℕ → R Taken → Prog Held

@@ -3,6 +3,7 @@ use mathlib.Core.Bool.{Bool, true}
 use Rattle.hardware.specs.declared.Access.{Access}
 use Rattle.hardware.specs.declared.Answer.{Answer}
 use Rattle.hardware.specs.declared.Outcome.the-variants.{Ok as OutcomeOk, Err as OutcomeErr}
+use Rattle.hardware.specs.Failures.{failureOf}
 use Rattle.hardware.specs.Prog.{Prog, ask, erase, _>>=_}
 use Rattle.bus.specs.declared.Layout.{Layout}
 use Rattle.bus.specs.declared.command.Command.{Command}
@@ -37,7 +38,7 @@ restClear l s a = restPart l (s .part) (s .job) a
 unfoldable pub clearNext : Layout → ClearNext → Prog Held
 clearNext l (Going s) = ask (accessClear l s) (λ a. erase (restClear l s a))
 clearNext l (End ctl OutcomeOk) = done none ctl
-clearNext l (End ctl (OutcomeErr e)) = fail e ctl
+clearNext l (End ctl (OutcomeErr e)) = fail (failureOf e) ctl
 
 unfoldable pub validClear : Layout → Clear → Bool
 validClear l s = validJob l (commandOf (s .part)) (s .job)

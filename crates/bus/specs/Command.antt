@@ -5,7 +5,7 @@ use mathlib.Core.Bool.{Bool, true, false}
 use lib.Dec.{eqb, ltb}
 use Rattle.hardware.specs.declared.Access.{Access}
 use Rattle.hardware.specs.declared.Answer.{Answer}
-use Rattle.hardware.specs.declared.Error.the-variants.{I2c}
+use Rattle.hardware.specs.Failures.{I2c}
 use Rattle.hardware.specs.Prog.{Prog, ask, erase, pick}
 use Rattle.hardware.specs.Registers.{byte}
 use Rattle.bus.specs.declared.Layout.{Layout}

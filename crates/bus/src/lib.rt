@@ -1,5 +1,6 @@
 // The module bus through I2CCTL: its two layouts, the line calls of `Bus`, and the commands as lists of line calls.
 ghost use mathlib.Core.Path.{_≡_};
+ghost use Rattle.hardware.specs.Failures.{failureOf};
 ghost use Rattle.bus.specs.Layout.{layoutOf, x550em};
 ghost use Rattle.bus.specs.Bus.{isI2c};
 use hardware::Error;
@@ -71,7 +72,7 @@ pub fn layout_of(family: Family) -> Layout
 }
 
 pub fn is_i2c(e: Error) -> bool
-    ensures { λ r. ⌜ r ≡ isI2c e ⌝ }
+    ensures { λ r. ⌜ r ≡ isI2c (failureOf e) ⌝ }
 {
     match e {
         Error::Io => false,

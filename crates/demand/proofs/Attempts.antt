@@ -7,7 +7,7 @@ use native.Mathlib.Omega.{arith}
 use lib.Dec.{ltb}
 use lib.ListN.{getD}
 use borrow.Author.Tests.{eq-eqb}
-use Rattle.hardware.specs.declared.Error.the-variants.{I2c}
+use Rattle.hardware.specs.Failures.{I2c}
 use Rattle.hardware.specs.Prog.{R, Ok, Err, orErr, _>>=_, pick}
 use Rattle.hardware.specs.Registers.{raw}
 use Rattle.bus.specs.declared.Layout.{Layout}

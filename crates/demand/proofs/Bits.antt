@@ -9,8 +9,8 @@ use lib.Bits.{and-high}
 use lib.Dec.{eqb}
 use Rattle.hardware.specs.Prog.{pick}
 use Rattle.bus.specs.Bus.{bitOf, shifted}
-use Rattle.wire.specs.Bits.{bit-two}
 use Rattle.bench.specs.Receiver.{taken}
+use Rattle.wire.proofs.Bits.{bit-two}
 
 -- the bits below n of a byte are taken, the highest first
 unfoldable pub tookBits : ℕ → ℕ → ℕ → ℕ

@@ -3,7 +3,7 @@ use Prim.Native.Nat.{ℕ, _+_, _-_, suc, zero}
 use mathlib.Core.Path.{_≡_, refl, ap, _∙_, subst⁻¹}
 use mathlib.Core.Bool.{Bool, true, false, not}
 use native.Mathlib.Omega.{arith}
-use Rattle.hardware.specs.declared.Error.the-variants.{I2c}
+use Rattle.hardware.specs.Failures.{I2c}
 use Rattle.hardware.specs.Prog.{pick}
 use Rattle.bus.specs.declared.Layout.{Layout}
 use Rattle.bus.specs.Bus.{Bus, fail, wait, sclHigh, sclLow, releaseSda, ackTries, start, outBits, inBit, inBits, bitOf, shifted, send}

@@ -30,7 +30,8 @@ use Rattle.sfp.specs.Kinds.{isKind}
 use Rattle.sfp.specs.Module.{isPresent}
 use Rattle.sfp.specs.Finds.{identityOf}
 use Rattle.sfp.proofs.Finds.{module-class}
-use Rattle.sfp.proofs.Ends.{IDENTIFY-STEPS, identify-ends}
+use Rattle.sfp.specs.Steps.{IDENTIFY-STEPS}
+use Rattle.sfp.proofs.Ends.{identify-ends}
 use Rattle.demand.specs.Claim.{CountedBench, machine, benchRun, atStart, byteOf, Says, extra, Facts, Absent, InAckWrite, Claimed, Holds, Claim, Starts, Premises}
 use Rattle.demand.proofs.Receiver.{idle-free}
 use Rattle.demand.proofs.Clearing.{ack-pulls}
@@ -59,10 +60,10 @@ class-present at = by (eqb (at 0) SFP)
     by true = kind-present at
     by false = refl
 
--- so the four facts and NotPresent shut each other out
+-- so the four facts and the record of no module shut each other out
 never-both : (at : Bytes) (r : R Identity) → Says r (classOf at) → Absent r → ⊥
 unfolding Says Absent isKind
-never-both at (Ok m) s a = false≢true (ap isPresent (sym a) ∙ ap isPresent (s .0) ∙ class-present at)
+never-both at (Ok m) s a = false≢true (ap (λ i. isPresent (i .kind)) (sym a) ∙ ap isPresent (s .0) ∙ class-present at)
 never-both at (Err e) s a = s
 
 found-says : (at : Bytes) → Says (Ok (identityOf at)) (classOf at)

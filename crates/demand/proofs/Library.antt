@@ -20,7 +20,8 @@ use Rattle.bench.specs.AtOnce.{atOnce}
 use Rattle.bench.specs.Register.{side}
 use Rattle.sfp.specs.declared.Identity.{Identity}
 use Rattle.sfp.specs.Identify.{identify}
-use Rattle.sfp.proofs.Ends.{IDENTIFY-STEPS, identify-ends}
+use Rattle.sfp.specs.Steps.{IDENTIFY-STEPS}
+use Rattle.sfp.proofs.Ends.{identify-ends}
 use Rattle.demand.specs.Claim.{CountedBench, machine, benchRun, Premise, atStart, Claimed, Starts, Premises}
 use Rattle.demand.specs.Library.{identifyRun, Shown, Demand3, Demand3AtOnce}
 use Rattle.demand.proofs.Runs.{works-fits, ends-run, Sees, told, tally-run}

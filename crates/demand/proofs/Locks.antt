@@ -17,8 +17,8 @@ use Rattle.sync.specs.Resource.{muxed, taken, free, syncSeen, acquireTries, acq
 use Rattle.hostif.specs.Acquire.{hwOf, withBits, acquiredAll, acquire, giveBits, release}
 use Rattle.bus.specs.declared.Layout.{Layout}
 use Rattle.bus.specs.Layout.{x550em, layoutOf}
-use Rattle.wire.specs.Lines.{distinct}
 use Rattle.wire.specs.Machine.{models}
+use Rattle.wire.proofs.Distinct.{distinct}
 use Rattle.demand.specs.Fine.{Fine}
 use Rattle.demand.specs.Claim.{staysIn, machine}
 use Rattle.demand.proofs.Fine.{Good, Fair, Beside, Unmoved, fine-then, fine-or, fine-try, fine-pick, fine-ret, fine-ok, fine-lapsed, fine-acquires, fine-acquired, fine-released, fine-read, fine-write, fine-wait, fine-delay, fine-change, fine-poll}

@@ -22,7 +22,7 @@ use Rattle.bench.specs.declared.Bench.{Bench}
 use Rattle.bench.specs.AtOnce.{atOnce}
 use Rattle.sfp.specs.declared.Identity.{Identity}
 use Rattle.sfp.specs.Identify.{identify}
-use Rattle.sfp.proofs.Ends.{IDENTIFY-STEPS}
+use Rattle.sfp.specs.Steps.{IDENTIFY-STEPS}
 use Rattle.demand.specs.Fine.{AtOnce}
 use Rattle.demand.specs.Claim.{machine, benchRun, Works, Premise, atStart, Premises}
 use Rattle.demand.proofs.AtOnce.{at-once-stays}

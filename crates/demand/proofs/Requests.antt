@@ -5,16 +5,17 @@ use mathlib.Core.Bool.{Bool, true, false}
 use native.Mathlib.Omega.{arith}
 use lib.ListN.{getD}
 use Rattle.hardware.specs.declared.Port.{Port}
-use Rattle.hardware.specs.declared.Error.the-variants.{I2c}
+use Rattle.hardware.specs.Failures.{I2c}
 use Rattle.hardware.specs.Prog.{Prog, R, Ok, Err, pick}
 use Rattle.bus.specs.declared.Layout.{Layout}
 use Rattle.bus.specs.declared.Taken.{Taken}
 use Rattle.bus.specs.Layout.{layoutOf}
 use Rattle.bus.specs.Bus.{none, took, isI2c}
-use Rattle.wire.specs.Lines.{drawn, Rests, distinct}
+use Rattle.wire.specs.Lines.{drawn, Rests}
 use Rattle.wire.specs.Machine.{World}
 use Rattle.wire.specs.Always.{Always}
 use Rattle.wire.proofs.Always.{always-bind}
+use Rattle.wire.proofs.Distinct.{distinct}
 use Rattle.bench.specs.declared.receiver.Stage.the-variants.{Idle, AckWrite}
 use Rattle.i2c.specs.declared.once.Request.the-variants.{ReadByte}
 use Rattle.i2c.specs.I2c.{standard, locked, deviceOf, isWrite, body, read-off, valueOf, givesValue, failedI2c, once, pauses, readJudged, readTries, retried, withBus, handshaken, transferred}

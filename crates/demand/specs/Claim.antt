@@ -25,10 +25,9 @@ use Rattle.bench.specs.declared.Bench.{Bench}
 use Rattle.bench.specs.declared.Page.{Page}
 use Rattle.bench.specs.declared.receiver.Stage.the-variants.{Idle, AckWrite}
 use Rattle.bench.specs.Bench.{takesEdge, pullsLow, benchPulls}
-use Rattle.sfp.specs.declared.Kind.the-variants.{NotPresent}
 use Rattle.sfp.specs.declared.Identity.{Identity}
 use Rattle.sfp.specs.Classes.{Bytes, Class, classOf, requests}
-use Rattle.sfp.specs.Identify.{identify}
+use Rattle.sfp.specs.Identify.{absent, identify}
 
 -- the module, and the transfers begun so far
 pub record CountedBench : Type 0 where
@@ -103,8 +102,9 @@ pub record Facts (l : Layout) (b : Bench) (result : R Identity) (w : World machi
   pub module-released : benchPulls (w .other .bench) ≡ nobody
   pub transfers : w .other .meter .transfers ≡ requests (byteOf (b .a0)) + extra b
 
+-- the record of no module: NotPresent, every other field zero or false
 unfoldable pub Absent : R Identity → Type 0
-Absent (Ok m) = m .kind ≡ NotPresent
+Absent (Ok m) = m ≡ absent
 Absent (Err e) = ⊥
 
 -- the module acknowledges, and a write is to follow
@@ -112,7 +112,7 @@ abbrev pub InAckWrite : Bench → Type 0
 InAckWrite b = b .receiver .stage ≡ AckWrite
 
 -- The claim, of the end of the call: its result carries the number of transfers made; the four facts hold together exactly
--- where the module did not start in AckWrite; where it did, the result is NotPresent after 11 transfers
+-- where the module did not start in AckWrite; where it did, the result is the record of no module after 11 transfers
 pub record Claimed (l : Layout) (b : Bench) (c : Counted (R Identity)) (w : World machine) : Type 0 where
   pub count : c .meter ≡ w .other .meter
   pub facts : (InAckWrite b → ⊥) → Facts l b (c .result) w

@@ -2,19 +2,33 @@
 use Prim.Native.Nat.{ℕ}
 use mathlib.Core.Path.{_≡_, refl}
 use mathlib.Core.Bool.{Bool, true, false, _||_}
-use mathlib.Core.List.{[], _∷_}
+use mathlib.Core.List.{List, [], _∷_}
+use lib.Bits.{bitOr}
 use Rattle.hardware.specs.declared.Family.the-variants.{X540, X552}
 use Rattle.hardware.specs.Asked.{is}
 use Rattle.hardware.specs.Prog.{pick}
 use Rattle.hardware.specs.Registers.{noneOf}
 use Rattle.sync.specs.Regs.{bits, bits82599, bitsX540}
-use Rattle.script.specs.Sum.{readBytes, writeBytes}
-use Rattle.script.proofs.Checksum.{examples}
+use Rattle.bus.specs.declared.command.Command.{Command}
+use Rattle.bus.specs.declared.command.Command.the-variants.{Start, Send, Read, Stop}
+use Rattle.script.specs.Script.{alone, commands}
+use Rattle.script.specs.Scripts.{readCombinedScript, writeCombinedScript}
+use Rattle.script.specs.Sum.{onesAdd, onesSumFrom, onesSum, checkByte, highWrite, highRead, readCheck, writeCheck}
 use Rattle.sfp.specs.declared.Kind.{Kind}
 use Rattle.sfp.specs.declared.Kind.the-variants.{DaCu, SrLr, Bx10g, Bx1g, Unknown}
 use Rattle.sfp.specs.Bytes.{sfpBytes}
 use Rattle.sfp.specs.Classes.{Bytes, Class, SFP, has, asksRate, asksReach, bx10g, kindOf, isCable, multispeedOf, classOf}
 use Rattle.sfp.specs.Kinds.{isKind}
+
+-- a combined read that sends the device these bytes, the check byte last; the device then sends three
+abbrev pub combinedRead : ℕ → ℕ → ℕ → ℕ → List Command
+combinedRead device high low check =
+    Start ∷ Send device ∷ Send high ∷ Send low ∷ Send check ∷ Start ∷ Send (bitOr device 1) ∷ Read false ∷ Read false ∷ Read true ∷ Stop ∷ []
+
+-- a combined write that sends the device these bytes, the check byte last
+abbrev pub combinedWrite : ℕ → ℕ → ℕ → ℕ → ℕ → ℕ → List Command
+combinedWrite device high low valueHigh valueLow check =
+    Start ∷ Send device ∷ Send high ∷ Send low ∷ Send valueHigh ∷ Send valueLow ∷ Send check ∷ Stop ∷ []
 
 -- an SFP with these bytes 3, 6, 8, 12, 14, 15 and 60
 abbrev pub sfp : ℕ → ℕ → ℕ → ℕ → ℕ → ℕ → ℕ → Bytes
@@ -26,10 +40,10 @@ class kind multispeed = record { kind = kind; multispeed = multispeed }
 pub record Starred : Type 0 where
   pub shared-i2c : bits X552 0x1806 ≡ record { sw = 0x1806; fw = 0x60c0; hw = 0 }
   pub eeprom : bits X540 1 ≡ record { sw = 1; fw = 0x20; hw = 0x10 }
-  pub read-1234 : readBytes 0x1234 ≡ 0x25 ∷ 0x34 ∷ 0xA6 ∷ []
-  pub read-7FFF : readBytes 0x7FFF ≡ 0xFF ∷ 0xFF ∷ 0x00 ∷ []
-  pub read-0080 : readBytes 0x0080 ≡ 0x01 ∷ 0x80 ∷ 0x7E ∷ []
-  pub write-ABCD : writeBytes 0x1234 0xABCD ≡ 0x24 ∷ 0x34 ∷ 0xAB ∷ 0xCD ∷ 0x2E ∷ []
+  pub read-1234 : (device : ℕ) → commands (readCombinedScript device 0x1234) ≡ combinedRead device 0x25 0x34 0xA6
+  pub read-7FFF : (device : ℕ) → commands (readCombinedScript device 0x7FFF) ≡ combinedRead device 0xFF 0xFF 0x00
+  pub read-0080 : (device : ℕ) → commands (readCombinedScript device 0x0080) ≡ combinedRead device 0x01 0x80 0x7E
+  pub write-ABCD : (device : ℕ) → commands (writeCombinedScript device 0x1234 0xABCD) ≡ combinedWrite device 0x24 0x34 0xAB 0xCD 0x2E
   pub reach-0A : (b60 : ℕ) → classOf (sfp 0x00 0x00 0x00 0x67 0x00 0x0A b60) ≡ class Bx10g false
   pub reach-09 : (b60 : ℕ) → classOf (sfp 0x00 0x00 0x00 0x67 0x00 0x09 b60) ≡ class Unknown false
   pub rate-66 : (b14 b15 b60 : ℕ) → classOf (sfp 0x00 0x40 0x00 0x66 b14 b15 b60) ≡ class Bx1g false
@@ -43,15 +57,15 @@ or-true false true = refl
 or-true false false = refl
 
 pub starred : Starred
-unfolding bits bits82599 bitsX540 is pick noneOf sfpBytes has asksRate asksReach bx10g kindOf isKind isCable multispeedOf classOf
+unfolding bits bits82599 bitsX540 is pick noneOf commands alone readCombinedScript writeCombinedScript readCheck writeCheck checkByte onesSum onesSumFrom onesAdd highWrite highRead sfpBytes has asksRate asksReach bx10g kindOf isKind isCable multispeedOf classOf
 starred =
     record {
       shared-i2c = refl;
       eeprom = refl;
-      read-1234 = examples .0;
-      read-7FFF = examples .1;
-      read-0080 = examples .2;
-      write-ABCD = examples .3;
+      read-1234 = λ device. refl;
+      read-7FFF = λ device. refl;
+      read-0080 = λ device. refl;
+      write-ABCD = λ device. refl;
       reach-0A = λ b60. refl;
       reach-09 = λ b60. refl;
       rate-66 = λ b14 b15 b60. refl;

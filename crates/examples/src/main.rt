@@ -3,6 +3,7 @@ mod classes;
 mod host;
 mod scripts;
 mod sends;
+mod views;
 
 use hardware::Family;
 
@@ -35,4 +36,5 @@ fn main() {
     scripts::print_forms();
     sends::print_send(10);
     sends::print_send(11);
+    views::print_views();
 }

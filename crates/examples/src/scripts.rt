@@ -7,7 +7,7 @@ use script::write::Wrote;
 // The module's device, which the combined bytes do not depend on.
 const DEVICE: u8 = 0xA0;
 
-fn print_byte(b: u8) {
+pub(crate) fn print_byte(b: u8) {
     io::write_all(STDOUT, b" ");
     io::print_hex(STDOUT, b as u64, 2);
 }

@@ -18,9 +18,13 @@ use Rattle.hardware.specs.declared.poll.Watch.{Watch}
 use Rattle.hardware.specs.Asked.{fits}
 use Rattle.hardware.specs.Prog.{Note, isTold, noteIf, Prog, ret, ask, note, give, stays, erase, metered, tally, R, Ok, Err, orErr, _>>=_, _>>?_, pick}
 use Rattle.hardware.specs.Registers.{read, readRaw, write, flush, delay}
-use Rattle.hardware.specs.Change.{settled, stored, change}
-use Rattle.hardware.specs.Poll.{polled, poll}
+use Rattle.hardware.specs.Change.{settled, stored, change, restUpdate}
+use Rattle.hardware.specs.Poll.{polled, poll, restPoll}
 use Rattle.hardware.specs.Runs.{Ends, Awaited, run, onAnswer, ended}
+use Rattle.hardware.specs.declared.Update.{Update}
+use Rattle.hardware.specs.declared.Update.the-variants.{Reading, Writing, Flushing}
+use Rattle.hardware.specs.declared.poll.Poll.{Poll}
+use Rattle.hardware.specs.declared.poll.Poll.the-variants.{Reading as Polling, Waiting}
 
 -- more answers do no harm
 pub ends-more : {A : Type 0} (p : Prog A) (n m : ℕ) → Ends p n → n ≤ m → Ends p m
@@ -133,6 +137,28 @@ poll-ends w (suc n) last =
     (ends-try _ _ 1 (1 + 2 * n) (read-ends _)
     (λ v. ends-pick _ _ _ (1 + 2 * n) (ret-ends _ _) (ends-try _ _ 1 (2 * n) (delay-ends _) (λ _. poll-ends w n v))))
     (omega arith)
+
+-- the answers that a change in progress may still need after the one it awaits, and a poll
+abbrev pub updateAfter : Update → ℕ
+updateAfter Reading = 2
+updateAfter (Writing v) = 1
+updateAfter Flushing = 0
+
+abbrev pub pollAfter : Poll → ℕ
+pollAfter (Polling left) = 1 + 2 * left
+pollAfter (Waiting left last) = 2 * left
+
+pub update-rest-ends : (c : Change) (t : Update) (a : Answer) → Ends (restUpdate c t a) (updateAfter t)
+unfolding restUpdate stored
+update-rest-ends c Reading a = ends-or _ _ 2 (λ v. ends-try _ _ 1 1 (write-ends _ _) (λ _. settled-ends _))
+update-rest-ends c (Writing v) a = ends-or _ _ 1 (λ _. settled-ends _)
+update-rest-ends c Flushing a = ret-ends _ 0
+
+pub poll-rest-ends : (w : Watch) (t : Poll) (a : Answer) → Ends (restPoll w t a) (pollAfter t)
+unfolding restPoll polled
+poll-rest-ends w (Polling left) a =
+    ends-or _ _ (1 + 2 * left) (λ v. ends-pick _ _ _ (1 + 2 * left) (ret-ends _ _) (ends-try _ _ 1 (2 * left) (delay-ends _) (λ _. poll-ends w left v)))
+poll-rest-ends w (Waiting left last) a = poll-ends w left last
 
 -- a run over enough answers of the awaited kinds ends
 pub run-ends : {A : Type 0} (p : Prog A) (n : ℕ) (l : List Answer) → Ends p n → n ≤ length l → Awaited p l → (v : A) × ((run p l) .status ≡ ended v)

@@ -4,14 +4,14 @@ use mathlib.Core.Path.{_≡_, refl, ap, sym, _∙_, subst}
 use mathlib.Core.Bool.{Bool, true, false}
 use mathlib.Core.List.{List, [], _∷_}
 use lib.Dec.{T, ltb}
-use lib.ListN.{getD}
+use lib.ListN.{getD, length}
 use native.Mathlib.Nat.{add-zero, zero-add}
 use native.Mathlib.Numerals.{sub-one}
 use native.Mathlib.Omega.{arith}
 use borrow.Author.Tests.{ltb-true}
 use Rattle.hardware.specs.Prog.{Note, Attempt, Acquires, Acquired, Released, Lapsed, Prog, ret, ask, note, give, erase, _>>=_, pick, attemptsAfter, metered, blank, tally}
 use Rattle.hardware.specs.Asked.{Asked, no, yes, andThen, question, openFamily, openLan, openPort, portOpened, validPort, fits, admitting, Admits}
-use Rattle.hardware.specs.Runs.{run, onAnswer, runAsked, run-erase, given, answered, transfersIn, meterIn, countedStatus, counted, led, driven, Awaited, AwaitedIn}
+use Rattle.hardware.specs.Runs.{run, onAnswer, runAsked, given, answered, transfersIn, meterIn, countedStatus, counted, Awaited, AwaitedIn, after, afterAsked, Step, answersOf, Kept, led, driven, Refuses, Asks, IfYes, Ends}
 use Rattle.hardware.specs.declared.Access.{Access}
 use Rattle.hardware.specs.declared.Admitted.{Admitted}
 use Rattle.hardware.specs.declared.Admitted.the-variants.{Yes, No}
@@ -27,6 +27,8 @@ use Rattle.hardware.specs.Poll.{poll, pollNext, accessPoll, restPoll}
 use Rattle.hardware.specs.declared.poll.Watch.{Watch}
 use Rattle.hardware.specs.declared.poll.Poll.the-variants.{Reading}
 use Rattle.hardware.specs.declared.poll.PollNext.the-variants.{Going}
+use Rattle.hardware.specs.Promise.{Keeps}
+use Rattle.hardware.proofs.Prog.{run-erase}
 
 -- with a read left, a poll begins by reading the register
 pub poll-more : (w : Watch) (tries last : ℕ) → (tries ≡ 0 → ⊥) → pollNext w (Going (Reading (tries - 1))) ≡ erase (poll w tries last)
@@ -142,28 +144,96 @@ unfolding runAsked andThen
 asked-runs (no n) p l = refl
 asked-runs (yes port) p l = ap yes (run-tally blank (p port) l)
 
--- a step after an answer of the awaited kind tells what is left of the call, and can be stepped on from
-abbrev pub StepsOn : {A Told : Type 0} → (Told → Asked (Prog A)) → (Told → Answer → Told) → (Told → Type 0) → Type 0
-StepsOn {A} {Told} said go Stands =
-    (t : Told) (x : Access) (f : Answer → Prog A) (a : Answer) → Stands t → said t ≡ yes (ask x f) → fits x a ≡ true → (said (go t a) ≡ yes (f a)) × Stands (go t a)
+pub is-true : (b : Bool) → T b → b ≡ true
+is-true true h = refl
+is-true false h = absurd h
 
--- so driven by its steps a call makes the run of what its opening says
-pub driven-runs : {A Told : Type 0} (said : Told → Asked (Prog A)) (go : Told → Answer → Told) (Stands : Told → Type 0) → StepsOn said go Stands
-    → (t : Told) (l : List Answer) → Stands t → AwaitedIn (said t) l → driven said go t l ≡ runAsked (said t) l
-unfolding driven led runAsked run onAnswer andThen AwaitedIn Awaited
-driven-runs said go Stands on t [] s w = refl
-driven-runs {A} said go Stands on t (a ∷ l) s w = by (said t) refl w (driven-runs said go Stands on (go t a) l)
+-- a step that keeps its promise, after an answer of the awaited kind, tells what is left of the call, and can be stepped on
+-- from; a step follows only what asked for an access
+abbrev pub StepsOn : {A Told : Type 0} → (Told → Asked (Prog A)) → (Told → Answer → Told → Type 0) → (Told → Type 0) → Type 0
+StepsOn {A} {Told} said Promise Stands =
+    (t u : Told) (a : Answer) → Stands t → Promise t a u → AwaitedIn (said t) (a ∷ []) → (said u ≡ afterAsked (said t) a) × Stands u × IfYes Asks (said t)
+
+-- one answer of the awaited kind, and those after it
+awaited-first : {A : Type 0} (p : Prog A) (a : Answer) (l : List Answer) → Awaited p (a ∷ l) → Awaited p (a ∷ []) × Awaited (after p a) l
+unfolding Awaited after
+awaited-first (ret v) a l w = (tt, tt)
+awaited-first (ask x f) a [] w = (w, w .1)
+awaited-first (ask x f) a (b ∷ l) w = ((w .0, by (f a)), w .1)
   where
-    is-true : (b : Bool) → T b → b ≡ true
-    is-true true h = refl
-    is-true false h = absurd h
+    by : {A : Type 0} (p : Prog A) → Awaited p []
+    by (ret v) = tt
+    by (ask y g) = tt
+    by (note n p) = by p
+    by (give c p) = by p
+awaited-first (note n p) a l w = awaited-first p a l w
+awaited-first (give b p) a l w = awaited-first p a l w
 
-    by : (q : Asked (Prog A)) → said t ≡ q → AwaitedIn q (a ∷ l) → (Stands (go t a) → AwaitedIn (said (go t a)) l → driven said go (go t a) l ≡ runAsked (said (go t a)) l)
-        → led q (a ∷ l) (driven said go (go t a) l) ≡ runAsked q (a ∷ l)
+led-run : {A : Type 0} (p : Prog A) (a : Answer) (l : List Answer) → led p (yes (run (after p a) l)) ≡ yes (run p (a ∷ l))
+unfolding led after run onAnswer andThen
+led-run (ret v) a l = refl
+led-run (ask x f) a l = refl
+led-run (note n p) a l = led-run p a l
+led-run (give b p) a l = ap (λ r. andThen r (λ r′. yes (given b r′))) (led-run p a l)
+
+-- so driven by its steps a call makes the run of what was told first
+pub driven-runs : {A Told : Type 0} (said : Told → Asked (Prog A)) (Promise : Told → Answer → Told → Type 0) (Stands : Told → Type 0) → StepsOn said Promise Stands
+    → (t : Told) (ks : List (Step Told)) → Stands t → Kept Promise t ks → AwaitedIn (said t) (answersOf ks) → driven said t ks ≡ runAsked (said t) (answersOf ks)
+unfolding driven answersOf runAsked andThen AwaitedIn Kept afterAsked
+driven-runs said Promise Stands on t [] s k w = refl
+driven-runs {A} said Promise Stands on t (k ∷ ks) s kept w = by (said t) refl w (driven-runs said Promise Stands on (k .told) ks)
+  where
+    by : (q : Asked (Prog A)) → said t ≡ q → AwaitedIn q (k .answer ∷ answersOf ks)
+        → (Stands (k .told) → Kept Promise (k .told) ks → AwaitedIn (said (k .told)) (answersOf ks) → driven said (k .told) ks ≡ runAsked (said (k .told)) (answersOf ks))
+        → andThen q (λ p. led p (driven said (k .told) ks)) ≡ runAsked q (k .answer ∷ answersOf ks)
     by (no n) e w h = refl
-    by (yes (ret v)) e w h = refl
-    by (yes (note n p)) e w h = refl
-    by (yes (give b p)) e w h = refl
-    by (yes (ask x f)) e w h =
-        let n = on t x f a s e (is-true (fits x a) (w .0))
-        in ap (λ r. andThen r (λ r′. yes (answered x r′))) (h (n .1) (subst (λ q. AwaitedIn q l) (sym (n .0)) (w .1)) ∙ ap (λ q. runAsked q l) (n .0))
+    by (yes p) e w h =
+        let a = awaited-first p (k .answer) (answersOf ks) w in
+        let n = on t (k .told) (k .answer) s (kept .0) (subst (λ q. AwaitedIn q (k .answer ∷ [])) (sym e) (a .0)) in
+        let tells : said (k .told) ≡ yes (after p (k .answer)) = n .0 ∙ ap (λ q. afterAsked q (k .answer)) e in
+        ap (led p) (h (n .1) (kept .1) (subst (λ q. AwaitedIn q (answersOf ks)) (sym tells) (a .1)) ∙ ap (λ q. runAsked q (answersOf ks)) tells)
+        ∙ led-run p (k .answer) (answersOf ks)
+
+-- the access is answered, and so many answers fewer end the call
+asked-ends : {A : Type 0} (p : Prog A) (a : Answer) (n : ℕ) → Asks p → Ends p n → Awaited p (a ∷ []) → (m : ℕ) × (n ≡ suc m) × Ends (after p a) m
+unfolding Asks Ends Awaited after
+asked-ends (ret v) a n k e w = absurd k
+asked-ends (ask x f) a zero k e w = absurd e
+asked-ends (ask x f) a (suc m) k e w = (m, refl, e a (w .0))
+asked-ends (note j p) a n k e w = asked-ends p a n k e w
+asked-ends (give b p) a n k e w = asked-ends p a n k e w
+
+-- A call that ends within n answers takes at most n steps
+pub steps-few : {A Told : Type 0} (said : Told → Asked (Prog A)) (Promise : Told → Answer → Told → Type 0) (Stands : Told → Type 0) → StepsOn said Promise Stands
+    → (t : Told) (ks : List (Step Told)) (n : ℕ) → Stands t → Kept Promise t ks → AwaitedIn (said t) (answersOf ks) → IfYes (λ p. Ends p n) (said t) → length ks ≤ n
+unfolding answersOf Kept AwaitedIn IfYes afterAsked
+steps-few said Promise Stands on t [] n s k w e = omega arith
+steps-few {A} said Promise Stands on t (k ∷ ks) n s kept w e = by (said t) refl w e (steps-few said Promise Stands on (k .told) ks)
+  where
+    by : (q : Asked (Prog A)) → said t ≡ q → AwaitedIn q (k .answer ∷ answersOf ks) → IfYes (λ p. Ends p n) q
+        → ((m : ℕ) → Stands (k .told) → Kept Promise (k .told) ks → AwaitedIn (said (k .told)) (answersOf ks) → IfYes (λ p. Ends p m) (said (k .told)) → length ks ≤ m)
+        → suc (length ks) ≤ n
+    by (no j) e w d h = absurd d
+    by (yes p) e w d h =
+        let a = awaited-first p (k .answer) (answersOf ks) w in
+        let n′ = on t (k .told) (k .answer) s (kept .0) (subst (λ q. AwaitedIn q (k .answer ∷ [])) (sym e) (a .0)) in
+        let tells : said (k .told) ≡ yes (after p (k .answer)) = n′ .0 ∙ ap (λ q. afterAsked q (k .answer)) e in
+        let m = asked-ends p (k .answer) n (subst (IfYes Asks) e (n′ .2)) d (a .0) in
+        let rest = h (m .0) (n′ .1) (kept .1) (subst (λ q. AwaitedIn q (answersOf ks)) (sym tells) (a .1)) (subst (IfYes (λ p. Ends p (m .0))) (sym tells) (m .2)) in
+        rw (m .1) (omega (arith, rest))
+
+-- a refused opening has no run
+pub refused-runs : {A Told : Type 0} (said : Told → Asked (Prog A)) (t : Told) (ks : List (Step Told)) → Refuses (said t) → driven said t ks ≡ runAsked (said t) (answersOf ks)
+unfolding driven answersOf andThen runAsked Refuses
+refused-runs said t [] h = refl
+refused-runs {A} said t (k ∷ ks) h = by (said t) h
+  where
+    by : (q : Asked (Prog A)) → Refuses q → andThen q (λ p. led p (driven said (k .told) ks)) ≡ runAsked q (k .answer ∷ answersOf ks)
+    by (no n) h = refl
+    by (yes p) h = absurd h
+
+-- ... and from an opening that keeps its promise the run of what it is to say
+pub opened-runs : {A Told : Type 0} {o : Asked (Prog A)} (said : Told → Asked (Prog A)) (Promise : Told → Answer → Told → Type 0) (Stands : Told → Type 0) → StepsOn said Promise Stands
+    → (t : Told) (ks : List (Step Told)) → Keeps (said t ≡ o) (Stands t) → Kept Promise t ks → AwaitedIn o (answersOf ks) → driven said t ks ≡ runAsked (said t) (answersOf ks)
+opened-runs said Promise Stands on t ks k kept w =
+    driven-runs said Promise Stands on t ks (k .limits) kept (subst (λ q. AwaitedIn q (answersOf ks)) (sym (k .yields)) w)

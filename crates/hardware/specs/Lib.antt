@@ -2,6 +2,7 @@ pub mod Promise
 pub mod Prog
 pub mod Marks
 pub mod Numbers
+pub mod Failures
 pub mod Asked
 pub mod Registers
 pub mod Runs

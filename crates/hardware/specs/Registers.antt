@@ -6,7 +6,6 @@ use lib.Dec.{eqb}
 use Rattle.hardware.specs.declared.Access.the-variants.{Read, Write, Wait}
 use Rattle.hardware.specs.declared.Answer.{Answer}
 use Rattle.hardware.specs.declared.Answer.the-variants.{Value, Done, Failed}
-use Rattle.hardware.specs.declared.Error.the-variants.{Io, Removed}
 use Rattle.hardware.specs.declared.Micros.{Micros}
 use Rattle.hardware.specs.declared.Word.{Word}
 use Rattle.hardware.specs.declared.Word.the-variants.{Ok as WordOk, Err as WordErr}
@@ -16,6 +15,7 @@ use Rattle.hardware.specs.declared.Byte.{Byte}
 use Rattle.hardware.specs.declared.Byte.the-variants.{Ok as ByteOk, Err as ByteErr}
 use Rattle.hardware.specs.declared.Flag.{Flag}
 use Rattle.hardware.specs.declared.Flag.the-variants.{Ok as FlagOk, Err as FlagErr}
+use Rattle.hardware.specs.Failures.{Io, Removed, failureOf}
 use Rattle.hardware.specs.Prog.{Prog, ret, ask, R, Ok, Err, pick}
 
 abbrev pub STATUS : ℕ
@@ -79,16 +79,16 @@ delayMs ms = delay (ms * 1000)
 -- the enums that stand for the Rust's `R<u32>`, `R<()>`, `R<u8>` and `R<bool>`
 unfoldable pub word : Word → R ℕ
 word (WordOk v) = Ok v
-word (WordErr e) = Err e
+word (WordErr e) = Err (failureOf e)
 
 unfoldable pub outcome : Outcome → R (Unit {0})
 outcome OutcomeOk = Ok tt
-outcome (OutcomeErr e) = Err e
+outcome (OutcomeErr e) = Err (failureOf e)
 
 unfoldable pub byte : Byte → R ℕ
 byte (ByteOk b) = Ok b
-byte (ByteErr e) = Err e
+byte (ByteErr e) = Err (failureOf e)
 
 unfoldable pub flag : Flag → R Bool
 flag (FlagOk b) = Ok b
-flag (FlagErr e) = Err e
+flag (FlagErr e) = Err (failureOf e)

@@ -1,14 +1,12 @@
 -- A call run over a list of answers.
 use Prim.Native.Nat.{ℕ, suc, zero}
-use mathlib.Core.Path.{_≡_, refl, ap, fun-ext, _∙_}
-use mathlib.Core.Bool.{Bool, true, false}
 use mathlib.Core.List.{List, [], _∷_}
 use lib.Dec.{T}
 use Rattle.hardware.specs.declared.Access.{Access}
 use Rattle.hardware.specs.declared.Answer.{Answer}
 use Rattle.hardware.specs.declared.Meter.{Meter}
 use Rattle.hardware.specs.Asked.{Asked, no, yes, andThen, fits}
-use Rattle.hardware.specs.Prog.{Prog, ret, ask, note, give, Note, isTold, noteIf, stays, erase, Counted, attemptsAfter, metered}
+use Rattle.hardware.specs.Prog.{Prog, ret, ask, note, give, Counted, attemptsAfter, metered}
 
 -- how a run stands: it has ended, or waits for the answer to one more access
 pub data Status (A : Type 0) : Type 0 where
@@ -37,22 +35,6 @@ run (ret v) = λ l. record { accesses = []; bytes = []; status = ended v }
 run (ask x f) = onAnswer x (λ a. run (f a))
 run (note n p) = run p
 run (give b p) = λ l. given b (run p l)
-
-pub run-stays : {A : Type 0} (n : Note) (p : Prog A) → run (stays n p) ≡ run p
-unfolding run
-run-stays n p = by (isTold n)
-  where
-    by : (b : Bool) → run (noteIf b n p) ≡ run p
-    by true = refl
-    by false = refl
-
--- a run sees nothing of the notes
-pub run-erase : {A : Type 0} (p : Prog A) → run (erase p) ≡ run p
-unfolding run erase
-run-erase (ret v) = refl
-run-erase (ask x f) = ap (onAnswer x) (fun-ext (λ a. run-erase (f a)))
-run-erase (note n p) = run-stays n (erase p) ∙ run-erase p
-run-erase (give b p) = fun-ext (λ l. ap (λ r. given b (r l)) (run-erase p))
 
 -- n answers of the awaited kinds bring the call to its end, whatever they are
 unfoldable pub Ends : {A : Type 0} → Prog A → ℕ → Type 0
@@ -99,19 +81,61 @@ countedStatus m (waiting x) = waiting x
 abbrev pub counted : {A : Type 0} → Meter → Run A → Run (Counted A)
 counted m r = record { accesses = r .accesses; bytes = r .bytes; status = countedStatus m (r .status) }
 
--- A call driven by its steps over a list of answers. said: what a telling says; go: what the next step tells
-unfoldable pub led : {A : Type 0} → Asked (Prog A) → List Answer → Asked (Run A) → Asked (Run A)
-led (no n) l rest = no n
-led (yes (ret v)) l rest = runAsked (yes (ret v)) l
-led (yes (ask x f)) l rest = andThen rest (λ r. yes (answered x r))
-led (yes (note n p)) l rest = runAsked (yes (note n p)) l
-led (yes (give b p)) l rest = runAsked (yes (give b p)) l
+-- what is left after the answer to the first access
+unfoldable pub after : {A : Type 0} → Prog A → Answer → Prog A
+after (ret v) a = ret v
+after (ask x f) a = f a
+after (note n p) a = after p a
+after (give b p) a = after p a
 
-unfoldable pub driven : {A Told : Type 0} → (Told → Asked (Prog A)) → (Told → Answer → Told) → Told → List Answer → Asked (Run A)
-driven said go t [] = runAsked (said t) []
-driven said go t (a ∷ l) = led (said t) (a ∷ l) (driven said go (go t a) l)
+unfoldable pub afterAsked : {A : Type 0} → Asked (Prog A) → Answer → Asked (Prog A)
+afterAsked (no n) a = no n
+afterAsked (yes p) a = yes (after p a)
+
+-- an access is awaited
+unfoldable pub Asks : {A : Type 0} → Prog A → Type 0
+Asks (ret v) = ⊥
+Asks (ask x f) = Unit {0}
+Asks (note n p) = Asks p
+Asks (give b p) = Asks p
+
+-- a fact of what an opening or a step says, where it did not refuse
+unfoldable pub IfYes : {A : Type 0} → (A → Type 0) → Asked A → Type 0
+IfYes P (no n) = ⊥
+IfYes P (yes a) = P a
+
+-- A step of a call as its host sees it: the answer that it was given, and what it then told
+pub record Step (Told : Type 0) : Type 0 where
+  pub answer : Answer
+  pub told : Told
+
+unfoldable pub answersOf : {Told : Type 0} → List (Step Told) → List Answer
+answersOf [] = []
+answersOf (k ∷ ks) = k .answer ∷ answersOf ks
+
+-- each step keeps its promise, of what was told before it and of what it tells itself
+unfoldable pub Kept : {Told : Type 0} → (Told → Answer → Told → Type 0) → Told → List (Step Told) → Type 0
+Kept Promise t [] = Unit {0}
+Kept Promise t (k ∷ ks) = Promise t (k .answer) (k .told) × Kept Promise (k .told) ks
+
+-- What a host sees of p, told to it, and of the steps after it: the access is answered, the byte is handed out
+unfoldable pub led : {A : Type 0} → Prog A → Asked (Run A) → Asked (Run A)
+led (ret v) rest = yes (run (ret v) [])
+led (ask x f) rest = andThen rest (λ r. yes (answered x r))
+led (note n p) rest = led p rest
+led (give b p) rest = andThen (led p rest) (λ r. yes (given b r))
+
+-- A call as its host drives it, from what was told first. said: what a telling says
+unfoldable pub driven : {A Told : Type 0} → (Told → Asked (Prog A)) → Told → List (Step Told) → Asked (Run A)
+driven said t [] = runAsked (said t) []
+driven said t (k ∷ ks) = andThen (said t) (λ p. led p (driven said (k .told) ks))
 
 -- each answer is of the awaited kind, where the call was not refused
 unfoldable pub AwaitedIn : {A : Type 0} → Asked (Prog A) → List Answer → Type 0
 AwaitedIn (no n) l = Unit {0}
 AwaitedIn (yes p) l = Awaited p l
+
+-- the call was refused
+unfoldable pub Refuses : {A : Type 0} → Asked A → Type 0
+Refuses (no n) = Unit {0}
+Refuses (yes p) = ⊥

@@ -1,19 +1,27 @@
 -- How many answers of the awaited kinds bring a firmware command to its end, n words in its block.
-use Prim.Native.Nat.{ℕ, _+_, _*_, suc, zero}
+use Prim.Native.Nat.{ℕ, _+_, _*_, suc, zero, _≤_}
 use mathlib.Core.Path.{_≡_, refl}
 use mathlib.Core.Bool.{Bool, true, false}
 use mathlib.Core.List.{List, [], _∷_}
 use native.Mathlib.Omega.{arith}
 use borrow.Author.Tests.{ltb-false}
-use lib.ListN.{length}
+use lib.ListN.{length, drop}
 use Rattle.hardware.specs.declared.Family.{Family}
 use Rattle.hardware.specs.declared.Port.{Port}
 use Rattle.hardware.specs.Prog.{Prog, R, Ok, Err, pick}
 use Rattle.hardware.specs.Runs.{Ends}
-use Rattle.hardware.proofs.Ends.{ends-more, ends-bind, ends-try, ends-pick, ret-ends, note-ends, read-ends, readRaw-ends, write-ends, unflushed-ends, poll-ends}
+use Rattle.hardware.proofs.Ends.{ends-more, ends-bind, ends-try, ends-pick, ret-ends, note-ends, read-ends, readRaw-ends, write-ends, unflushed-ends, poll-ends, ends-or, updateAfter, pollAfter, update-rest-ends, poll-rest-ends}
 use Rattle.sync.specs.Regs.{SW-MNG, tries}
-use Rattle.sync.proofs.Ends.{ACQUIRE-BITS-STEPS, RELEASE-BITS-STEPS, acquire-bits-ends, release-bits-ends}
-use Rattle.hostif.specs.Hostif.{POLLS, Left, words, completed, polling, start, enabled, hicrRead, request, wordSeen, lenOf, wordsOf, fill, headSeen, respond, closed, released, requested, acquired, command, tokenBlock, tokened, token}
+use Rattle.sync.proofs.Ends.{ACQUIRE-BITS-STEPS, RELEASE-BITS-STEPS, acquire-bits-ends, release-bits-ends, acquireBitsAfter, releaseBitsAfter, acquire-bits-rest-ends, release-bits-rest-ends}
+use Rattle.hostif.specs.Hostif.{POLLS, Left, words, completed, polling, start, enabled, hicrRead, request, wordSeen, lenOf, wordsOf, fill, headSeen, respond, closed, released, requested, acquired, command, tokenBlock, tokened, token, restRequest, restResponse, restCommand, tokenWords, restToken}
+use Rattle.hardware.specs.declared.Answer.{Answer}
+use Rattle.hostif.specs.declared.request.Request.{Request}
+use Rattle.hostif.specs.declared.request.Request.the-variants.{Fwsts, Hicr, Word, Start, Polling}
+use Rattle.hostif.specs.declared.response.Response.{Response}
+use Rattle.hostif.specs.declared.response.Response.the-variants.{Head, Rest}
+use Rattle.hostif.specs.declared.command.Command.{Command}
+use Rattle.hostif.specs.declared.command.Command.the-variants.{Acquiring, Requesting, Responding, Releasing}
+use Rattle.hostif.specs.declared.token.Token.{Token}
 
 -- FWSTS read and written, HICR read, the words, HICR written, a read and a wait for each poll
 abbrev pub REQUEST-STEPS : ℕ → ℕ
@@ -117,3 +125,67 @@ token-ends port take =
     ends-more _ (TOKEN-STEPS (port .family) + 0) (TOKEN-STEPS (port .family))
     (ends-bind _ _ (TOKEN-STEPS (port .family)) 0 (command-ends port (tokenBlock port take)) (λ left. ret-ends _ 0))
     (omega arith)
+
+-- the answers that each machine may still need after the one it awaits, n words in the block
+abbrev pub requestAfter : ℕ → Request → ℕ
+requestAfter n (Fwsts t) = updateAfter t + (1 + (n + (1 + 2 * POLLS)))
+requestAfter n Hicr = n + (1 + 2 * POLLS)
+requestAfter n (Word hicr at) = n + (1 + 2 * POLLS)
+requestAfter n (Start hicr) = 2 * POLLS
+requestAfter n (Polling t) = pollAfter t
+
+abbrev pub responseAfter : ℕ → Response → ℕ
+responseAfter n (Head last) = n
+responseAfter n (Rest head left) = left
+
+abbrev pub commandAfter : ℕ → Command → ℕ
+commandAfter n (Acquiring t) = acquireBitsAfter t + (REQUEST-STEPS n + (RESPOND-STEPS n + RELEASE-BITS-STEPS))
+commandAfter n (Requesting t) = requestAfter n t + (RESPOND-STEPS n + RELEASE-BITS-STEPS)
+commandAfter n (Responding t) = responseAfter n t + RELEASE-BITS-STEPS
+commandAfter n (Releasing t s) = releaseBitsAfter t
+
+abbrev pub tokenAfter : Token → ℕ
+tokenAfter s = commandAfter 2 (s .command)
+
+hicr-read-ends : (block : List ℕ) → Ends (hicrRead block) (1 + (length block + (1 + 2 * POLLS)))
+unfolding hicrRead enabled
+hicr-read-ends block =
+    ends-try _ _ 1 (length block + (1 + 2 * POLLS)) (read-ends _)
+    (λ hicr. ends-pick _ _ _ (length block + (1 + 2 * POLLS)) (ret-ends _ _) (words-ends 0 block _ (1 + 2 * POLLS) (start-ends hicr)))
+
+drop-few : (n : ℕ) (l : List ℕ) → length (drop n l) ≤ length l
+unfolding drop
+drop-few zero l = omega arith
+drop-few (suc n) [] = omega arith
+drop-few (suc n) (v ∷ l) = omega (arith, drop-few n l)
+
+request-rest-ends : (t : Request) (block : List ℕ) (a : Answer) → Ends (restRequest t block a) (requestAfter (length block) t)
+unfolding restRequest enabled polling
+request-rest-ends (Fwsts t) block a = ends-try _ _ (updateAfter t) _ (update-rest-ends _ t a) (λ _. hicr-read-ends block)
+request-rest-ends Hicr block a =
+    ends-or _ _ _ (λ hicr. ends-pick _ _ _ (length block + (1 + 2 * POLLS)) (ret-ends _ _) (words-ends 0 block _ (1 + 2 * POLLS) (start-ends hicr)))
+request-rest-ends (Word hicr at) block a =
+    ends-or _ _ _ (λ _. ends-more _ (length (drop (at + 1) block) + (1 + 2 * POLLS)) (length block + (1 + 2 * POLLS)) (words-ends (at + 1) (drop (at + 1) block) _ (1 + 2 * POLLS) (start-ends hicr))
+    (omega (arith, drop-few (at + 1) block)))
+request-rest-ends (Start hicr) block a = ends-or _ _ _ (λ _. ends-more _ (2 * POLLS + 0) (2 * POLLS) (ends-try _ _ (2 * POLLS) 0 (poll-ends _ POLLS _) (λ last. completed-ends last)) (omega arith))
+request-rest-ends (Polling t) block a = ends-more _ (pollAfter t + 0) (pollAfter t) (ends-try _ _ (pollAfter t) 0 (poll-rest-ends _ t a) (λ last. completed-ends last)) (omega arith)
+
+response-rest-ends : (t : Response) (block : List ℕ) (a : Answer) → Ends (restResponse t block a) (responseAfter (length block) t)
+unfolding restResponse
+response-rest-ends (Head last) block a = head-ends last block _
+response-rest-ends (Rest head left) block a = seen-ends (fill head left) _ block left (fill-ends head left) _
+
+pub command-rest-ends : (port : Port) (t : Command) (block : List ℕ) (a : Answer) → Ends (restCommand port t block a) (commandAfter (length block) t)
+unfolding restCommand closed
+command-rest-ends port (Acquiring t) block a =
+    ends-bind _ _ (acquireBitsAfter t) _ (acquire-bits-rest-ends port SW-MNG t a) (λ r. acquired-ends port block r)
+command-rest-ends port (Requesting t) block a = ends-bind _ _ (requestAfter (length block) t) _ (request-rest-ends t block a) (λ r. requested-ends port block r)
+command-rest-ends port (Responding t) block a =
+    ends-bind _ _ (responseAfter (length block) t) RELEASE-BITS-STEPS (response-rest-ends t block a) (λ left. released-ends port left)
+command-rest-ends port (Releasing t s) block a =
+    ends-more _ (releaseBitsAfter t + 0) (releaseBitsAfter t) (ends-bind _ _ (releaseBitsAfter t) 0 (release-bits-rest-ends port SW-MNG t a) (λ r. ret-ends _ 0)) (omega arith)
+
+pub token-rest-ends : (port : Port) (take : Bool) (t : Token) (a : Answer) → Ends (restToken port take t a) (tokenAfter t)
+unfolding restToken tokened
+token-rest-ends port take t a =
+    ends-more _ (tokenAfter t + 0) (tokenAfter t) (ends-bind _ _ (tokenAfter t) 0 (command-rest-ends port (t .command) (tokenWords t) a) (λ left. ret-ends _ 0)) (omega arith)

@@ -1,30 +1,32 @@
 -- Whole calls of `command` and `token`: for every port and block that is accepted and every list of answers the
 -- library's run is the Rust's, and every list of answers of the awaited kinds that is long enough brings it to its end.
 -- A state that was handed out is not refused at its next step.
-use Prim.Native.Nat.{ℕ, _≤_}
-use mathlib.Core.Path.{_≡_, ap, _∙_}
-use mathlib.Core.Bool.{Bool, true}
-use mathlib.Core.List.{List}
+use Prim.Native.Nat.{ℕ, _≤_, suc}
+use mathlib.Core.Path.{_≡_, ap, _∙_, subst, sym, refl}
+use mathlib.Core.Bool.{Bool, true, false}
+use mathlib.Core.List.{List, [], _∷_}
 use lib.ListN.{length}
 use Rattle.hardware.specs.declared.Access.{Access}
 use Rattle.hardware.specs.declared.Answer.{Answer}
 use Rattle.hardware.specs.declared.Port.{Port}
-use Rattle.hardware.specs.Asked.{yes, andThen, question, openPort, fits, admitting}
+use Rattle.hardware.specs.Asked.{yes, andThen, question, openPort, fits, admitting, Asked, no}
 use Rattle.hardware.specs.Prog.{R, erase}
-use Rattle.hardware.specs.Runs.{run, runAsked, run-erase, Awaited, ended}
-use Rattle.hardware.proofs.Laws.{runs-open}
-use Rattle.hardware.proofs.Ends.{run-ends}
+use Rattle.hardware.specs.Runs.{run, runAsked, Awaited, ended, AwaitedIn, after, afterAsked, Step, answersOf, Kept, driven, Refuses, Asks, IfYes}
+use Rattle.hardware.proofs.Laws.{runs-open, is-true, StepsOn, opened-runs, refused-runs, steps-few}
+use Rattle.hardware.proofs.Ends.{run-ends, ask-ends, ends-erase}
 use Rattle.hostif.specs.declared.command.Command.{Command}
 use Rattle.hostif.specs.declared.token.Token.{Token}
-use Rattle.hostif.specs.declared.calls.CommandCall.the-variants.{Going as CommandGoing}
+use Rattle.hostif.specs.declared.calls.CommandCall.the-variants.{Going as CommandGoing, Over as CommandOver}
 use Rattle.hostif.specs.declared.calls.CommandTold.{CommandTold}
-use Rattle.hostif.specs.declared.calls.CommandTold.the-variants.{Ask as CommandAsk}
-use Rattle.hostif.specs.declared.calls.TokenCall.the-variants.{Going as TokenGoing}
+use Rattle.hostif.specs.declared.calls.CommandTold.the-variants.{Ask as CommandAsk, End as CommandEnd, Refused as CommandRefused}
+use Rattle.hostif.specs.declared.calls.TokenCall.the-variants.{Going as TokenGoing, Over as TokenOver}
 use Rattle.hostif.specs.declared.calls.TokenTold.{TokenTold}
-use Rattle.hostif.specs.declared.calls.TokenTold.the-variants.{Ask as TokenAsk}
+use Rattle.hostif.specs.declared.calls.TokenTold.the-variants.{Ask as TokenAsk, End as TokenEnd, Refused as TokenRefused}
 use Rattle.hostif.specs.Hostif.{Left, command, restCommand, token, restToken}
-use Rattle.hostif.specs.Calls.{goes, lent, blockFits, openCommand, stepped, stepCommand, saidCommand, standsCommand, openToken, stepToken, saidToken, standsToken}
-use Rattle.hostif.proofs.Ends.{COMMAND-STEPS, command-ends, TOKEN-STEPS, token-ends}
+use Rattle.hostif.specs.Calls.{goes, lent, blockFits, openCommand, stepped, stepCommand, saidCommand, standsCommand, openToken, stepToken, saidToken, standsToken, followsToken, CommandAt, asked, saidAt, followsCommand, followsBlock}
+use Rattle.hostif.proofs.Ends.{COMMAND-STEPS, command-ends, TOKEN-STEPS, token-ends, tokenAfter, token-rest-ends}
+use Rattle.hardware.specs.Promise.{Keeps}
+use Rattle.hardware.proofs.Prog.{run-erase}
 
 -- an accepted command goes on as the Rust's, from the first access to the block that it leaves
 pub command-goes : (family device lan : ℕ) (block : List ℕ) (port : Port) (r : CommandTold)
@@ -47,6 +49,52 @@ pub command-accepts : (x : Access) (port : Port) (t : Command) (block : List ℕ
 unfolding standsCommand stepCommand stepped lent admitting question
 command-accepts x port t block a h b e = rw (b, h .1, ← h .0, e)
 
+-- a telling whose state can be stepped on from, with an accepted block
+abbrev standsAt : CommandAt → Type 0
+standsAt t = standsCommand (t .told) (t .block) × (blockFits (t .block) ≡ true)
+
+block-on : (t : CommandTold) (b : List ℕ) (a : Answer) (u : CommandTold) (c : List ℕ) → standsCommand t b → blockFits b ≡ true → followsBlock t b a u c
+    → AwaitedIn (asked (saidCommand t b)) (a ∷ [])
+    → (asked (saidCommand u c) ≡ afterAsked (asked (saidCommand t b)) a) × (standsCommand u c × (blockFits c ≡ true)) × IfYes Asks (asked (saidCommand t b))
+unfolding followsBlock saidCommand standsCommand asked AwaitedIn Awaited afterAsked after blockFits IfYes Asks
+block-on (CommandAsk y (CommandGoing port t)) b a u c h f k w =
+    (ap asked (k .0 .yields ∙ command-accepts y port t b a h f (is-true (fits y a) (w .0))), (k .0 .limits, rw (k .1) f), tt)
+block-on (CommandAsk y CommandOver) b a u c h f k w = absurd h
+block-on (CommandEnd v) b a u c h f k w = absurd k
+block-on (CommandRefused q) b a u c h f k w = absurd k
+
+command-on : StepsOn saidAt followsCommand standsAt
+command-on t u a h k w = block-on (t .told) (t .block) a (u .told) (u .block) (h .0) (h .1) k w
+
+-- an opening's questions and then the run
+command-opened : (block : List ℕ) (l : List Answer) (o : Asked Port) (b : Bool)
+    → runAsked (asked (lent block (andThen o (λ port. question b 8 (yes (erase (command port block))))))) l
+    ≡ andThen o (λ port. question b 8 (yes (run (command port block) l)))
+unfolding lent asked andThen question runAsked
+command-opened block l (no n) b = refl
+command-opened block l (yes port) false = refl
+command-opened block l (yes port) true = ap yes (command-runs port block l)
+
+command-refuses : (block : List ℕ) (o : Asked Port) (b : Bool) → b ≡ false → Refuses (asked (lent block (andThen o (λ port. question b 8 (yes (erase (command port block)))))))
+unfolding lent asked andThen question Refuses
+command-refuses block (no n) b e = tt
+command-refuses block (yes port) b e = rw e tt
+
+-- from the opening on, driven by steps that keep their promises, the block lent to each as the one before left it
+pub command-driven : (family device lan : ℕ) (block : List ℕ) (t : CommandTold) → Keeps (saidCommand t block ≡ openCommand family device lan block) (standsCommand t block)
+    → (ks : List (Step CommandAt)) → Kept followsCommand (record { told = t; block = block }) ks → AwaitedIn (asked (openCommand family device lan block)) (answersOf ks)
+    → driven saidAt (record { told = t; block = block }) ks
+    ≡ andThen (openPort family device lan) (λ port. question (blockFits block) 8 (yes (run (command port block) (answersOf ks))))
+unfolding openCommand
+command-driven family device lan block t k ks kept w =
+    by (blockFits block) refl ∙ ap (λ q. runAsked (asked q) (answersOf ks)) (k .yields) ∙ command-opened block (answersOf ks) (openPort family device lan) (blockFits block)
+  where
+    by : (b : Bool) → blockFits block ≡ b → driven saidAt (record { told = t; block = block }) ks ≡ runAsked (asked (saidCommand t block)) (answersOf ks)
+    by true e =
+        opened-runs saidAt followsCommand standsAt command-on (record { told = t; block = block }) ks (record { yields = ap asked (k .yields); limits = (k .limits, e) }) kept w
+    by false e =
+        refused-runs saidAt (record { told = t; block = block }) ks (subst (λ q. Refuses (asked q)) (sym (k .yields)) (command-refuses block (openPort family device lan) (blockFits block) e))
+
 pub token-runs : (family device lan : ℕ) (take : Bool) (r : TokenTold) → saidToken r ≡ openToken family device lan take → (l : List Answer)
     → runAsked (saidToken r) l ≡ andThen (openPort family device lan) (λ port. yes (run (token port take) l))
 unfolding openToken
@@ -60,3 +108,22 @@ pub token-accepts : (x : Access) (port : Port) (take : Bool) (t : Token) (a : An
     → fits x a ≡ true → stepToken (TokenGoing port take t) a ≡ yes (erase (restToken port take t a))
 unfolding standsToken stepToken admitting question
 token-accepts x port take t a h e = rw (h .1, ← h .0, e)
+
+token-on : StepsOn saidToken followsToken standsToken
+unfolding followsToken saidToken standsToken AwaitedIn Awaited afterAsked after IfYes Asks
+token-on (TokenAsk y (TokenGoing port take t)) u a h k w = (k .yields ∙ token-accepts y port take t a h (is-true (fits y a) (w .0)), k .limits, tt)
+token-on (TokenAsk y TokenOver) u a h k w = absurd h
+token-on (TokenEnd b) u a h k w = absurd k
+token-on (TokenRefused q) u a h k w = absurd k
+
+-- from the opening on, driven by steps that keep their promises
+pub token-driven : (family device lan : ℕ) (take : Bool) (t : TokenTold) → Keeps (saidToken t ≡ openToken family device lan take) (standsToken t) → (ks : List (Step TokenTold)) → Kept followsToken t ks
+    → AwaitedIn (openToken family device lan take) (answersOf ks) → driven saidToken t ks ≡ andThen (openPort family device lan) (λ port. yes (run (token port take) (answersOf ks)))
+token-driven family device lan take t k ks kept w = opened-runs saidToken followsToken standsToken token-on t ks k kept w ∙ token-runs family device lan take t (k .yields) (answersOf ks)
+
+-- from any state that passes question 10, whoever made it, the call takes at most so many steps more
+pub token-lasts : (x : Access) (port : Port) (take : Bool) (s : Token) (ks : List (Step TokenTold)) → standsToken (TokenAsk x (TokenGoing port take s))
+    → Kept followsToken (TokenAsk x (TokenGoing port take s)) ks → AwaitedIn (saidToken (TokenAsk x (TokenGoing port take s))) (answersOf ks) → length ks ≤ suc (tokenAfter s)
+unfolding saidToken IfYes
+token-lasts x port take s ks h k w =
+    steps-few saidToken followsToken standsToken token-on (TokenAsk x (TokenGoing port take s)) ks (suc (tokenAfter s)) h k w (ask-ends x _ (tokenAfter s) (λ a. ends-erase _ _ (token-rest-ends port take s a)))

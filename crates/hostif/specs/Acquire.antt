@@ -6,7 +6,7 @@ use lib.Dec.{eqb}
 use Rattle.hardware.specs.declared.Port.{Port}
 use Rattle.hardware.specs.declared.Access.the-variants.{Wait}
 use Rattle.hardware.specs.declared.Answer.{Answer}
-use Rattle.hardware.specs.declared.Error.the-variants.{Firmware}
+use Rattle.hardware.specs.Failures.{Firmware}
 use Rattle.hardware.specs.Prog.{Prog, ret, ask, note, Acquires, Acquired, Released, R, Ok, Err, _>>=_, _>>?_, pick}
 use Rattle.hardware.specs.Registers.{noneOf, not32, micros}
 use Rattle.sync.specs.Regs.{TOKEN}

@@ -22,6 +22,7 @@ use Rattle.hostif.specs.declared.calls.TokenCall.the-variants.{Going as 
 use Rattle.hostif.specs.declared.calls.TokenTold.{TokenTold}
 use Rattle.hostif.specs.declared.calls.TokenTold.the-variants.{Ask as TokenAsk, End as TokenEnd, Refused as TokenRefused}
 use Rattle.hostif.specs.Hostif.{Left, command, accessCommand, restCommand, validCommand, token, accessToken, restToken, validToken}
+use Rattle.hardware.specs.Promise.{Keeps}
 
 -- a call with a lent block: refused with a number, the block as it is now, or gone on with
 pub data Lent : Type 0 where
@@ -68,6 +69,28 @@ standsCommand (CommandAsk x CommandOver) block = ⊥
 standsCommand (CommandEnd b) block = Unit {0}
 standsCommand (CommandRefused q) block = Unit {0}
 
+-- a telling with the block as it is then, which is lent to the next step
+pub record CommandAt : Type 0 where
+  pub told : CommandTold
+  pub block : List ℕ
+
+unfoldable pub asked : Lent → Asked (Prog Left)
+asked (refused n block) = no n
+asked (goes p) = yes p
+
+abbrev pub saidAt : CommandAt → Asked (Prog Left)
+saidAt t = asked (saidCommand (t .told) (t .block))
+
+-- what a step told, u, with the block c, follows what was told before it, t, with the block b: as the step promises. A lent
+-- block keeps its length
+unfoldable pub followsBlock : CommandTold → List ℕ → Answer → CommandTold → List ℕ → Type 0
+followsBlock (CommandAsk x s) b a u c = Keeps (saidCommand u c ≡ stepCommand s b a) (standsCommand u c) × (length c ≡ length b)
+followsBlock (CommandEnd v) b a u c = ⊥
+followsBlock (CommandRefused q) b a u c = ⊥
+
+abbrev pub followsCommand : CommandAt → Answer → CommandAt → Type 0
+followsCommand t a u = followsBlock (t .told) (t .block) a (u .told) (u .block)
+
 -- `token`: 1 and 2
 unfoldable pub openToken : ℕ → ℕ → ℕ → Bool → Asked (Prog (R Bool))
 openToken family device lan take = andThen (openPort family device lan) (λ port. yes (erase (token port take)))
@@ -90,3 +113,9 @@ standsToken (TokenAsk x (TokenGoing port take t)) = (x ≡ accessToken port t) �
 standsToken (TokenAsk x TokenOver) = ⊥
 standsToken (TokenEnd b) = Unit {0}
 standsToken (TokenRefused q) = Unit {0}
+
+-- what a step told, u, follows what was told before it, t: as the step promises
+unfoldable pub followsToken : TokenTold → Answer → TokenTold → Type 0
+followsToken (TokenAsk x s) a u = Keeps (saidToken u ≡ stepToken s a) (standsToken u)
+followsToken (TokenEnd b) a u = ⊥
+followsToken (TokenRefused q) a u = ⊥

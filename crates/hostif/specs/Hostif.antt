@@ -10,10 +10,10 @@ use Rattle.hardware.specs.declared.Port.{Port}
 use Rattle.hardware.specs.declared.Access.{Access}
 use Rattle.hardware.specs.declared.Access.the-variants.{Read, Write}
 use Rattle.hardware.specs.declared.Answer.{Answer}
-use Rattle.hardware.specs.declared.Error.the-variants.{HostInterface, Firmware}
 use Rattle.hardware.specs.declared.poll.Watch.{Watch}
 use Rattle.hardware.specs.declared.change.Change.{Change}
 use Rattle.hardware.specs.declared.change.Bits.the-variants.{Set}
+use Rattle.hardware.specs.Failures.{HostInterface, Firmware}
 use Rattle.hardware.specs.Prog.{Prog, ret, ask, note, Acquires, Acquired, Released, erase, R, Ok, Err, orErr, _>>=_, _>>?_, pick}
 use Rattle.hardware.specs.Registers.{noneOf, read, readRaw, write, checked, raw, written, micros, word, byte, flag}
 use Rattle.hardware.specs.Poll.{poll, accessPoll, restPoll, validPoll}

@@ -1,3 +1,4 @@
 pub mod Hostif
 pub mod Acquire
+pub mod Locked
 pub mod Calls

@@ -11,7 +11,8 @@ use Rattle.hardware.specs.declared.Access.the-variants.{Read}
 use Rattle.hardware.specs.declared.Marks.{Marks}
 use Rattle.hardware.specs.declared.Meter.{Meter}
 use Rattle.hardware.specs.declared.Port.{Port}
-use Rattle.hardware.specs.Prog.{Prog, ret, ask, note, Attempt, R, Err, orErr, erase, bind-assoc, bind-ret, pick, _>>=_, _>>?_}
+use Rattle.hardware.specs.Failures.{I2c}
+use Rattle.hardware.specs.Prog.{Prog, ret, ask, note, Attempt, R, Err, orErr, erase, pick, _>>=_, _>>?_}
 use Rattle.hardware.specs.Registers.{raw}
 use Rattle.hostif.specs.Acquire.{acquire}
 use Rattle.bus.specs.declared.Layout.{Layout}
@@ -31,9 +32,9 @@ use Rattle.i2c.specs.declared.once.Request.the-variants.{ReadByte, Write
 use Rattle.i2c.specs.declared.retry.Stage.the-variants.{Trying}
 use Rattle.i2c.specs.declared.retry.RetryNext.the-variants.{Going}
 use Rattle.i2c.specs.I2c.{mask, attempts, deviceOf, scriptOf, isWrite, body, failedI2c, once, whenLock, readTries, writeTries, givenUp, writes, retried, qsfp, askBus, granted, givenBus, onGrant, withBus, handshaken}
-use Rattle.hardware.specs.declared.Error.the-variants.{I2c}
 use Rattle.hardware.specs.declared.Update.the-variants.{Reading}
 use Rattle.hardware.specs.Change.{change, accessUpdate, restUpdate}
+use Rattle.hardware.proofs.Prog.{bind-assoc, bind-ret}
 use Rattle.i2c.specs.declared.handshake.Handshake.{Handshake}
 use Rattle.i2c.specs.declared.handshake.Handshake.the-variants.{Asking, Granting}
 use Rattle.i2c.specs.declared.handshake.HandshakeNext.the-variants.{Going as HandshakeGoing}

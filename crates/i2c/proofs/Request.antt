@@ -8,8 +8,9 @@ use borrow.Author.Tests.{le-leb}
 use Rattle.hardware.specs.declared.Marks.{Marks}
 use Rattle.hardware.specs.declared.Meter.{Meter}
 use Rattle.hardware.specs.declared.Port.{Port}
-use Rattle.hardware.specs.Prog.{Prog, ask, R, erase, over, bind-assoc, _>>=_}
-use Rattle.hardware.specs.Marks.{FULL, marked, meterOn, going-on}
+use Rattle.hardware.specs.Prog.{Prog, ask, R, erase, _>>=_}
+use Rattle.hardware.specs.Marks.{FULL, marked, meterOn}
+use Rattle.hardware.proofs.Prog.{over, bind-assoc, going-on}
 use Rattle.bus.proofs.Laws.{picked}
 use Rattle.transfer.specs.declared.attempt.Got.{Got}
 use Rattle.i2c.specs.declared.How.{How}

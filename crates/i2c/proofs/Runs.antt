@@ -2,7 +2,7 @@
 -- without, and every list of answers the library's run is the Rust's, the count of the attempts in it beside the result,
 -- and every list of answers of the awaited kinds that is long enough brings it to its end. A state that was handed out is
 -- not refused at its next step.
-use Prim.Native.Nat.{ℕ, _≤_}
+use Prim.Native.Nat.{ℕ, _≤_, suc}
 use mathlib.Core.Path.{_≡_, refl, ap, _∙_}
 use mathlib.Core.Bool.{Bool, true, false}
 use mathlib.Core.List.{List}
@@ -13,21 +13,27 @@ use Rattle.hardware.specs.declared.Answer.{Answer}
 use Rattle.hardware.specs.declared.Meter.{Meter}
 use Rattle.hardware.specs.declared.Port.{Port}
 use Rattle.hardware.specs.Asked.{Asked, no, yes, andThen, question, openPort, fits, admitting}
-use Rattle.hardware.specs.Prog.{Prog, R, blank, tally}
-use Rattle.hardware.specs.Change.{change}
-use Rattle.hardware.specs.Runs.{run, runAsked, Awaited, ended, meterIn, countedStatus, counted}
-use Rattle.hardware.proofs.Laws.{run-tally}
-use Rattle.hardware.proofs.Ends.{run-ends}
+use Rattle.hardware.specs.Prog.{Prog, R, blank, tally, erase}
+use Rattle.hardware.specs.Change.{change, restUpdate}
+use Rattle.hardware.specs.Runs.{run, runAsked, Awaited, ended, meterIn, countedStatus, counted, AwaitedIn, after, afterAsked, Step, answersOf, Kept, driven, Asks, IfYes}
+use Rattle.hardware.proofs.Laws.{run-tally, is-true, StepsOn, opened-runs, steps-few}
+use Rattle.hardware.proofs.Ends.{run-ends, ask-ends, ends-erase, updateAfter, update-rest-ends}
 use Rattle.i2c.specs.declared.How.{How}
 use Rattle.i2c.specs.declared.once.Request.{Request}
 use Rattle.i2c.specs.declared.handshake.Handshake.{Handshake}
-use Rattle.i2c.specs.declared.calls.TransferCall.the-variants.{Going}
+use Rattle.i2c.specs.declared.calls.TransferCall.the-variants.{Going, Over}
 use Rattle.i2c.specs.declared.calls.TransferTold.{TransferTold}
-use Rattle.i2c.specs.declared.calls.TransferTold.the-variants.{Ask}
+use Rattle.i2c.specs.declared.calls.TransferTold.the-variants.{Ask, End, Refused}
 use Rattle.i2c.specs.I2c.{transferred, setupBus}
-use Rattle.i2c.specs.Calls.{triesOf, evenDevice, openTransfer, restCall, stepTransfer, saidTransfer, standsTransfer}
+use Rattle.i2c.specs.Calls.{triesOf, evenDevice, openTransfer, restCall, stepTransfer, saidTransfer, standsTransfer, followsTransfer, stepSetup, saidSetup, standsSetup, followsSetup}
 use Rattle.i2c.proofs.Laws.{upto}
 use Rattle.i2c.proofs.Ends.{TRANSFER-STEPS, transferred-ends, MOST-STEPS, transfer-most, setup-ends}
+use Rattle.hardware.specs.Promise.{Keeps}
+use Rattle.hardware.specs.declared.Update.{Update}
+use Rattle.hardware.proofs.Prog.{run-erase}
+use Rattle.i2c.specs.declared.calls.SetupCall.the-variants.{Going as SetupGoing, Over as SetupOver}
+use Rattle.i2c.specs.declared.calls.SetupTold.{SetupTold}
+use Rattle.i2c.specs.declared.calls.SetupTold.the-variants.{Ask as SetupAsk, End as SetupEnd, Refused as SetupRefused}
 
 -- an opening's questions and then the run
 asked-runs : (o : Asked Port) (e f : Bool) (p : Port → Prog (R ℕ)) (l : List Answer)
@@ -79,3 +85,44 @@ pub transfer-accepts : (x : Access) (port : Port) (r : Request) (how : How) (m :
     → fits x a ≡ true → stepTransfer (Going port r how m s) a ≡ yes (tally m (restCall port r how s a))
 unfolding standsTransfer stepTransfer admitting question
 transfer-accepts x port r how m s a h e = rw (h .1, ← h .0, e)
+
+transfer-on : StepsOn saidTransfer followsTransfer standsTransfer
+unfolding followsTransfer saidTransfer standsTransfer AwaitedIn Awaited afterAsked after IfYes Asks
+transfer-on (Ask y (Going port r how m s)) u a h k w = (k .yields ∙ transfer-accepts y port r how m s a h (is-true (fits y a) (w .0)), k .limits, tt)
+transfer-on (Ask y Over) u a h k w = absurd h
+transfer-on (End v m) u a h k w = absurd k
+transfer-on (Refused q) u a h k w = absurd k
+
+-- from the opening on, driven by steps that keep their promises
+pub transfer-driven : (family device lan attempts : ℕ) (r : Request) (how : How) (t : TransferTold) → Keeps (saidTransfer t ≡ openTransfer family device lan r attempts how) (standsTransfer t) → (ks : List (Step TransferTold)) → Kept followsTransfer t ks
+    → AwaitedIn (openTransfer family device lan r attempts how) (answersOf ks) → driven saidTransfer t ks ≡ andThen (openPort family device lan) (λ port.
+    question (evenDevice r) 3 (question (leb attempts 255) 4
+    (yes (counted (meterIn blank (transferred port r how (triesOf r attempts)) (answersOf ks)) (run (transferred port r how (triesOf r attempts)) (answersOf ks))))))
+transfer-driven family device lan attempts r how t k ks kept w = opened-runs saidTransfer followsTransfer standsTransfer transfer-on t ks k kept w ∙ transfer-runs family device lan attempts r how t (k .yields) (answersOf ks)
+
+pub setup-accepts : (x : Access) (s : Update) (a : Answer) → standsSetup (SetupAsk x (SetupGoing s)) → fits x a ≡ true
+    → stepSetup (SetupGoing s) a ≡ yes (erase (restUpdate setupBus s a))
+unfolding standsSetup stepSetup admitting question
+setup-accepts x s a h e = rw (← h, e)
+
+setup-on : StepsOn saidSetup followsSetup standsSetup
+unfolding followsSetup saidSetup standsSetup AwaitedIn Awaited afterAsked after IfYes Asks
+setup-on (SetupAsk y (SetupGoing s)) u a h k w = (k .yields ∙ setup-accepts y s a h (is-true (fits y a) (w .0)), k .limits, tt)
+setup-on (SetupAsk y SetupOver) u a h k w = absurd h
+setup-on (SetupEnd o) u a h k w = absurd k
+setup-on (SetupRefused q) u a h k w = absurd k
+
+pub setup-runs : (t : SetupTold) → saidSetup t ≡ yes (erase (change setupBus)) → (l : List Answer) → runAsked (saidSetup t) l ≡ yes (run (change setupBus) l)
+unfolding runAsked
+setup-runs t e l = ap (λ x. runAsked x l) e ∙ ap (λ f. yes (f l)) (run-erase (change setupBus))
+
+pub setup-driven : (t : SetupTold) → Keeps (saidSetup t ≡ yes (erase (change setupBus))) (standsSetup t) → (ks : List (Step SetupTold)) → Kept followsSetup t ks
+    → AwaitedIn (yes (erase (change setupBus))) (answersOf ks) → driven saidSetup t ks ≡ yes (run (change setupBus) (answersOf ks))
+setup-driven t k ks kept w = opened-runs saidSetup followsSetup standsSetup setup-on t ks k kept w ∙ setup-runs t (k .yields) (answersOf ks)
+
+-- from any state, whoever made it, the call takes at most so many steps more
+pub setup-lasts : (x : Access) (s : Update) (ks : List (Step SetupTold)) → standsSetup (SetupAsk x (SetupGoing s)) → Kept followsSetup (SetupAsk x (SetupGoing s)) ks
+    → AwaitedIn (saidSetup (SetupAsk x (SetupGoing s))) (answersOf ks) → length ks ≤ suc (updateAfter s)
+unfolding saidSetup IfYes
+setup-lasts x s ks h k w =
+    steps-few saidSetup followsSetup standsSetup setup-on (SetupAsk x (SetupGoing s)) ks (suc (updateAfter s)) h k w (ask-ends x _ (updateAfter s) (λ a. ends-erase _ _ (update-rest-ends setupBus s a)))

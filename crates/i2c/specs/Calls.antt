@@ -26,6 +26,7 @@ use Rattle.i2c.specs.declared.calls.SetupTold.{SetupTold}
 use Rattle.i2c.specs.declared.calls.SetupTold.the-variants.{Ask as SetupAsk, End as SetupEnd, Refused as SetupRefused}
 use Rattle.i2c.specs.I2c.{deviceOf, givesValue, transferred, setupBus}
 use Rattle.i2c.specs.Handshake.{accessHandshake, restHandshake, validRequest}
+use Rattle.hardware.specs.Promise.{Keeps}
 
 -- the most attempts of a call
 unfoldable pub limitOf : Request → ℕ
@@ -54,8 +55,12 @@ openTransfer family device lan r attempts how =
 unfoldable pub restCall : Port → Request → How → Handshake → Answer → Prog (R ℕ)
 restCall port r how s a = restHandshake port r how s a >>= givesValue r
 
+-- the port and the device are such as an opening gives
+unfoldable pub validOperands : Port → Request → Bool
+validOperands port r = pick (validPort port) (evenDevice r) false
+
 unfoldable pub validCall : Port → Request → Meter → Handshake → Bool
-validCall port r m s = pick (validPort port) (validRequest port r (limitOf r) (limitOf r) m s) false
+validCall port r m s = pick (validOperands port r) (validRequest port r (limitOf r) (limitOf r) m s) false
 
 -- a step: 10, 11, 12
 unfoldable pub stepTransfer : TransferCall → Answer → Asked (Prog (Counted (R ℕ)))
@@ -75,6 +80,12 @@ standsTransfer (Ask x Over) = ⊥
 standsTransfer (End w m) = Unit {0}
 standsTransfer (Refused q) = Unit {0}
 
+-- what a step told, u, follows what was told before it, t: as the step promises
+unfoldable pub followsTransfer : TransferTold → Answer → TransferTold → Type 0
+followsTransfer (Ask x s) a u = Keeps (saidTransfer u ≡ stepTransfer s a) (standsTransfer u)
+followsTransfer (End w m) a u = ⊥
+followsTransfer (Refused q) a u = ⊥
+
 -- `qsfp_setup` takes no port and asks nothing; its state has no counter
 unfoldable pub stepSetup : SetupCall → Answer → Asked (Prog (R (Unit {0})))
 stepSetup (SetupGoing u) a = admitting true (accessUpdate setupBus u) a (yes (erase (restUpdate setupBus u a)))
@@ -91,3 +102,8 @@ standsSetup (SetupAsk x (SetupGoing u)) = x ≡ accessUpdate setupBus u
 standsSetup (SetupAsk x SetupOver) = ⊥
 standsSetup (SetupEnd o) = Unit {0}
 standsSetup (SetupRefused q) = Unit {0}
+
+unfoldable pub followsSetup : SetupTold → Answer → SetupTold → Type 0
+followsSetup (SetupAsk x s) a u = Keeps (saidSetup u ≡ stepSetup s a) (standsSetup u)
+followsSetup (SetupEnd o) a u = ⊥
+followsSetup (SetupRefused q) a u = ⊥

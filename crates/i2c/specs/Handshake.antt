@@ -5,9 +5,9 @@ use lib.Dec.{ltb, leb}
 use Rattle.hardware.specs.declared.Access.{Access}
 use Rattle.hardware.specs.declared.Access.the-variants.{Read, Wait}
 use Rattle.hardware.specs.declared.Answer.{Answer}
-use Rattle.hardware.specs.declared.Error.the-variants.{I2c}
 use Rattle.hardware.specs.declared.Meter.{Meter}
 use Rattle.hardware.specs.declared.Port.{Port}
+use Rattle.hardware.specs.Failures.{I2c}
 use Rattle.hardware.specs.Prog.{Prog, ret, ask, R, Err, orErr, erase, _>>=_, _>>?_, pick}
 use Rattle.hardware.specs.Marks.{marked, more}
 use Rattle.hardware.specs.Registers.{ESDP, checked, micros}

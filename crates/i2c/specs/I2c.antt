@@ -6,10 +6,10 @@ use lib.Bits.{bitOr}
 use lib.Dec.{eqb}
 use Rattle.hardware.specs.declared.Family.the-variants.{F82599}
 use Rattle.hardware.specs.declared.Port.{Port}
-use Rattle.hardware.specs.declared.Error.the-variants.{I2c}
 use Rattle.hardware.specs.declared.change.Bits.the-variants.{Set, Clear, SetClear}
 use Rattle.hardware.specs.declared.change.Change.{Change}
 use Rattle.hardware.specs.Asked.{is}
+use Rattle.hardware.specs.Failures.{I2c}
 use Rattle.hardware.specs.Prog.{Prog, ret, note, Lapsed, R, Ok, Err, _>>=_, _>>?_, pick}
 use Rattle.hardware.specs.Registers.{ESDP, read, delayMs, noneOf}
 use Rattle.hardware.specs.Change.{change}

@@ -6,8 +6,8 @@ use lib.Dec.{ltb}
 use Rattle.hardware.specs.declared.Access.{Access}
 use Rattle.hardware.specs.declared.Access.the-variants.{Wait}
 use Rattle.hardware.specs.declared.Answer.{Answer}
-use Rattle.hardware.specs.declared.Error.the-variants.{I2c}
 use Rattle.hardware.specs.declared.Port.{Port}
+use Rattle.hardware.specs.Failures.{I2c}
 use Rattle.hardware.specs.Prog.{Prog, ret, ask, R, Err, erase, _>>=_, _>>?_, pick}
 use Rattle.hardware.specs.Marks.{marked, more}
 use Rattle.hardware.specs.Registers.{micros}

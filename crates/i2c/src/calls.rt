@@ -28,7 +28,7 @@ ghost use Rattle.hardware.specs.Marks.{FULL};
 ghost use Rattle.hardware.specs.Change.{updateNext, change};
 ghost use Rattle.i2c.specs.I2c.{byDefault, givesValue, setupBus};
 ghost use Rattle.i2c.specs.Handshake.{handshakeNext, dueHandshakeNext, validHandshakeNext};
-ghost use Rattle.i2c.specs.Calls.{limitOf, triesOf, evenDevice, validCall, openTransfer, stepTransfer, saidTransfer, standsTransfer, stepSetup, saidSetup, standsSetup};
+ghost use Rattle.i2c.specs.Calls.{limitOf, triesOf, evenDevice, validOperands, validCall, openTransfer, stepTransfer, saidTransfer, standsTransfer, stepSetup, saidSetup, standsSetup};
 
 // The request, how it is made and the meter stand beside the state.
 pub enum TransferCall {
@@ -73,7 +73,7 @@ fn even(r: Request) -> bool
 }
 
 fn told(port: Port, r: Request, how: How, m: Meter, n: HandshakeNext) -> TransferTold
-    ensures { λ t. ⌜ Keeps (m .transfers < FULL → saidTransfer t ≡ yes (tally m (followed (handshakeNext port r how n) (givesValue r)))) (validPort port ≡ true → validHandshakeNext (limitOf r) port r n ≡ true → m .transfers + dueHandshakeNext r n ≤ limitOf r → standsTransfer t) ⌝ }
+    ensures { λ t. ⌜ Keeps (m .transfers < FULL → saidTransfer t ≡ yes (tally m (followed (handshakeNext port r how n) (givesValue r)))) (validOperands port r ≡ true → validHandshakeNext (limitOf r) port r n ≡ true → m .transfers + dueHandshakeNext r n ≤ limitOf r → standsTransfer t) ⌝ }
 {
     match n {
         HandshakeNext::Going(k, s) => TransferTold::Ask(
@@ -215,10 +215,20 @@ pub fn write_combined_open(
     )
 }
 
+// A state's port and device are such as an opening gives.
+fn valid_operands(port: Port, r: Request) -> bool
+    ensures { λ b. ⌜ b ≡ validOperands port r ⌝ }
+{
+    if hardware::valid_port(port) {
+        return even(r);
+    }
+    false
+}
+
 fn valid(port: Port, r: Request, m: Meter, t: Handshake) -> bool
     ensures { λ b. ⌜ b ≡ validCall port r m t ⌝ }
 {
-    if hardware::valid_port(port) {
+    if valid_operands(port, r) {
         let most = limit(r);
         return crate::handshake::valid_request(port, r, most, most, m, t);
     }

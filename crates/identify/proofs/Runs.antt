@@ -12,8 +12,8 @@ use Rattle.hardware.specs.declared.Meter.{Meter}
 use Rattle.hardware.specs.declared.Port.{Port}
 use Rattle.hardware.specs.Asked.{yes, andThen, question, openPort, fits, admitting}
 use Rattle.hardware.specs.Prog.{Prog, R, Ok, Err, blank, tally}
-use Rattle.hardware.specs.Runs.{run, runAsked, Awaited, AwaitedIn, driven, ended, meterIn, counted}
-use Rattle.hardware.proofs.Laws.{asked-runs, StepsOn, driven-runs}
+use Rattle.hardware.specs.Runs.{run, runAsked, Awaited, AwaitedIn, driven, ended, meterIn, counted, after, afterAsked, Step, answersOf, Kept, Asks, IfYes}
+use Rattle.hardware.proofs.Laws.{asked-runs, StepsOn, is-true, opened-runs}
 use Rattle.hardware.proofs.Ends.{run-ends}
 use Rattle.i2c.specs.declared.once.Request.the-variants.{ReadByte}
 use Rattle.transfer.specs.declared.attempt.Sequence.{Sequence}
@@ -26,14 +26,16 @@ use Rattle.sfp.specs.declared.Kind.{Kind}
 use Rattle.sfp.specs.declared.Identity.{Identity}
 use Rattle.sfp.specs.Identify.{EEPROM, orAbsent, byte, identifierOf, reachOf, bx10gOf, kindBy, classify, known, identified, identify}
 use Rattle.sfp.specs.Qsfp.{qsfpTechnology, qsfpLength, qsfpConnector, qsfpClassify, qsfpKnown, qsfpIdentified, identifyQsfp}
-use Rattle.sfp.proofs.Ends.{IDENTIFY-STEPS, identify-ends, QSFP-STEPS, qsfp-ends}
+use Rattle.sfp.specs.Steps.{IDENTIFY-STEPS}
+use Rattle.sfp.proofs.Ends.{identify-ends, QSFP-STEPS, qsfp-ends}
 use Rattle.identify.specs.declared.walk.Identify.{Identify}
 use Rattle.identify.specs.declared.calls.IdentifyCall.{IdentifyCall}
 use Rattle.identify.specs.declared.calls.IdentifyCall.the-variants.{Going, Over}
 use Rattle.identify.specs.declared.calls.IdentifyTold.{IdentifyTold}
 use Rattle.identify.specs.declared.calls.IdentifyTold.the-variants.{Ask, End, Refused}
 use Rattle.identify.specs.Walk.{restIdentify}
-use Rattle.identify.specs.Calls.{openIdentify, openQsfp, stepIdentify, saidIdentify, standsIdentify}
+use Rattle.identify.specs.Calls.{openIdentify, openQsfp, stepIdentify, saidIdentify, standsIdentify, followsIdentify}
+use Rattle.hardware.specs.Promise.{Keeps}
 
 pub identify-runs : (family device lan : ℕ) (t : IdentifyTold) → saidIdentify t ≡ openIdentify family device lan → (l : List Answer)
     → runAsked (saidIdentify t) l ≡ andThen (openPort family device lan) (λ port. yes (counted (meterIn blank (identify standard port) l) (run (identify standard port) l)))
@@ -60,29 +62,21 @@ pub identify-accepts : (x : Access) (port : Port) (q : Sequence) (m : Meter) (s 
 unfolding standsIdentify stepIdentify admitting question
 identify-accepts x port q m s a h e = rw (h .1, ← h .0, e)
 
--- the step after a telling, if it asks for an access
-abbrev pub goes : (IdentifyCall → Answer → IdentifyTold) → IdentifyTold → Answer → IdentifyTold
-goes step (Ask x s) a = step s a
-goes step (End f m) a = End f m
-goes step (Refused q) a = Refused q
+identify-on : StepsOn saidIdentify followsIdentify standsIdentify
+unfolding followsIdentify saidIdentify standsIdentify AwaitedIn Awaited afterAsked after IfYes Asks
+identify-on (Ask y (Going port q m s)) u a h k w = (k .yields ∙ identify-accepts y port q m s a h (is-true (fits y a) (w .0)), k .limits, tt)
+identify-on (Ask y Over) u a h k w = absurd h
+identify-on (End f m) u a h k w = absurd k
+identify-on (Refused q) u a h k w = absurd k
 
-steps-on : (step : IdentifyCall → Answer → IdentifyTold) → ((s : IdentifyCall) (a : Answer) → saidIdentify (step s a) ≡ stepIdentify s a)
-    → ((s : IdentifyCall) (a : Answer) → standsIdentify (step s a)) → StepsOn saidIdentify (goes step) standsIdentify
-unfolding saidIdentify standsIdentify
-steps-on step says stands (Ask y (Going port q m s)) x f a h e k =
-    let same : y ≡ x = cc in
-    let rest : (λ b. tally m (restIdentify q port s b)) ≡ f = cc in
-    (says (Going port q m s) a ∙ identify-accepts y port q m s a h (ap (λ z. fits z a) same ∙ k) ∙ ap (λ g. yes (g a)) rest, stands (Going port q m s) a)
-steps-on step says stands (Ask y Over) x f a h e k = absurd h
-steps-on step says stands (End g m) x f a h e k = (cc, tt)
-steps-on step says stands (Refused q) x f a h e k = (cc, tt)
+-- from the opening on, driven by steps that keep their promises
+pub identify-driven : (family device lan : ℕ) (t : IdentifyTold) → Keeps (saidIdentify t ≡ openIdentify family device lan) (standsIdentify t) → (ks : List (Step IdentifyTold)) → Kept followsIdentify t ks
+    → AwaitedIn (openIdentify family device lan) (answersOf ks) → driven saidIdentify t ks ≡ andThen (openPort family device lan) (λ port. yes (counted (meterIn blank (identify standard port) (answersOf ks)) (run (identify standard port) (answersOf ks))))
+identify-driven family device lan t k ks kept w = opened-runs saidIdentify followsIdentify standsIdentify identify-on t ks k kept w ∙ identify-runs family device lan t (k .yields) (answersOf ks)
 
--- Whole runs of the code: driven by steps that keep the promises of `identify_step`, from a telling of an opening on, the
--- accesses and the result are those of what the opening says, which `identify-runs` and `qsfp-runs` say of the Rust
-pub identify-driven : (step : IdentifyCall → Answer → IdentifyTold) → ((s : IdentifyCall) (a : Answer) → saidIdentify (step s a) ≡ stepIdentify s a)
-    → ((s : IdentifyCall) (a : Answer) → standsIdentify (step s a)) → (t : IdentifyTold) → standsIdentify t → (l : List Answer) → AwaitedIn (saidIdentify t) l
-    → driven saidIdentify (goes step) t l ≡ runAsked (saidIdentify t) l
-identify-driven step says stands t h l w = driven-runs saidIdentify (goes step) standsIdentify (steps-on step says stands) t l h w
+pub qsfp-driven : (family device lan : ℕ) (t : IdentifyTold) → Keeps (saidIdentify t ≡ openQsfp family device lan) (standsIdentify t) → (ks : List (Step IdentifyTold)) → Kept followsIdentify t ks
+    → AwaitedIn (openQsfp family device lan) (answersOf ks) → driven saidIdentify t ks ≡ andThen (openPort family device lan) (λ port. yes (counted (meterIn blank (identifyQsfp standard port) (answersOf ks)) (run (identifyQsfp standard port) (answersOf ks))))
+qsfp-driven family device lan t k ks kept w = opened-runs saidIdentify followsIdentify standsIdentify identify-on t ks k kept w ∙ qsfp-runs family device lan t (k .yields) (answersOf ks)
 
 -- a requested byte keeps the rule of the locks, and so does what follows it
 absent-pairs : (k : ℕ → Prog (R Identity)) (r : R ℕ) → ((v : ℕ) → Pairs false (k v) (λ _. false)) → Pairs false (orAbsent k r) (λ _. false)

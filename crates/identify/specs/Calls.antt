@@ -19,6 +19,7 @@ use Rattle.identify.specs.declared.calls.IdentifyCall.the-variants.{Goin
 use Rattle.identify.specs.declared.calls.IdentifyTold.{IdentifyTold}
 use Rattle.identify.specs.declared.calls.IdentifyTold.the-variants.{Ask, End, Refused}
 use Rattle.identify.specs.Walk.{accessIdentify, restIdentify, foundOf, validIdentify}
+use Rattle.hardware.specs.Promise.{Keeps}
 
 -- 1 and 2
 unfoldable pub openIdentify : ℕ → ℕ → ℕ → Asked (Prog (Counted (R Identity)))
@@ -48,3 +49,9 @@ standsIdentify (Ask x (Going port q m s)) = (x ≡ accessIdentify port s) × (va
 standsIdentify (Ask x Over) = ⊥
 standsIdentify (End f m) = Unit {0}
 standsIdentify (Refused q) = Unit {0}
+
+-- what a step told, u, follows what was told before it, t: as the step promises
+unfoldable pub followsIdentify : IdentifyTold → Answer → IdentifyTold → Type 0
+followsIdentify (Ask x s) a u = Keeps (saidIdentify u ≡ stepIdentify s a) (standsIdentify u)
+followsIdentify (End f m) a u = ⊥
+followsIdentify (Refused q) a u = ⊥

@@ -4,6 +4,7 @@ use mathlib.Core.Path.{_≡_}
 use mathlib.Core.Bool.{Bool, true, false, _||_}
 use lib.Dec.{eqb, leb, ltb}
 use Rattle.hardware.specs.declared.Port.{Port}
+use Rattle.hardware.specs.Failures.{failureOf}
 use Rattle.hardware.specs.Prog.{Prog, ret, R, Ok, Err, pick}
 use Rattle.bus.specs.declared.Taken.{Taken}
 use Rattle.transfer.specs.declared.attempt.Sequence.{Sequence}
@@ -106,7 +107,7 @@ placed q port p = byte q port (offsetAt p) (triesAt port p) (onAt q port p)
 unfoldable pub restThen : Sequence → Port → Then → Prog (R Identity)
 restThen q port (Requests p) = placed q port p
 restThen q port (Found m) = ret (Ok m)
-restThen q port (Failed e) = ret (Err e)
+restThen q port (Failed e) = ret (Err (failureOf e))
 
 -- the next request has room for its attempts after n transfers
 unfoldable pub Later : Port → ℕ → Then → Type 0

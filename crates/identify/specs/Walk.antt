@@ -5,6 +5,7 @@ use Rattle.hardware.specs.declared.Access.{Access}
 use Rattle.hardware.specs.declared.Answer.{Answer}
 use Rattle.hardware.specs.declared.Meter.{Meter}
 use Rattle.hardware.specs.declared.Port.{Port}
+use Rattle.hardware.specs.Failures.{failureOf}
 use Rattle.hardware.specs.Prog.{Prog, ret, ask, R, Ok, Err, erase, pick}
 use Rattle.transfer.specs.declared.attempt.Sequence.{Sequence}
 use Rattle.i2c.specs.Handshake.{accessHandshake, restRequest, validRequest}
@@ -27,7 +28,7 @@ restIdentify q port s a = restRequest port (requestAt (s .place)) (locked q) (or
 -- the enum that stands for the Rust's `R<Module>`
 unfoldable pub foundOf : Identified → R Identity
 foundOf (FoundOk m) = Ok m
-foundOf (FoundErr e) = Err e
+foundOf (FoundErr e) = Err (failureOf e)
 
 unfoldable pub identifyNext : Sequence → Port → IdentifyNext → Prog (R Identity)
 identifyNext q port (Going k s) = marked k (ask (accessIdentify port s) (λ a. erase (restIdentify q port s a)))

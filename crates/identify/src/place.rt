@@ -15,6 +15,7 @@ ghost use Rattle.transfer.specs.declared.attempt.Sequence.{Sequence};
 ghost use Rattle.transfer.specs.Attempt.{got};
 ghost use Rattle.sfp.specs.Identify.{orAbsent, recorded, classify};
 ghost use Rattle.hardware.specs.Promise.{Keeps};
+ghost use Rattle.hardware.specs.Failures.{failureOf};
 ghost use Rattle.hardware.specs.Prog.{ret, Ok, Err};
 ghost use Rattle.sfp.specs.Qsfp.{qsfpClassify, qsfpIdentified, qsfpFound};
 ghost use Rattle.identify.specs.Place.{rowAt, readingsAt, requestAt, triesAt, most, capAt, validPlace, onAt, kinded, toldAt, restThen, Later};
@@ -232,7 +233,7 @@ fn on(p: Place, v: u8) -> Then
 
 // Nothing answered; any other failure ends the call.
 fn failed(e: Error) -> Then
-    ensures { λ t. ⌜ Keeps ((q : Sequence) (port : Port) (p : Place) → restThen q port t ≡ orAbsent (onAt q port p) (Err e)) ((port : Port) (n : ℕ) → Later port n t) ⌝ }
+    ensures { λ t. ⌜ Keeps ((q : Sequence) (port : Port) (p : Place) → restThen q port t ≡ orAbsent (onAt q port p) (Err (failureOf e))) ((port : Port) (n : ℕ) → Later port n t) ⌝ }
 {
     if bus::is_i2c(e) {
         return Then::Found(sfp::methods::absent());

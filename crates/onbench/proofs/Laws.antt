@@ -12,7 +12,6 @@ use lib.Seq.{drop-cons}
 use Rattle.i2c.specs.I2c.{standard}
 use Rattle.hardware.specs.declared.Access.{Access}
 use Rattle.hardware.specs.declared.Answer.{Answer}
-use Rattle.hardware.specs.declared.Error.the-variants.{Io}
 use Rattle.hardware.specs.declared.Family.{Family}
 use Rattle.hardware.specs.declared.Family.the-variants.{F82599, X540, X550, X552, X553}
 use Rattle.hardware.specs.declared.Opening.{Opening}
@@ -21,6 +20,7 @@ use Rattle.hardware.specs.declared.Meter.{Meter}
 use Rattle.hardware.specs.declared.Port.{Port}
 use Rattle.hardware.specs.declared.Refusal.{Refusal}
 use Rattle.hardware.specs.Asked.{yes, question, andThen, openPort, portOpened, fits, admitting}
+use Rattle.hardware.specs.Failures.{Io}
 use Rattle.hardware.specs.Prog.{Prog, ret, ask, R, Err, pick, Counted, tally, blank}
 use Rattle.hardware.specs.Runs.{Ends}
 use Rattle.hardware.proofs.Ends.{ends-more, ends-tally}
@@ -29,14 +29,15 @@ use Rattle.bus.specs.Layout.{layoutOf}
 use Rattle.wire.specs.Lines.{ready}
 use Rattle.wire.specs.Machine.{World, modelled, reply, after}
 use Rattle.wire.specs.Run.{Given as Gives, given, refused, Source, listed, fixed, kindAsked, checked, Finished, BenchRun, proceed, run, runAsked}
-use Rattle.wire.proofs.Run.{is-true, run-own, run-other, reply-fits}
+use Rattle.wire.proofs.Run.{run-own, run-other, reply-fits}
 use Rattle.bench.specs.declared.register.BenchState.{BenchState}
 use Rattle.bench.specs.declared.register.Reply.{Reply}
 use Rattle.bench.specs.AtOnce.{atOnce}
 use Rattle.bench.specs.Register.{side, world, benchState, here, accessed}
 use Rattle.sfp.specs.declared.Identity.{Identity}
 use Rattle.sfp.specs.Identify.{identify}
-use Rattle.sfp.proofs.Ends.{IDENTIFY-STEPS, identify-ends}
+use Rattle.sfp.specs.Steps.{IDENTIFY-STEPS}
+use Rattle.sfp.proofs.Ends.{identify-ends}
 use Rattle.identify.specs.declared.walk.Identified.{Identified}
 use Rattle.identify.specs.declared.calls.IdentifyCall.{IdentifyCall}
 use Rattle.identify.specs.declared.calls.IdentifyCall.the-variants.{Going, Over}
@@ -54,6 +55,7 @@ use Rattle.onbench.specs.declared.Origin.{Origin}
 use Rattle.onbench.specs.declared.Progress.{Progress}
 use Rattle.onbench.specs.declared.Run.{Run}
 use Rattle.onbench.specs.Run.{decoded, decodedAll, sourceOf, nextOf, IdentifyOutcome, endingOf, outcomeOf, leftOf, Bounded, stopsAt, Final, Step, Advances}
+use Rattle.hardware.proofs.Laws.{is-true}
 
 -- what is left of a call once its access was answered
 restOf : IdentifyCall → Answer → Prog (Counted (R Identity))

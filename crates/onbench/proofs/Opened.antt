@@ -15,7 +15,7 @@ use Rattle.bench.specs.declared.Bench.{Bench}
 use Rattle.bench.specs.Register.{side}
 use Rattle.sfp.specs.declared.Identity.{Identity}
 use Rattle.sfp.specs.Identify.{identify}
-use Rattle.sfp.proofs.Ends.{IDENTIFY-STEPS}
+use Rattle.sfp.specs.Steps.{IDENTIFY-STEPS}
 use Rattle.identify.specs.declared.calls.IdentifyTold.{IdentifyTold}
 use Rattle.identify.specs.Calls.{openIdentify, saidIdentify}
 use Rattle.demand.specs.Claim.{Starts, Premises}

@@ -23,7 +23,7 @@ use Rattle.wire.specs.Run.{fixed, proceed, run, answersIn}
 use Rattle.bench.specs.declared.Bench.{Bench}
 use Rattle.bench.specs.AtOnce.{atOnce, atOnceAt}
 use Rattle.sfp.specs.Identify.{identify}
-use Rattle.sfp.proofs.Ends.{IDENTIFY-STEPS}
+use Rattle.sfp.specs.Steps.{IDENTIFY-STEPS}
 use Rattle.demand.specs.Claim.{machine, atStart, Premises}
 use Rattle.demand.proofs.Possible.{dones, prompt, promptAnswers, at-once-meets, at-once-long}
 use Rattle.onbench.specs.Run.{decoded, decodedAll}

@@ -23,7 +23,7 @@ ghost use Rattle.wire.specs.Lines.{ready};
 ghost use Rattle.wire.specs.Run.{listed, fixed, Finished};
 ghost use Rattle.bench.specs.AtOnce.{atOnce};
 ghost use Rattle.bench.specs.Register.{world};
-ghost use Rattle.sfp.proofs.Ends.{IDENTIFY-STEPS};
+ghost use Rattle.sfp.specs.Steps.{IDENTIFY-STEPS};
 ghost use Rattle.identify.specs.Calls.{saidIdentify, standsIdentify};
 ghost use Rattle.demand.specs.Claim.{Premises};
 ghost use Rattle.demand.specs.Library.{identifyRun, Demand3, Demand3AtOnce};

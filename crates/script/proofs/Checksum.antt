@@ -1,9 +1,9 @@
--- The one's-complement sum of any bytes and their check byte is FF; and the examples of the combined transfers.
+-- The one's-complement sum of any bytes and their check byte is FF.
 use Prim.Native.Nat.{ℕ, _-_, _<_}
 use mathlib.Core.Path.{_≡_, refl, _∙_}
 use mathlib.Core.List.{List, [], _∷_, _++_}
 use native.Mathlib.Omega.{arith}
-use Rattle.script.specs.Sum.{onesAdd, onesSumFrom, onesSum, checkByte, highWrite, highRead, readCheck, writeCheck, readBytes, writeBytes}
+use Rattle.script.specs.Sum.{onesAdd, onesSumFrom, onesSum, checkByte}
 
 -- a list of bytes
 unfoldable pub Bytes : List ℕ → Type 0
@@ -33,8 +33,3 @@ unfolding onesSum onesSumFrom checkByte Bytes
 checked-sum [] h = refl
 checked-sum (a ∷ l) h =
     from-last l a (255 - onesSumFrom a l) ∙ sum-full (onesSumFrom a l) (from-byte l a (h .0) (h .1))
-
--- the worked examples: combined reads of three registers and a combined write
-pub examples : (readBytes 0x1234 ≡ 0x25 ∷ 0x34 ∷ 0xA6 ∷ []) × (readBytes 0x7FFF ≡ 0xFF ∷ 0xFF ∷ 0x00 ∷ []) × (readBytes 0x0080 ≡ 0x01 ∷ 0x80 ∷ 0x7E ∷ []) × (writeBytes 0x1234 0xABCD ≡ 0x24 ∷ 0x34 ∷ 0xAB ∷ 0xCD ∷ 0x2E ∷ [])
-unfolding readBytes writeBytes readCheck writeCheck checkByte onesSum onesSumFrom onesAdd highWrite highRead
-examples = (refl, refl, refl, refl)

@@ -11,7 +11,7 @@ use Rattle.bus.specs.declared.command.Command.{Command}
 use Rattle.bus.specs.declared.command.Command.the-variants.{Start, Send, Read, Stop, Free}
 use Rattle.script.specs.declared.cursor.Where.{Where}
 use Rattle.script.specs.declared.cursor.Where.the-variants.{Begin, Address, Sending, Reading, Between, End, Wrong}
-use Rattle.script.specs.declared.cursor.Step.{Step}
+use Rattle.script.specs.declared.reader.Step.{Step}
 use Rattle.script.specs.declared.cursor.Judged.{Judged}
 use Rattle.script.specs.declared.cursor.Judged.the-variants.{Accepted, Refused}
 

@@ -37,10 +37,3 @@ readCheck reg = checkByte (highRead reg ∷ low reg ∷ [])
 
 unfoldable pub writeCheck : ℕ → ℕ → ℕ
 writeCheck reg value = checkByte (highWrite reg ∷ low reg ∷ high value ∷ low value ∷ [])
-
--- the bytes sent after the device
-unfoldable pub readBytes : ℕ → List ℕ
-readBytes reg = highRead reg ∷ low reg ∷ readCheck reg ∷ []
-
-unfoldable pub writeBytes : ℕ → ℕ → List ℕ
-writeBytes reg value = highWrite reg ∷ low reg ∷ high value ∷ low value ∷ writeCheck reg value ∷ []

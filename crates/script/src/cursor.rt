@@ -5,7 +5,7 @@ ghost use mathlib.Core.Path.{_≡_};
 ghost use Prim.Native.Nat.{ℕ};
 ghost use mathlib.Core.List.{List};
 ghost use lib.ListN.{length, drop};
-ghost use Rattle.script.specs.Script.{alone, single, headSends, commandAt, nextAt, stepAt, headKnown, complete, follows, atEnd, isScript, lengthFits, judged, judgedAs, onCommand, operand, device};
+ghost use Rattle.script.specs.Script.{alone, single, headSends, commandAt, nextAt, headKnown, complete, follows, atEnd, isScript, lengthFits, judged, judgedAs, onCommand, operand, device};
 
 // Where a walk over the commands stands. Begin: a phrase has to come. Address: its address. Sending, Reading: after an
 // even or an odd address. Between: after the last read. End: after the stop. Wrong: no script goes on so.
@@ -17,12 +17,6 @@ pub enum Where {
     Between,
     End,
     Wrong,
-}
-
-// A command, and the position behind it.
-pub struct Step {
-    pub command: Command,
-    pub next: usize,
 }
 
 pub enum Judged {
@@ -89,15 +83,6 @@ pub fn next(script: &[u8], at: usize) -> usize
         return at + 1;
     }
     at
-}
-
-// Both.
-pub fn step_at(script: &[u8], at: usize) -> Step
-    ensures { λ r. ⌜ r ≡ stepAt (now (script .entry)) at ⌝ }
-{
-    let command = command(script, at);
-    let next = next(script, at);
-    Step { command, next }
 }
 
 // Whether the command at a position is known and complete.

@@ -1,12 +1,18 @@
 // The cursor over the script that a caller lends: a reader holds the slice and the position of a command.
 use crate::cursor;
-use crate::cursor::Step;
+use bus::command::Command;
 ghost use mathlib.Core.Path.{_≡_};
-ghost use Rattle.script.specs.Script.{nextAt, stepAt};
+ghost use Rattle.script.specs.Script.{commandAt, nextAt, stepAt};
 
 pub struct Reader<'a> {
     pub script: &'a [u8],
     pub at: usize,
+}
+
+// A command, and the position behind it.
+pub struct Step {
+    pub command: Command,
+    pub next: usize,
 }
 
 pub fn open<'a>(script: &'a [u8], at: usize) -> Reader<'a>
@@ -15,11 +21,11 @@ pub fn open<'a>(script: &'a [u8], at: usize) -> Reader<'a>
     Reader { script, at }
 }
 
-// The command that the reader stands on, and the position behind it.
-pub fn current<'a>(r: Reader<'a>) -> Step
-    ensures { λ s. ⌜ s ≡ stepAt (now (r .entry .script)) (r .entry .at) ⌝ }
+// The command that the reader stands on.
+pub fn current<'a>(r: Reader<'a>) -> Command
+    ensures { λ c. ⌜ c ≡ commandAt (now (r .entry .script)) (r .entry .at) ⌝ }
 {
-    cursor::step_at(r.script, r.at)
+    cursor::command(r.script, r.at)
 }
 
 // The reader behind that command.
@@ -33,9 +39,13 @@ pub fn advance<'a>(r: Reader<'a>) -> Reader<'a>
     }
 }
 
-// The same for callers that hold no reader.
+// Both, for callers that hold no reader.
 pub fn at(script: &[u8], at: usize) -> Step
     ensures { λ r. ⌜ r ≡ stepAt (now (script .entry)) at ⌝ }
 {
-    current(open(script, at))
+    let here = open(script, at);
+    let command = current(here);
+    let behind = advance(here);
+    let next = behind.at;
+    Step { command, next }
 }

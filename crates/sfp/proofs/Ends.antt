@@ -1,12 +1,12 @@
 -- How many answers of the awaited kinds bring `identify`, `identify_qsfp` and `soft_rate_select` to their end, for every
 -- port.
 use Prim.Native.Nat.{ℕ, _+_, _*_, _≤_, suc, zero}
-use mathlib.Core.Path.{_≡_, refl}
+use mathlib.Core.Path.{_≡_, refl, subst⁻¹}
 use mathlib.Core.Bool.{Bool, true, false}
 use native.Mathlib.Nat.{mul-le-mul-right, suc-mul}
 use native.Mathlib.Omega.{arith}
 use Rattle.hardware.specs.declared.Family.{Family}
-use Rattle.hardware.specs.declared.Family.the-variants.{F82599, X550}
+use Rattle.hardware.specs.declared.Family.the-variants.{F82599, X540, X550, X552, X553}
 use Rattle.hardware.specs.declared.Port.{Port}
 use Rattle.hardware.specs.Prog.{Prog, R, Ok, Err}
 use Rattle.hardware.specs.Runs.{Ends}
@@ -21,6 +21,7 @@ use Rattle.sfp.specs.declared.Identity.{Identity}
 use Rattle.sfp.specs.declared.Codes.{Codes}
 use Rattle.sfp.specs.Identify.{EEPROM, orAbsent, byte, identifierOf, reachOf, bx10gOf, kindBy, classify, known, identified, identify}
 use Rattle.sfp.specs.Qsfp.{qsfpTechnology, qsfpLength, qsfpConnector, qsfpClassify, qsfpKnown, qsfpIdentified, identifyQsfp}
+use Rattle.sfp.specs.Steps.{IDENTIFY-STEPS}
 use Rattle.sfp.specs.Rate.{DIAG, orNot, selected, rateByte, softRateSelect}
 
 -- a byte requested with eleven attempts, the most that `identify` allows
@@ -28,11 +29,12 @@ abbrev pub BYTE-STEPS : Family → ℕ
 BYTE-STEPS family = TRANSFER-STEPS family (ReadByte EEPROM 0) true 11
 
 -- byte 0 five times; 6, 3 and 8; 12, 14 and 15; 60
-abbrev pub IDENTIFY-STEPS : Family → ℕ
-IDENTIFY-STEPS family = 12 * BYTE-STEPS family
-
-pub identify-steps : (IDENTIFY-STEPS F82599 ≡ 332194488) × (IDENTIFY-STEPS X550 ≡ 1600450488)
-identify-steps = (refl, refl)
+pub identify-steps : (family : Family) → IDENTIFY-STEPS family ≡ 12 * BYTE-STEPS family
+identify-steps F82599 = refl
+identify-steps X540 = refl
+identify-steps X550 = refl
+identify-steps X552 = refl
+identify-steps X553 = refl
 
 -- the identifier; two codes; the connector, the length and the technology
 abbrev pub QSFP-STEPS : Family → ℕ
@@ -109,9 +111,10 @@ module _ (q : Sequence) (port : Port) where
   pub identify-ends : Ends (identify q port) (IDENTIFY-STEPS (port .family))
   unfolding identify identified
   identify-ends =
-      ends-more _ _ _
+      subst⁻¹ (Ends (identify q port)) (identify-steps (port .family))
+      (ends-more _ _ (12 * BYTE-STEPS (port .family))
       (identifier-ends 5 0 _ (7 * BYTE-STEPS (port .family)) (λ identifier. ends-pick _ _ _ _ (known-ends identifier) (ret-ends _ _)))
-      (omega arith)
+      (omega arith))
 
   technology-ends : (g10 g1 v : ℕ) → Ends (qsfpTechnology g10 g1 v) 0
   unfolding qsfpTechnology

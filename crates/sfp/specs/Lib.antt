@@ -8,3 +8,4 @@ pub mod Rate
 pub mod Finds
 pub mod Coded
 pub mod Sum
+pub mod Steps

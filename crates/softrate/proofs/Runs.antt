@@ -12,8 +12,8 @@ use Rattle.hardware.specs.declared.Meter.{Meter}
 use Rattle.hardware.specs.declared.Port.{Port}
 use Rattle.hardware.specs.Asked.{yes, andThen, question, openPort, fits, admitting}
 use Rattle.hardware.specs.Prog.{Prog, R, Ok, Err, blank, tally}
-use Rattle.hardware.specs.Runs.{run, runAsked, Awaited, AwaitedIn, driven, ended, meterIn, counted}
-use Rattle.hardware.proofs.Laws.{asked-runs, StepsOn, driven-runs}
+use Rattle.hardware.specs.Runs.{run, runAsked, Awaited, AwaitedIn, driven, ended, meterIn, counted, after, afterAsked, Step, answersOf, Kept, Asks, IfYes}
+use Rattle.hardware.proofs.Laws.{asked-runs, StepsOn, is-true, opened-runs}
 use Rattle.hardware.proofs.Ends.{run-ends}
 use Rattle.i2c.specs.declared.once.Request.the-variants.{ReadByte, WriteByte}
 use Rattle.i2c.specs.I2c.{standard, locked, attempts}
@@ -29,7 +29,8 @@ use Rattle.softrate.specs.declared.calls.RateCall.the-variants.{Going, O
 use Rattle.softrate.specs.declared.calls.RateTold.{RateTold}
 use Rattle.softrate.specs.declared.calls.RateTold.the-variants.{Ask, End, Refused}
 use Rattle.softrate.specs.Walk.{restRate}
-use Rattle.softrate.specs.Calls.{openRate, stepRate, saidRate, standsRate}
+use Rattle.softrate.specs.Calls.{openRate, stepRate, saidRate, standsRate, followsRate}
+use Rattle.hardware.specs.Promise.{Keeps}
 
 pub rate-runs : (family device lan : ℕ) (ten : Bool) (t : RateTold) → saidRate t ≡ openRate family device lan ten → (l : List Answer)
     → runAsked (saidRate t) l ≡ andThen (openPort family device lan) (λ port. yes (counted (meterIn blank (softRateSelect standard port ten) l) (run (softRateSelect standard port ten) l)))
@@ -47,29 +48,17 @@ pub rate-accepts : (x : Access) (port : Port) (q : Sequence) (ten : Bool) (m : M
 unfolding standsRate stepRate admitting question
 rate-accepts x port q ten m s a h e = rw (h .1, ← h .0, e)
 
--- the step after a telling, if it asks for an access
-abbrev pub goes : (RateCall → Answer → RateTold) → RateTold → Answer → RateTold
-goes step (Ask x s) a = step s a
-goes step (End f m) a = End f m
-goes step (Refused q) a = Refused q
+rate-on : StepsOn saidRate followsRate standsRate
+unfolding followsRate saidRate standsRate AwaitedIn Awaited afterAsked after IfYes Asks
+rate-on (Ask y (Going port q ten m s)) u a h k w = (k .yields ∙ rate-accepts y port q ten m s a h (is-true (fits y a) (w .0)), k .limits, tt)
+rate-on (Ask y Over) u a h k w = absurd h
+rate-on (End f m) u a h k w = absurd k
+rate-on (Refused q) u a h k w = absurd k
 
-steps-on : (step : RateCall → Answer → RateTold) → ((s : RateCall) (a : Answer) → saidRate (step s a) ≡ stepRate s a)
-    → ((s : RateCall) (a : Answer) → standsRate (step s a)) → StepsOn saidRate (goes step) standsRate
-unfolding saidRate standsRate
-steps-on step says stands (Ask y (Going port q ten m s)) x f a h e k =
-    let same : y ≡ x = cc in
-    let rest : (λ b. tally m (restRate q port ten s b)) ≡ f = cc in
-    (says (Going port q ten m s) a ∙ rate-accepts y port q ten m s a h (ap (λ z. fits z a) same ∙ k) ∙ ap (λ g. yes (g a)) rest, stands (Going port q ten m s) a)
-steps-on step says stands (Ask y Over) x f a h e k = absurd h
-steps-on step says stands (End g m) x f a h e k = (cc, tt)
-steps-on step says stands (Refused q) x f a h e k = (cc, tt)
-
--- Whole runs of the code: driven by steps that keep the promises of `soft_rate_select_step`, from a telling of the opening
--- on, the accesses and the result are those of what the opening says, which `rate-runs` says of the Rust
-pub rate-driven : (step : RateCall → Answer → RateTold) → ((s : RateCall) (a : Answer) → saidRate (step s a) ≡ stepRate s a)
-    → ((s : RateCall) (a : Answer) → standsRate (step s a)) → (t : RateTold) → standsRate t → (l : List Answer) → AwaitedIn (saidRate t) l
-    → driven saidRate (goes step) t l ≡ runAsked (saidRate t) l
-rate-driven step says stands t h l w = driven-runs saidRate (goes step) standsRate (steps-on step says stands) t l h w
+-- from the opening on, driven by steps that keep their promises
+pub rate-driven : (family device lan : ℕ) (ten : Bool) (t : RateTold) → Keeps (saidRate t ≡ openRate family device lan ten) (standsRate t) → (ks : List (Step RateTold)) → Kept followsRate t ks
+    → AwaitedIn (openRate family device lan ten) (answersOf ks) → driven saidRate t ks ≡ andThen (openPort family device lan) (λ port. yes (counted (meterIn blank (softRateSelect standard port ten) (answersOf ks)) (run (softRateSelect standard port ten) (answersOf ks))))
+rate-driven family device lan ten t k ks kept w = opened-runs saidRate followsRate standsRate rate-on t ks k kept w ∙ rate-runs family device lan ten t (k .yields) (answersOf ks)
 
 not-pairs : (k : Bool → Prog (R Bool)) (f : ℕ → Prog (R Bool)) → ((b : Bool) → Pairs false (k b) (λ _. false)) → ((v : ℕ) → Pairs false (f v) (λ _. false))
     → (r : R ℕ) → Pairs false (orNot k f r) (λ _. false)

@@ -18,6 +18,7 @@ use Rattle.softrate.specs.declared.calls.RateCall.the-variants.{Going, O
 use Rattle.softrate.specs.declared.calls.RateTold.{RateTold}
 use Rattle.softrate.specs.declared.calls.RateTold.the-variants.{Ask, End, Refused}
 use Rattle.softrate.specs.Walk.{accessRate, restRate, validRate}
+use Rattle.hardware.specs.Promise.{Keeps}
 
 -- 1 and 2
 unfoldable pub openRate : ℕ → ℕ → ℕ → Bool → Asked (Prog (Counted (R Bool)))
@@ -44,3 +45,9 @@ standsRate (Ask x (Going port q ten m s)) = (x ≡ accessRate port s) × (validC
 standsRate (Ask x Over) = ⊥
 standsRate (End f m) = Unit {0}
 standsRate (Refused q) = Unit {0}
+
+-- what a step told, u, follows what was told before it, t: as the step promises
+unfoldable pub followsRate : RateTold → Answer → RateTold → Type 0
+followsRate (Ask x s) a u = Keeps (saidRate u ≡ stepRate s a) (standsRate u)
+followsRate (End f m) a u = ⊥
+followsRate (Refused q) a u = ⊥

@@ -17,6 +17,7 @@ ghost use Prim.Native.Nat.{_+_, _≤_};
 ghost use mathlib.Core.Path.{_≡_};
 ghost use mathlib.Core.Bool.{true, false};
 ghost use Rattle.hardware.specs.Promise.{Keeps};
+ghost use Rattle.hardware.specs.Failures.{failureOf};
 ghost use Rattle.hardware.specs.Prog.{erase, followed, Err};
 ghost use Rattle.transfer.specs.Attempt.{got};
 ghost use Rattle.i2c.specs.I2c.{locked, attempts};
@@ -80,7 +81,7 @@ fn next_byte(port: Port, q: Sequence, ten: bool, second: bool, ok: bool) -> Rate
 
 // Nothing answered, and the next byte has its turn; any other failure ends the call.
 fn failed(port: Port, q: Sequence, ten: bool, s: Spot, e: Error) -> RateNext
-    ensures { λ t. ⌜ Keeps (rateNext q port ten t ≡ erase (toldAt q port ten s (Err e))) ((m : Meter) → m .transfers ≤ capAt port s → validRateNext port ten m t ≡ true) ⌝ }
+    ensures { λ t. ⌜ Keeps (rateNext q port ten t ≡ erase (toldAt q port ten s (Err (failureOf e)))) ((m : Meter) → m .transfers ≤ capAt port s → validRateNext port ten m t ≡ true) ⌝ }
 {
     if bus::is_i2c(e) {
         return next_byte(port, q, ten, s.second, false);

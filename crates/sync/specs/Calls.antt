@@ -16,6 +16,7 @@ use Rattle.sync.specs.declared.calls.UnlockCall.the-variants.{Going as U
 use Rattle.sync.specs.declared.calls.UnlockTold.{UnlockTold}
 use Rattle.sync.specs.declared.calls.UnlockTold.the-variants.{Ask as UnlockAsk, End as UnlockEnd, Refused as UnlockRefused}
 use Rattle.sync.specs.Lock.{lock, accessLock, restLock, validLock, unlock, accessUnlock, restUnlock}
+use Rattle.hardware.specs.Promise.{Keeps}
 
 -- `lock`: question 1
 unfoldable pub openLock : ℕ → Asked (Prog (R (Unit {0})))
@@ -40,6 +41,12 @@ standsLock (LockAsk x LockOver) = ⊥
 standsLock (LockEnd o) = Unit {0}
 standsLock (LockRefused q) = Unit {0}
 
+-- what a step told, u, follows what was told before it, t: as the step promises
+unfoldable pub followsLock : LockTold → Answer → LockTold → Type 0
+followsLock (LockAsk x s) a u = Keeps (saidLock u ≡ stepLock s a) (standsLock u)
+followsLock (LockEnd o) a u = ⊥
+followsLock (LockRefused q) a u = ⊥
+
 -- `unlock`: question 1
 unfoldable pub openUnlock : ℕ → Asked (Prog (R (Unit {0})))
 openUnlock family = andThen (openFamily family) (λ f. yes (erase (unlock f)))
@@ -60,3 +67,9 @@ standsUnlock (UnlockAsk x (UnlockGoing f t)) = x ≡ accessUnlock f t
 standsUnlock (UnlockAsk x UnlockOver) = ⊥
 standsUnlock (UnlockEnd o) = Unit {0}
 standsUnlock (UnlockRefused q) = Unit {0}
+
+-- what a step told, u, follows what was told before it, t: as the step promises
+unfoldable pub followsUnlock : UnlockTold → Answer → UnlockTold → Type 0
+followsUnlock (UnlockAsk x s) a u = Keeps (saidUnlock u ≡ stepUnlock s a) (standsUnlock u)
+followsUnlock (UnlockEnd o) a u = ⊥
+followsUnlock (UnlockRefused q) a u = ⊥

@@ -7,8 +7,8 @@ use Rattle.hardware.specs.declared.Family.the-variants.{F82599}
 use Rattle.hardware.specs.declared.Access.{Access}
 use Rattle.hardware.specs.declared.Access.the-variants.{Read, Wait}
 use Rattle.hardware.specs.declared.Answer.{Answer}
-use Rattle.hardware.specs.declared.Error.the-variants.{Semaphore}
 use Rattle.hardware.specs.Asked.{is}
+use Rattle.hardware.specs.Failures.{Semaphore}
 use Rattle.hardware.specs.Prog.{Prog, ret, ask, note, Lapsed, erase, R, Ok, Err, orErr, _>>?_, pick}
 use Rattle.hardware.specs.Registers.{noneOf, read, checked, micros, outcome, flag}
 use Rattle.hardware.specs.Poll.{poll, accessPoll, restPoll, validPoll}

@@ -9,8 +9,8 @@ use Rattle.hardware.specs.declared.Port.{Port}
 use Rattle.hardware.specs.declared.Access.{Access}
 use Rattle.hardware.specs.declared.Access.the-variants.{Read, Write, Wait}
 use Rattle.hardware.specs.declared.Answer.{Answer}
-use Rattle.hardware.specs.declared.Error.the-variants.{Semaphore}
 use Rattle.hardware.specs.Asked.{is}
+use Rattle.hardware.specs.Failures.{Semaphore}
 use Rattle.hardware.specs.Prog.{Prog, ret, ask, note, Lapsed, erase, R, Ok, Err, orErr, _>>=_, _>>?_, pick}
 use Rattle.hardware.specs.Registers.{noneOf, read, write, delay, checked, written, micros, outcome}
 use Rattle.hardware.specs.Change.{change, accessUpdate, restUpdate}

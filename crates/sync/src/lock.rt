@@ -18,11 +18,11 @@ use hardware::poll::Poll;
 use hardware::poll::PollNext;
 ghost use mathlib.Core.Path.{_≡_};
 ghost use mathlib.Core.Bool.{true};
+ghost use Rattle.hardware.specs.Failures.{Semaphore};
 ghost use Rattle.hardware.specs.Prog.{erase, followed, orErr, ret, Err};
 ghost use Rattle.hardware.specs.Registers.{word, flag};
 ghost use Rattle.hardware.specs.Poll.{pollNext, validPollNext};
 ghost use Rattle.hardware.specs.Change.{updateNext};
-ghost use Rattle.hardware.specs.declared.Error.the-variants.{Semaphore};
 ghost use Rattle.sync.specs.Regs.{TRIES, smbiWatch, regsmpWatch, backSwsm};
 ghost use Rattle.sync.specs.Lock.{lock, second, lapsed, smbiDone, swesmbiDone, regsmpDone, swesmbiNext, validSwesmbiNext, accessLock, restLock, lockNext, validLock, validLockNext};
 

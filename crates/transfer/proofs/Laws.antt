@@ -1,7 +1,7 @@
 -- Laws of transfers and attempts that the proofs cite.
 use Prim.Native.Nat.{ℕ, _<_}
 use mathlib.Core.Path.{_≡_, refl, ap, _∙_, sym}
-use mathlib.Core.Bool.{true, false}
+use mathlib.Core.Bool.{Bool, true, false}
 use mathlib.Core.List.{List}
 use lib.Dec.{eqb}
 use lib.ListN.{length, drop}
@@ -15,15 +15,17 @@ use Rattle.hardware.specs.declared.Refusal.{Refusal}
 use Rattle.hardware.specs.declared.Refusal.the-variants.{Family, Lan, Device, Attempts, ScriptLength, Command as RefusedCommand, Script, Block, Buffer, State, Finished, Kind}
 use Rattle.hardware.specs.Asked.{Asked, no, question}
 use Rattle.hardware.specs.Numbers.{refusalNumber}
-use Rattle.hardware.specs.Prog.{Prog, ask, give, erase, followed, going, going-tally, over-tally, pick, blank, tally, _>>=_}
+use Rattle.hardware.specs.Prog.{Note, Prog, ret, ask, note, give, isTold, noteIf, stays, erase, followed, pick, blank, tally, _>>=_}
+use Rattle.hardware.proofs.Prog.{going, going-tally, over-tally}
 use Rattle.bus.specs.declared.Layout.{Layout}
 use Rattle.bus.specs.declared.Taken.{Taken}
 use Rattle.bus.specs.declared.command.Command.{Command}
 use Rattle.bus.specs.declared.command.Command.the-variants.{Start, Send, Read, Stop, Free}
-use Rattle.bus.specs.Bus.{Bus, clear}
+use Rattle.bus.specs.Bus.{Held, Bus, clear}
 use Rattle.bus.specs.Command.{commanded}
 use Rattle.bus.specs.Layout.{layoutOf}
 use Rattle.bus.proofs.Commands.{job-start, job-send, job-read, job-stop, job-free}
+use Rattle.bus.proofs.Spreads.{Spreads, Throughout, start-holds, send-holds, in-byte-holds, out-bit-holds, stop-holds, free-holds}
 use Rattle.script.specs.declared.cursor.Judged.{Judged}
 use Rattle.script.specs.declared.cursor.Judged.the-variants.{Accepted, Refused}
 use Rattle.script.specs.Script.{commands, commandAt, nextAt, judged, judgedAs, device}
@@ -35,9 +37,25 @@ use Rattle.transfer.specs.declared.attempt.Attempt.the-variants.{New}
 use Rattle.transfer.specs.declared.attempt.AttemptNext.{AttemptNext}
 use Rattle.transfer.specs.declared.attempt.AttemptNext.the-variants.{Going}
 use Rattle.transfer.specs.declared.transfer.TransferNext.the-variants.{End}
-use Rattle.transfer.specs.Transfer.{Mode, handing, keeping, tells, tells-erase, did, isRead, tookBy, handed, transfer, ranOn, transferNext}
+use Rattle.transfer.specs.Transfer.{Mode, handing, keeping, tells, did, isRead, tookBy, handed, transfer, ranOn, transferNext}
 use Rattle.transfer.specs.Attempt.{clearing, attempting, attempt, accessAttempt, restAttempt, awaiting, attemptNext}
 use Rattle.transfer.specs.Calls.{dropped, single, script, restScript, judgedThen}
+
+pub tells-stays : {A : Type 0} (b : ℕ) (n : Note) (p : Prog A) → stays n (tells handing b p) ≡ tells handing b (stays n p)
+unfolding tells
+tells-stays b n p = by (isTold n)
+  where
+    by : (k : Bool) → noteIf k n (tells handing b p) ≡ tells handing b (noteIf k n p)
+    by true = refl
+    by false = refl
+
+pub tells-erase : {A : Type 0} (m : Mode) (b : ℕ) (p : Prog A) → erase (tells m b p) ≡ tells m b (erase p)
+unfolding tells erase
+tells-erase keeping b p = refl
+tells-erase handing b (ret v) = refl
+tells-erase handing b (ask x f) = refl
+tells-erase handing b (note n p) = ap (stays n) (tells-erase handing b p) ∙ tells-stays b n (erase p)
+tells-erase handing b (give d p) = refl
 
 -- the machine's list of line calls is the command
 pub job-did : (l : Layout) (device : ℕ) (c : Command) (k : ℕ → Bus) → commanded l device c k ≡ did l device c k
@@ -47,6 +65,16 @@ job-did l device (Send value) k = job-send l device value k
 job-did l device (Read high) k = job-read l device high k
 job-did l device Stop k = job-stop l device k
 job-did l device Free k = job-free l device k
+
+-- what spreads holds of a command wherever it holds of what comes after it
+pub did-holds : (P : Prog Held → Type 0) → Spreads P → (l : Layout) (device : ℕ) (c : Command) (k : ℕ → Bus) → ((b : ℕ) → Throughout P (k b))
+    → Throughout P (did l device c k)
+unfolding did
+did-holds P s l device Start k e = start-holds P s l (k 0) (e 0)
+did-holds P s l device (Send value) k e = send-holds P s l device value (k 0) (e 0)
+did-holds P s l device (Read high) k e = in-byte-holds P s l _ (λ value. out-bit-holds P s l high (k value) (e value))
+did-holds P s l device Stop k e = stop-holds P s l (k 0) (e 0)
+did-holds P s l device Free k e = free-holds P s l (k 0) (e 0)
 
 -- a position on the script: its command comes, and then the rest
 pub transfer-at : (m : Mode) (l : Layout) (device : ℕ) (s : List ℕ) (at : ℕ) (t : Taken) (ctl : ℕ) → at < length s

@@ -6,13 +6,13 @@ use Rattle.hardware.specs.Registers.{readRaw}
 use Rattle.bus.specs.declared.Layout.{Layout}
 use Rattle.bus.specs.declared.Taken.{Taken}
 use Rattle.bus.specs.declared.command.Command.{Command}
-use Rattle.bus.specs.declared.command.Command.the-variants.{Start, Send, Read, Stop, Free}
 use Rattle.bus.specs.Bus.{Bus}
-use Rattle.bus.proofs.Noteless.{Noteless, NotelessBus, ret-noteless, bind-noteless, pick-noteless, done-noteless, start-noteless, send-noteless, in-byte-noteless, out-bit-noteless, stop-noteless, free-noteless, clear-noteless}
+use Rattle.bus.proofs.Noteless.{Noteless, NotelessBus, ret-noteless, bind-noteless, pick-noteless, noteless-spreads, done-noteless, clear-noteless}
 use Rattle.transfer.specs.declared.attempt.Sequence.{Sequence}
 use Rattle.transfer.specs.declared.attempt.Sequence.the-variants.{Pulses}
-use Rattle.transfer.specs.Transfer.{Mode, handing, keeping, tells, did, tookBy, handed, transfer}
+use Rattle.transfer.specs.Transfer.{Mode, handing, keeping, tells, tookBy, handed, transfer}
 use Rattle.transfer.specs.Attempt.{clearing, orCleared, cleared, orTried, tried, begun, attempting}
+use Rattle.transfer.proofs.Laws.{did-holds}
 
 tells-noteless : {A : Type 0} (m : Mode) (b : ℕ) (p : Prog A) → Noteless p → Noteless (tells m b p)
 unfolding Noteless tells
@@ -22,14 +22,6 @@ tells-noteless handing b (ask x f) e = e
 tells-noteless handing b (note k p) e = absurd e
 tells-noteless handing b (give d p) e = e
 
-command-noteless : (l : Layout) (device : ℕ) (c : Command) (k : ℕ → Bus) → ((b : ℕ) → NotelessBus (k b)) → NotelessBus (did l device c k)
-unfolding did
-command-noteless l device Start k e = start-noteless l (k 0) (e 0)
-command-noteless l device (Send value) k e = send-noteless l device value (k 0) (e 0)
-command-noteless l device (Read high) k e = in-byte-noteless l _ (λ value. out-bit-noteless l high (k value) (e value))
-command-noteless l device Stop k e = stop-noteless l (k 0) (e 0)
-command-noteless l device Free k e = free-noteless l (k 0) (e 0)
-
 handed-noteless : (m : Mode) (c : Command) (b : ℕ) (k : Bus) → NotelessBus k → NotelessBus (handed m c b k)
 unfolding handed
 handed-noteless m c b k e ctl = pick-noteless _ _ _ (tells-noteless m b (k ctl) (e ctl)) (e ctl)
@@ -38,7 +30,7 @@ pub transfer-noteless : (m : Mode) (l : Layout) (device : ℕ) (cs : List Comman
 unfolding transfer
 transfer-noteless m l device [] t = done-noteless t
 transfer-noteless m l device (c ∷ cs) t =
-    command-noteless l device c _ (λ b. handed-noteless m c b _ (transfer-noteless m l device cs (tookBy c t b)))
+    did-holds Noteless noteless-spreads l device c _ (λ b. handed-noteless m c b _ (transfer-noteless m l device cs (tookBy c t b)))
 
 clearing-noteless : (q : Sequence) (l : Layout) → NotelessBus (clearing q l)
 unfolding clearing

@@ -2,7 +2,7 @@
 -- Rust's, with the count of transfers, and every list of answers of the awaited kinds that is long enough brings it to its
 -- end. A state that was handed out is not refused at its next step.
 use Prim.Native.Nat.{ℕ, _+_, _*_, _≤_, suc}
-use mathlib.Core.Path.{_≡_, refl, ap, _∙_}
+use mathlib.Core.Path.{_≡_, refl, ap, _∙_, subst, sym}
 use mathlib.Core.Bool.{Bool, true, false}
 use mathlib.Core.List.{List}
 use native.Mathlib.Omega.{arith}
@@ -13,8 +13,8 @@ use Rattle.hardware.specs.declared.Answer.{Answer}
 use Rattle.hardware.specs.declared.Port.{Port}
 use Rattle.hardware.specs.Asked.{Asked, no, yes, andThen, question, openPort, fits, admitting}
 use Rattle.hardware.specs.Prog.{Prog, R, blank, tally, _>>=_}
-use Rattle.hardware.specs.Runs.{run, runAsked, Ends, Awaited, ended, transfersIn, meterIn, counted}
-use Rattle.hardware.proofs.Laws.{run-tally}
+use Rattle.hardware.specs.Runs.{run, runAsked, Ends, Awaited, ended, transfersIn, meterIn, counted, AwaitedIn, after, afterAsked, Step, answersOf, Kept, driven, Refuses, Asks, IfYes}
+use Rattle.hardware.proofs.Laws.{run-tally, is-true, StepsOn, opened-runs, refused-runs}
 use Rattle.hardware.proofs.Ends.{ends-more, ends-bind, ret-ends, run-ends}
 use Rattle.bus.specs.declared.Taken.{Taken}
 use Rattle.bus.proofs.Noteless.{Noteless, ret-noteless, bind-noteless, transfers-none}
@@ -24,15 +24,17 @@ use Rattle.bus.specs.Bus.{none}
 use Rattle.bus.specs.Layout.{layoutOf}
 use Rattle.transfer.specs.declared.attempt.Attempt.{Attempt}
 use Rattle.transfer.specs.declared.attempt.Sequence.the-variants.{Pulses}
-use Rattle.transfer.specs.declared.calls.ScriptCall.the-variants.{Going}
+use Rattle.transfer.specs.declared.calls.ScriptCall.the-variants.{Going, Over}
 use Rattle.transfer.specs.declared.calls.ScriptTold.{ScriptTold}
-use Rattle.transfer.specs.declared.calls.ScriptTold.the-variants.{Ask, Read}
+use Rattle.transfer.specs.declared.calls.ScriptTold.the-variants.{Ask, Read, End, Refused}
 use Rattle.transfer.specs.Transfer.{handing}
 use Rattle.transfer.specs.Attempt.{attempt}
-use Rattle.transfer.specs.Calls.{dropped, script, restScript, judgedThen, openScript, steppedScript, stepScript, saidScript, standsScript, single}
+use Rattle.transfer.specs.Calls.{dropped, script, restScript, judgedThen, openScript, steppedScript, stepScript, saidScript, standsScript, single, followsScript}
 use Rattle.transfer.proofs.Laws.{judged-yes}
 use Rattle.transfer.proofs.Ends.{COMMAND-STEPS, ATTEMPT-STEPS, attempt-steps, commands-ends}
 use Rattle.transfer.proofs.Noteless.{transfer-noteless, attempting-noteless}
+use Rattle.hardware.specs.Promise.{Keeps}
+use borrow.Author.Tests.{eqb-true}
 
 dropped-noteless : (r : R Taken) → Noteless (dropped r)
 unfolding dropped
@@ -92,3 +94,28 @@ pub script-read-accepts : (b : ℕ) (x : Access) (port : Port) (t : Attempt) (s 
     → judged s ≡ 0 → fits x a ≡ true → stepScript (Going port t) s a ≡ yes (tally single (restScript port s t a))
 unfolding standsScript stepScript steppedScript admitting question
 script-read-accepts b x port t s a h j e = judged-yes s _ j ∙ (rw (h .1, ← h .0, e))
+
+script-on : (s : List ℕ) → judged s ≡ 0 → StepsOn (λ t. saidScript t s) (followsScript s) (λ t. standsScript t s)
+unfolding followsScript saidScript standsScript AwaitedIn Awaited afterAsked after IfYes Asks
+script-on s j (Ask y (Going port t)) u a h k w = (k .yields ∙ script-accepts y port t s a h j (is-true (fits y a) (w .0)), k .limits, tt)
+script-on s j (Ask y Over) u a h k w = absurd h
+script-on s j (Read b y (Going port t)) u a h k w = (k .yields ∙ script-read-accepts b y port t s a h j (is-true (fits y a) (w .0)), k .limits, tt)
+script-on s j (Read b y Over) u a h k w = absurd h
+script-on s j (End o m) u a h k w = absurd k
+script-on s j (Refused q) u a h k w = absurd k
+
+-- from the opening on, driven by steps that keep their promises, the script lent at each; the bytes handed out are in the run
+pub script-driven : (family device lan : ℕ) (s : List ℕ) (t : ScriptTold) → Keeps (saidScript t s ≡ openScript family device lan s) (standsScript t s)
+    → (ks : List (Step ScriptTold)) → Kept (followsScript s) t ks → AwaitedIn (openScript family device lan s) (answersOf ks)
+    → driven (λ t. saidScript t s) t ks
+    ≡ andThen (openPort family device lan) (λ port. judgedThen s (yes (counted (meterIn blank (script port s) (answersOf ks)) (run (script port s) (answersOf ks)))))
+unfolding openScript andThen judgedThen question Refuses
+script-driven family device lan s t k ks kept w = by (eqb (judged s) 0) refl ∙ script-runs family device lan s t (k .yields) (answersOf ks)
+  where
+    unaccepted : (o : Asked Port) → eqb (judged s) 0 ≡ false → Refuses (andThen o (λ port. judgedThen s (yes (tally blank (script port s)))))
+    unaccepted (no n) e = tt
+    unaccepted (yes port) e = rw e tt
+
+    by : (b : Bool) → eqb (judged s) 0 ≡ b → driven (λ t. saidScript t s) t ks ≡ runAsked (saidScript t s) (answersOf ks)
+    by true e = opened-runs (λ t. saidScript t s) (followsScript s) (λ t. standsScript t s) (script-on s (eqb-true (judged s) 0 e)) t ks k kept w
+    by false e = refused-runs (λ t. saidScript t s) t ks (subst Refuses (sym (k .yields)) (unaccepted (openPort family device lan) e))

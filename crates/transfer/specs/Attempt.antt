@@ -5,8 +5,7 @@ use mathlib.Core.List.{List}
 use Rattle.hardware.specs.declared.Access.{Access}
 use Rattle.hardware.specs.declared.Access.the-variants.{Read}
 use Rattle.hardware.specs.declared.Answer.{Answer}
-use Rattle.hardware.specs.declared.Error.{Error}
-use Rattle.hardware.specs.declared.Error.the-variants.{I2c}
+use Rattle.hardware.specs.Failures.{Failure, I2c, failureOf}
 use Rattle.hardware.specs.Prog.{Prog, ret, ask, note, Attempt as Begins, erase, R, Ok, Err, orErr, _>>=_, _>>?_, pick}
 use Rattle.hardware.specs.Registers.{readRaw, raw}
 use Rattle.bus.specs.declared.Layout.{Layout}
@@ -27,7 +26,7 @@ use Rattle.transfer.specs.Transfer.{Mode, tells, transfer, accessTransfe
 unfoldable pub clearing : Sequence → Layout → Bus
 clearing Pulses l = clear l
 
-unfoldable pub orI2c : ℕ → Error → Error
+unfoldable pub orI2c : ℕ → Failure → Failure
 orI2c device e = pick (isI2c e) (I2c device) e
 
 -- after the clearing the attempt has failed with the device, unless an access failed
@@ -67,7 +66,7 @@ restAttempt m q l device s (Clearing c) a = restClear l c a >>= cleared device
 
 unfoldable pub got : Got → R Taken
 got (GotOk t) = Ok t
-got (GotErr e) = Err e
+got (GotErr e) = Err (failureOf e)
 
 unfoldable pub awaiting : Mode → Sequence → Layout → ℕ → List ℕ → Attempt → Prog (R Taken)
 awaiting m q l device s t = ask (accessAttempt l t) (λ a. erase (restAttempt m q l device s t a))

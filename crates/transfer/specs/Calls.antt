@@ -24,6 +24,7 @@ use Rattle.transfer.specs.declared.calls.ScriptTold.{ScriptTold}
 use Rattle.transfer.specs.declared.calls.ScriptTold.the-variants.{Ask, Read, End, Refused}
 use Rattle.transfer.specs.Transfer.{handing, transfer}
 use Rattle.transfer.specs.Attempt.{attempt, accessAttempt, restAttempt, validAttempt}
+use Rattle.hardware.specs.Promise.{Keeps}
 
 -- the result of a script has no bytes, they were handed out
 unfoldable pub without : R Taken → R (Unit {0})
@@ -84,3 +85,10 @@ standsScript (Read b x (Going port t)) s = (x ≡ accessAttempt (layoutOf (port 
 standsScript (Read b x Over) s = ⊥
 standsScript (End o m) s = Unit {0}
 standsScript (Refused q) s = Unit {0}
+
+-- what a step told, u, follows what was told before it, t, where s is lent: as the step promises
+unfoldable pub followsScript : List ℕ → ScriptTold → Answer → ScriptTold → Type 0
+followsScript s (Ask x c) a u = Keeps (saidScript u s ≡ stepScript c s a) (standsScript u s)
+followsScript s (Read b x c) a u = Keeps (saidScript u s ≡ stepScript c s a) (standsScript u s)
+followsScript s (End o m) a u = ⊥
+followsScript s (Refused q) a u = ⊥

@@ -1,3 +1,4 @@
 pub mod Transfer
 pub mod Attempt
 pub mod Calls
+pub mod Bytes

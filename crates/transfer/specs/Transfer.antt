@@ -1,14 +1,14 @@
 -- The commands of a script on the bus. A byte that was read is handed out with the access that follows it, where the
 -- caller takes such bytes.
 use Prim.Native.Nat.{ℕ}
-use mathlib.Core.Path.{_≡_, refl, ap, _∙_}
 use mathlib.Core.Bool.{Bool, true, false}
 use mathlib.Core.List.{List, [], _∷_}
 use lib.ListN.{drop}
 use Rattle.hardware.specs.declared.Access.{Access}
 use Rattle.hardware.specs.declared.Answer.{Answer}
 use Rattle.hardware.specs.declared.Outcome.the-variants.{Ok as OutcomeOk, Err as OutcomeErr}
-use Rattle.hardware.specs.Prog.{Prog, ret, ask, note, give, Note, isTold, noteIf, stays, erase, pick}
+use Rattle.hardware.specs.Failures.{failureOf}
+use Rattle.hardware.specs.Prog.{Prog, ret, ask, note, give, erase, pick}
 use Rattle.bus.specs.declared.Layout.{Layout}
 use Rattle.bus.specs.declared.Taken.{Taken}
 use Rattle.bus.specs.declared.command.Command.{Command}
@@ -31,22 +31,6 @@ tells handing b (ret v) = ret v
 tells handing b (ask x f) = give b (ask x f)
 tells handing b (note n p) = note n (tells handing b p)
 tells handing b (give d p) = give b p
-
-pub tells-stays : {A : Type 0} (b : ℕ) (n : Note) (p : Prog A) → stays n (tells handing b p) ≡ tells handing b (stays n p)
-unfolding tells
-tells-stays b n p = by (isTold n)
-  where
-    by : (k : Bool) → noteIf k n (tells handing b p) ≡ tells handing b (noteIf k n p)
-    by true = refl
-    by false = refl
-
-pub tells-erase : {A : Type 0} (m : Mode) (b : ℕ) (p : Prog A) → erase (tells m b p) ≡ tells m b (erase p)
-unfolding tells erase
-tells-erase keeping b p = refl
-tells-erase handing b (ret v) = refl
-tells-erase handing b (ask x f) = refl
-tells-erase handing b (note n p) = ap (stays n) (tells-erase handing b p) ∙ tells-stays b n (erase p)
-tells-erase handing b (give d p) = refl
 
 -- a command as the Rust makes it; k is given the byte that was read
 unfoldable pub did : Layout → ℕ → Command → (ℕ → Bus) → Bus
@@ -90,7 +74,7 @@ unfoldable pub transferNext : Mode → Layout → ℕ → List ℕ → TransferN
 transferNext m l device s (Going t) = asking m l device s t
 transferNext m l device s (Handing b t) = tells m b (asking m l device s t)
 transferNext m l device s (End ctl t OutcomeOk) = done t ctl
-transferNext m l device s (End ctl t (OutcomeErr e)) = fail e ctl
+transferNext m l device s (End ctl t (OutcomeErr e)) = fail (failureOf e) ctl
 
 -- the position is that of a command of the script lent now, and the counters of the command are within their limits
 unfoldable pub validTransfer : Layout → List ℕ → Transfer → Bool

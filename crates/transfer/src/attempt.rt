@@ -14,6 +14,7 @@ ghost use Prim.Native.Nat.{ℕ};
 ghost use mathlib.Core.Path.{_≡_};
 ghost use mathlib.Core.Bool.{true};
 ghost use mathlib.Core.List.{List};
+ghost use Rattle.hardware.specs.Failures.{failureOf};
 ghost use Rattle.hardware.specs.Prog.{erase, followed, orErr, Err};
 ghost use Rattle.hardware.specs.Registers.{word};
 ghost use Rattle.bus.specs.Clear.{clearNext, validClearNext};
@@ -56,7 +57,7 @@ fn clear(q: Sequence, l: Layout, ctl: u32) -> ClearNext
 }
 
 fn clear_done(device: u8, e: Error) -> Error
-    ensures { λ r. ⌜ r ≡ orI2c device e ⌝ }
+    ensures { λ r. ⌜ failureOf r ≡ orI2c device (failureOf e) ⌝ }
 {
     if bus::is_i2c(e) {
         return Error::I2c(device);
@@ -78,7 +79,7 @@ fn cleared(l: Layout, device: u8, n: ClearNext) -> AttemptNext
 }
 
 fn failed(q: Sequence, l: Layout, device: u8, ctl: u32, e: Error) -> AttemptNext
-    ensures { λ r. ⌜ ((m : Mode) (s : List ℕ) → attemptNext m q l device s r ≡ erase (orTried q l device ctl (Err e))) ⌝ }
+    ensures { λ r. ⌜ ((m : Mode) (s : List ℕ) → attemptNext m q l device s r ≡ erase (orTried q l device ctl (Err (failureOf e)))) ⌝ }
     ensures { λ r. ⌜ ((s : List ℕ) → validAttemptNext l s r ≡ true) ⌝ }
 {
     if bus::is_i2c(e) {

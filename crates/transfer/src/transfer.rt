@@ -63,7 +63,8 @@ pub fn from(l: Layout, script: &[u8], at: usize, taken: Taken, ctl: u32) -> Tran
     ensures { λ r. ⌜ ((at < length (now (script .entry)) → onCommand (now (script .entry)) at ≡ true) → validTransferNext l (now (script .entry)) r ≡ true) ⌝ }
 {
     if at < script.len() {
-        let c = script::cursor::command(script, at);
+        let here = script::reader::at(script, at);
+        let c = here.command;
         return TransferNext::Going(Transfer {
             at,
             taken,
@@ -90,8 +91,9 @@ fn after(l: Layout, script: &[u8], at: usize, taken: Taken, b: u8, ctl: u32) -> 
     ensures { λ r. ⌜ ((m : Mode) (device : ℕ) → transferNext m l device (now (script .entry)) r ≡ erase (ranOn m l device (now (script .entry)) at taken b ctl)) ⌝ }
     ensures { λ r. ⌜ (onCommand (now (script .entry)) at ≡ true → validTransferNext l (now (script .entry)) r ≡ true) ⌝ }
 {
-    let c = script::cursor::command(script, at);
-    let next = script::cursor::next(script, at);
+    let here = script::reader::at(script, at);
+    let c = here.command;
+    let next = here.next;
     let n = from(l, script, next, took(c, taken, b), ctl);
     if is_read(c) {
         return told(b, n);
@@ -126,7 +128,8 @@ pub fn step(l: Layout, device: u8, script: &[u8], s: Transfer, a: Answer) -> Tra
     let at = s.at;
     let taken = s.taken;
     let job = s.job;
-    let c = script::cursor::command(script, at);
+    let here = script::reader::at(script, at);
+    let c = here.command;
     jobbed(
         l,
         device,
@@ -143,7 +146,9 @@ pub fn valid(l: Layout, script: &[u8], s: Transfer) -> bool
     let at = s.at;
     let job = s.job;
     if script::cursor::on_command(script, at) {
-        return bus::job::valid(l, script::cursor::command(script, at), job);
+        let here = script::reader::at(script, at);
+        let c = here.command;
+        return bus::job::valid(l, c, job);
     }
     false
 }

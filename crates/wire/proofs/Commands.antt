@@ -4,7 +4,7 @@ use mathlib.Core.Path.{_≡_, refl, ap, _∙_, subst⁻¹}
 use mathlib.Core.Bool.{Bool, true, false, not, _||_, or-true}
 use mathlib.Core.List.{_∷_}
 use lib.Dec.{eqb}
-use Rattle.hardware.specs.declared.Error.the-variants.{I2c}
+use Rattle.hardware.specs.Failures.{I2c}
 use Rattle.hardware.specs.Prog.{pick}
 use Rattle.bus.specs.declared.Layout.{Layout}
 use Rattle.bus.specs.declared.Taken.{Taken}

@@ -1,3 +1,5 @@
+pub mod Bits
+pub mod Distinct
 pub mod Words
 pub mod Always
 pub mod Lines

@@ -7,7 +7,7 @@ use mathlib.Core.Logic.{inl, inr}
 use lib.Bits.{bitOr}
 use lib.Dec.{eqb}
 use borrow.Author.Tests.{eq-eqb}
-use Rattle.hardware.specs.declared.Error.the-variants.{I2c}
+use Rattle.hardware.specs.Failures.{I2c}
 use Rattle.hardware.specs.Prog.{pick}
 use Rattle.hardware.specs.Registers.{noneOf, raw, written, flushed}
 use Rattle.bus.specs.declared.Layout.{Layout}

@@ -12,16 +12,13 @@ use Rattle.bus.specs.declared.Layout.{Layout}
 use Rattle.wire.specs.Lines.{Each}
 use Rattle.wire.specs.Machine.{Side, World, modelled, reply, after, noted}
 use Rattle.wire.specs.Run.{Given, given, nothing, refused, Source, listed, fixed, kindAsked, checked, Event, atMachine, answered, noticed, Finished, BenchRun, saw, proceed, run, answersIn}
+use Rattle.hardware.proofs.Laws.{is-true}
 
 -- an answer of the awaited kind
 unfoldable pub Fits : Event → Type 0
 Fits (atMachine old new) = Unit {0}
 Fits (answered x a) = T (fits x a)
 Fits (noticed n) = Unit {0}
-
-pub is-true : (b : Bool) → T b → b ≡ true
-is-true true h = refl
-is-true false h = absurd h
 
 -- fixed answers of the awaited kinds pass the question
 pub fixed-checked : (f : Access → Answer) → ((x : Access) → T (fits x (f x))) → checked (fixed f) ≡ fixed f

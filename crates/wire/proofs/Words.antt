@@ -11,8 +11,9 @@ use borrow.Author.Tests.{ne-eqb}
 use native.Mathlib.Omega.{arith}
 use Rattle.hardware.specs.Registers.{not32, noneOf}
 use Rattle.bus.specs.declared.Layout.{Layout}
-use Rattle.wire.specs.Bits.{OneBit, absent, at, none-zero, none-set, none-clear}
+use Rattle.wire.specs.Bits.{OneBit, absent, at}
 use Rattle.wire.specs.Lines.{Pulls, drawn, Levels, banging, pulling, pullsSda, pullsScl, master, ready, input, inputs, Drives, Rests, masks, clearOf, apart, Distinct}
+use Rattle.wire.proofs.Bits.{none-zero, none-set, none-clear}
 
 -- the word has none of n's bits after m is set or cleared in it
 keep-set : {n : ℕ} (w m : ℕ) → OneBit n → noneOf m n ≡ true → noneOf (bitOr w m) n ≡ noneOf w n

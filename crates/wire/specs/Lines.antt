@@ -1,19 +1,15 @@
 -- The lines SDA and SCL between the driver, who is the master, and somebody else: who pulls them, how high they are,
 -- what UM10204 calls their changes, and how I2CCTL reads.
 use Prim.Native.Nat.{ℕ}
-use mathlib.Core.Path.{_≡_, refl}
+use mathlib.Core.Path.{_≡_}
 use mathlib.Core.Bool.{Bool, true, false, not, _&&_, _||_}
 use mathlib.Core.List.{List, [], _∷_, _++_}
 use mathlib.Core.Logic.{_⊎_}
 use lib.Bits.{bitAnd, bitOr}
-use lib.Dec.{T, eqb, lit<}
-use Rattle.hardware.specs.declared.Family.{Family}
-use Rattle.hardware.specs.declared.Family.the-variants.{F82599, X540, X550, X552, X553}
-use Rattle.hardware.specs.Prog.{pick}
+use lib.Dec.{T, eqb}
 use Rattle.hardware.specs.Registers.{STATUS, not32, noneOf}
 use Rattle.bus.specs.declared.Layout.{Layout}
-use Rattle.bus.specs.Layout.{L82599, LX552, layoutOf, x550em}
-use Rattle.wire.specs.Bits.{OneBit, absent, at}
+use Rattle.wire.specs.Bits.{OneBit}
 
 -- true: somebody pulls the line
 pub record Pulls : Type 0 where
@@ -138,39 +134,3 @@ pub record Distinct (l : Layout) : Type 0 where
   pub sdaoen : eqb (l .sdaoen) 0 ≡ eqb (l .bben) 0
   pub scloen : eqb (l .scloen) 0 ≡ eqb (l .bben) 0
   pub reg : eqb STATUS (l .reg) ≡ false
-
-pub distinct-82599 : Distinct L82599
-distinct-82599 =
-    record {
-      bits = (at 0 (lit< tt), (at 1 (lit< tt), (at 2 (lit< tt), (at 3 (lit< tt), (absent, (absent, (absent, tt)))))));
-      apart = tt;
-      sdain = refl;
-      sclin = refl;
-      sdaout = refl;
-      sclout = refl;
-      sdaoen = refl;
-      scloen = refl;
-      reg = refl;
-    }
-
-pub distinct-x552 : Distinct LX552
-distinct-x552 =
-    record {
-      bits = (at 14 (lit< tt), (at 9 (lit< tt), (at 12 (lit< tt), (at 10 (lit< tt), (at 11 (lit< tt), (at 13 (lit< tt), (at 8 (lit< tt), tt)))))));
-      apart = tt;
-      sdain = refl;
-      sclin = refl;
-      sdaout = refl;
-      sclout = refl;
-      sdaoen = refl;
-      scloen = refl;
-      reg = refl;
-    }
-
-pub distinct : (f : Family) → Distinct (layoutOf f)
-unfolding layoutOf x550em pick
-distinct F82599 = distinct-82599
-distinct X540 = distinct-82599
-distinct X550 = distinct-82599
-distinct X552 = distinct-x552
-distinct X553 = distinct-x552

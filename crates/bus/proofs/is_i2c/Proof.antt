@@ -1,5 +1,6 @@
 -- `is_i2c` meets its contract.
 use Rattle.bus.specs.Bus.{isI2c}
+use Rattle.hardware.specs.Failures.{failureOf}
 use borrow.Author.Needs.{needs}
 use Rattle.bus.proofs.is_i2c.Statement.{statement}
 use Rattle.bus.proofs.is_i2c.Tie as tie
@@ -23,27 +24,27 @@ enum-told-6 : tie.Need-enum-told-6
 enum-told-6 c = search needs
 
 returns : tie.Need-returns
-unfolding isI2c
+unfolding isI2c failureOf
 returns c = rw (c .enum-told .given .1)
 
 returns-2 : tie.Need-returns-2
-unfolding isI2c
+unfolding isI2c failureOf
 returns-2 c = rw (c .enum-told2 .given .1)
 
 returns-3 : tie.Need-returns-3
-unfolding isI2c
+unfolding isI2c failureOf
 returns-3 c = rw (c .enum-told3 .given .1)
 
 returns-4 : tie.Need-returns-4
-unfolding isI2c
+unfolding isI2c failureOf
 returns-4 c = rw (c .enum-told4 .given .1)
 
 returns-5 : tie.Need-returns-5
-unfolding isI2c
+unfolding isI2c failureOf
 returns-5 c = rw (c .enum-told5 .given .1)
 
 returns-6 : tie.Need-returns-6
-unfolding isI2c
+unfolding isI2c failureOf
 returns-6 c = rw (c .enum-told6 .given .1)
 
 pub is-i2c-spec : {M : Type 1} → statement M

@@ -1,4 +1,5 @@
 -- `flush` meets its contract.
+use Rattle.hardware.specs.Failures.{failureOf}
 use Rattle.hardware.specs.Registers.{flushed, outcome}
 use borrow.Author.Needs.{needs}
 use Rattle.hardware.proofs.flush.Statement.{statement}
@@ -18,11 +19,11 @@ unfolding flushed outcome
 returns c = cc
 
 returns-2 : tie.Need-returns-2
-unfolding flushed outcome
+unfolding flushed outcome failureOf
 returns-2 c = cc
 
 returns-3 : tie.Need-returns-3
-unfolding flushed outcome
+unfolding flushed outcome failureOf
 returns-3 c = cc
 
 pub flush-spec : {M : Type 1} → statement M

@@ -1,4 +1,5 @@
 -- `read_raw` meets its contract.
+use Rattle.hardware.specs.Failures.{failureOf}
 use Rattle.hardware.specs.Registers.{raw, word}
 use borrow.Author.Needs.{needs}
 use Rattle.hardware.proofs.read_raw.Statement.{statement}
@@ -18,11 +19,11 @@ unfolding raw word
 returns c = cc
 
 returns-2 : tie.Need-returns-2
-unfolding raw word
+unfolding raw word failureOf
 returns-2 c = cc
 
 returns-3 : tie.Need-returns-3
-unfolding raw word
+unfolding raw word failureOf
 returns-3 c = cc
 
 pub read-raw-spec : {M : Type 1} → statement M

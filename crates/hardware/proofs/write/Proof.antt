@@ -1,4 +1,5 @@
 -- `write` meets its contract.
+use Rattle.hardware.specs.Failures.{failureOf}
 use Rattle.hardware.specs.Registers.{outcome, written}
 use borrow.Author.Needs.{needs}
 use Rattle.hardware.proofs.write.Statement.{statement}
@@ -14,7 +15,7 @@ enum-told-3 : tie.Need-enum-told-3
 enum-told-3 c = search needs
 
 returns : tie.Need-returns
-unfolding written outcome
+unfolding written outcome failureOf
 returns c = cc
 
 returns-2 : tie.Need-returns-2
@@ -22,7 +23,7 @@ unfolding written outcome
 returns-2 c = cc
 
 returns-3 : tie.Need-returns-3
-unfolding written outcome
+unfolding written outcome failureOf
 returns-3 c = cc
 
 pub write-spec : {M : Type 1} → statement M

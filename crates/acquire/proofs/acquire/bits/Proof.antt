@@ -1,8 +1,9 @@
 -- `bits` meets its contract.
 use Rattle.hostif.specs.Acquire.{acquiredAll, afterBits}
 use Rattle.acquire.specs.Acquire.{accessAcquire, accessAcquireAt, acquireNext, restAcquire, restAcquireAt, validAcquire, validAcquireAt, validAcquireNext}
-use Rattle.hardware.specs.Prog.{_>>=_, erase, followed, going, orErr, pick}
+use Rattle.hardware.specs.Prog.{_>>=_, erase, followed, orErr, pick}
 use Rattle.hardware.specs.Registers.{outcome}
+use Rattle.hardware.proofs.Prog.{going}
 use Rattle.sync.specs.Resource.{acquireBitsNext, validAcquireBitsNext}
 use borrow.Author.Needs.{needs}
 use borrow.Author.Tests.{lt-ltb}

@@ -1,6 +1,7 @@
 -- `give_back` meets its contract.
 use Rattle.hostif.specs.Acquire.{givenBack, withBits}
-use Rattle.hardware.specs.Prog.{_>>=_, orErr, over, pick}
+use Rattle.hardware.specs.Prog.{_>>=_, orErr, pick}
+use Rattle.hardware.proofs.Prog.{over}
 use borrow.Author.Needs.{needs}
 use borrow.Author.Tests.{eq-eqb, ne-eqb}
 use Rattle.acquire.proofs.acquire.give_back.Statement.{statement}

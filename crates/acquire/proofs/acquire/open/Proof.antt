@@ -1,6 +1,7 @@
 -- `open` meets its contract.
 use Rattle.hostif.specs.Acquire.{acquire, afterBits}
-use Rattle.hardware.specs.Prog.{erase, over, pick}
+use Rattle.hardware.specs.Prog.{erase, pick}
+use Rattle.hardware.proofs.Prog.{over}
 use borrow.Author.Needs.{needs}
 use native.Mathlib.Omega.{arith}
 use Rattle.acquire.proofs.acquire.open.Statement.{statement}

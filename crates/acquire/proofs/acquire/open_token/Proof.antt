@@ -1,17 +1,19 @@
 -- `open_token` meets its contract.
 use Rattle.acquire.proofs.Laws.{token-alone, token-bits}
+use Rattle.hardware.specs.Failures.{failureOf}
 use Rattle.hostif.specs.Acquire.{acquireToken, afterBits}
 use Rattle.acquire.specs.Acquire.{acquireNext, validAcquireNext}
 use Rattle.hardware.proofs.Laws.{one-less}
-use Rattle.hardware.specs.Prog.{erase, over, pick}
+use Rattle.hardware.specs.Prog.{erase, pick}
 use Rattle.hardware.specs.Registers.{outcome}
+use Rattle.hardware.proofs.Prog.{over}
 use borrow.Author.Needs.{needs}
 use mathlib.Core.Path.{_∙_, refl}
 use Rattle.acquire.proofs.acquire.open_token.Statement.{statement}
 use Rattle.acquire.proofs.acquire.open_token.Tie as tie
 
 returns : tie.Need-returns
-unfolding acquireToken erase acquireNext outcome validAcquireNext
+unfolding acquireToken erase acquireNext outcome validAcquireNext failureOf
 returns c = (rw (c .if1 .taken), λ h. refl)
 
 sub-try-token : tie.Need-sub-try-token

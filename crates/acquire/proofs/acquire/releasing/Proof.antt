@@ -1,7 +1,8 @@
 -- `releasing` meets its contract.
 use Rattle.acquire.specs.Acquire.{accessAcquire, accessAcquireAt, accessRelease, acquireNext, releaseNext, restAcquire, restAcquireAt, restRelease, validAcquire, validAcquireAt, validAcquireNext}
-use Rattle.hardware.specs.Prog.{_>>=_, erase, followed, going, orErr, pick}
+use Rattle.hardware.specs.Prog.{_>>=_, erase, followed, orErr, pick}
 use Rattle.hardware.specs.Registers.{outcome}
+use Rattle.hardware.proofs.Prog.{going}
 use Rattle.hostif.specs.Hostif.{tokenNext}
 use Rattle.sync.specs.Resource.{acquireBitsNext, releaseBitsNext, validReleaseBitsNext}
 use borrow.Author.Needs.{needs}

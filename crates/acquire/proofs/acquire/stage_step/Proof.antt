@@ -1,10 +1,10 @@
 -- `stage_step` meets its contract.
 use Rattle.acquire.specs.Acquire.{restAcquireAt, validAcquireAt}
-use Rattle.hardware.specs.Prog.{over}
 use borrow.Author.Needs.{needs}
 use native.Mathlib.Omega.{arith}
 use Rattle.acquire.proofs.acquire.stage_step.Statement.{statement}
 use Rattle.acquire.proofs.acquire.stage_step.Tie as tie
+use Rattle.hardware.proofs.Prog.{over}
 
 enum-known-s : tie.Need-enum-known-s
 enum-known-s c = search needs

@@ -1,6 +1,7 @@
 -- `token` meets its contract.
 use Rattle.acquire.specs.Acquire.{accessAcquire, accessAcquireAt, accessRelease, acquireNext, releaseNext, restAcquire, restAcquireAt, restRelease, validAcquire, validAcquireAt, validAcquireNext}
-use Rattle.hardware.specs.Prog.{_>>=_, followed, going, pick}
+use Rattle.hardware.specs.Prog.{_>>=_, followed, pick}
+use Rattle.hardware.proofs.Prog.{going}
 use Rattle.hostif.specs.Hostif.{tokenNext, validTokenNext}
 use Rattle.sync.specs.Resource.{acquireBitsNext, releaseBitsNext}
 use borrow.Author.Needs.{needs}

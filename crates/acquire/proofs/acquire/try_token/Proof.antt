@@ -3,7 +3,7 @@ use Rattle.hostif.specs.Acquire.{gave, tokenGiven, tryToken}
 use Rattle.acquire.specs.Acquire.{accessAcquire, accessAcquireAt, accessRelease, restAcquire, restAcquireAt, restRelease, validAcquireAt, validRelease}
 use Rattle.acquire.specs.Calls.{openAcquire, openRelease, stepAcquire, stepRelease}
 use Rattle.hardware.specs.Asked.{andThen, portOpened, question}
-use Rattle.hardware.specs.Prog.{over}
+use Rattle.hardware.proofs.Prog.{over}
 use Rattle.sync.specs.Resource.{acquireBits}
 use borrow.Author.Needs.{needs}
 use Rattle.acquire.proofs.acquire.try_token.Statement.{statement}

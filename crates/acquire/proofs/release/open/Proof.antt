@@ -1,7 +1,8 @@
 -- `open` meets its contract.
 use Rattle.hostif.specs.Acquire.{release}
-use Rattle.hardware.specs.Prog.{erase, over, pick}
+use Rattle.hardware.specs.Prog.{erase, pick}
 use Rattle.hardware.specs.Registers.{outcome}
+use Rattle.hardware.proofs.Prog.{over}
 use borrow.Author.Needs.{needs}
 use Rattle.acquire.proofs.release.open.Statement.{statement}
 use Rattle.acquire.proofs.release.open.Tie as tie

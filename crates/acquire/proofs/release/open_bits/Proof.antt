@@ -1,7 +1,8 @@
 -- `open_bits` meets its contract.
 use Rattle.hostif.specs.Acquire.{giveBits, withBits}
 use Rattle.acquire.specs.Acquire.{releaseNext, validReleaseNext}
-use Rattle.hardware.specs.Prog.{_>>=_, erase, orErr, over, pick}
+use Rattle.hardware.specs.Prog.{_>>=_, erase, orErr, pick}
+use Rattle.hardware.proofs.Prog.{over}
 use borrow.Author.Needs.{needs}
 use borrow.Author.Tests.{eq-eqb, ne-eqb}
 use mathlib.Core.Path.{refl}

@@ -1,6 +1,7 @@
 -- `token` meets its contract.
 use Rattle.acquire.specs.Acquire.{accessAcquire, accessAcquireAt, accessRelease, acquireNext, releaseNext, restAcquire, restAcquireAt, restRelease, validRelease, validReleaseNext}
-use Rattle.hardware.specs.Prog.{_>>=_, followed, going}
+use Rattle.hardware.specs.Prog.{_>>=_, followed}
+use Rattle.hardware.proofs.Prog.{going}
 use Rattle.hostif.specs.Hostif.{tokenNext, validTokenNext}
 use Rattle.sync.specs.Resource.{acquireBitsNext, releaseBitsNext}
 use borrow.Author.Needs.{needs}

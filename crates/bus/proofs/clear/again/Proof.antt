@@ -2,7 +2,8 @@
 use Rattle.bus.proofs.Commands.{job-start}
 use Rattle.bus.specs.Bus.{clearAgain, done, none, quiet}
 use Rattle.bus.specs.Command.{validJobNext}
-use Rattle.hardware.specs.Prog.{erase, over}
+use Rattle.hardware.specs.Prog.{erase}
+use Rattle.hardware.proofs.Prog.{over}
 use borrow.Author.Needs.{needs}
 use mathlib.Core.Path.{_∙_, ap}
 use Rattle.bus.proofs.clear.again.Statement.{statement}

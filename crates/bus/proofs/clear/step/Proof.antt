@@ -1,11 +1,11 @@
 -- `step` meets its contract.
 use Rattle.bus.specs.Bus.{done, none}
 use Rattle.bus.specs.Clear.{commandOf, restClear, restPart, validClear}
-use Rattle.hardware.specs.Prog.{over}
 use borrow.Author.Needs.{needs}
 use mathlib.Core.Path.{_∙_}
 use Rattle.bus.proofs.clear.step.Statement.{statement}
 use Rattle.bus.proofs.clear.step.Tie as tie
+use Rattle.hardware.proofs.Prog.{over}
 
 enum-told : tie.Need-enum-told
 enum-told c = search needs

@@ -2,8 +2,9 @@
 use Rattle.bus.specs.Bus.{orHeld, orQuiet, quieted}
 use Rattle.bus.specs.Clear.{accessClear, clearNext, commandOf, restClear, restPart, validClear, validClearNext}
 use Rattle.bus.specs.Command.{jobNext, validJobNext}
-use Rattle.hardware.specs.Prog.{_>>=_, erase, followed, going, pick}
+use Rattle.hardware.specs.Prog.{_>>=_, erase, followed, pick}
 use Rattle.hardware.specs.Registers.{byte}
+use Rattle.hardware.proofs.Prog.{going}
 use borrow.Author.Needs.{needs}
 use mathlib.Core.Path.{refl}
 use Rattle.bus.proofs.clear.stopped.Statement.{statement}

@@ -1,6 +1,7 @@
 -- `finish` meets its contract.
 use Rattle.bus.specs.Bus.{orHeld}
 use Rattle.bus.specs.Command.{finished, jobNext, validJobNext}
+use Rattle.hardware.specs.Failures.{failureOf}
 use Rattle.hardware.specs.Prog.{erase, pick}
 use Rattle.hardware.specs.Registers.{byte}
 use borrow.Author.Needs.{needs}
@@ -33,7 +34,7 @@ unfolding jobNext orHeld erase byte finished validJobNext
 returns-2 c = (λ k. rw (c .enum-told .given .1), refl)
 
 returns-3 : tie.Need-returns-3
-unfolding jobNext orHeld erase byte finished validJobNext pick
+unfolding jobNext orHeld erase byte finished validJobNext pick failureOf
 returns-3 c = (λ k. rw (c .before .enum-told2 .given .1, ne-eqb _ _ (c .if1 .left)), refl)
 
 returns-4 : tie.Need-returns-4

@@ -1,6 +1,7 @@
 -- `sda_seen` meets its contract.
 use Rattle.bus.specs.Bus.{orHeld, sdaSeen}
 use Rattle.bus.specs.Line.{lineNext, validLineNext}
+use Rattle.hardware.specs.Failures.{failureOf}
 use Rattle.hardware.specs.Prog.{erase, pick}
 use Rattle.hardware.specs.Registers.{outcome, word}
 use borrow.Author.Needs.{needs}
@@ -15,7 +16,7 @@ none-of-requires : tie.Need-none-of-requires
 none-of-requires c κs = search needs
 
 returns : tie.Need-returns
-unfolding lineNext orHeld erase outcome word sdaSeen pick validLineNext
+unfolding lineNext orHeld erase outcome word sdaSeen pick validLineNext failureOf
 returns c = (λ k. rw (c .before .before .before .w .given .1, ← c .before .none-of .ensures, c .if1 .taken), refl)
 
 enum-known-w-2 : tie.Need-enum-known-w-2

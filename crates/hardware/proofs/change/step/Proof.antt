@@ -1,10 +1,11 @@
 -- `step` meets its contract.
 use Rattle.hardware.specs.Change.{restUpdate, updateNext}
-use Rattle.hardware.specs.Prog.{erase, fed, ret}
+use Rattle.hardware.specs.Prog.{erase, ret}
 use borrow.Author.Needs.{needs}
 use mathlib.Core.Path.{ap}
 use Rattle.hardware.proofs.change.step.Statement.{statement}
 use Rattle.hardware.proofs.change.step.Tie as tie
+use Rattle.hardware.proofs.Prog.{fed}
 
 enum-told : tie.Need-enum-told
 enum-told c = search needs

@@ -1,11 +1,11 @@
 -- `step` meets its contract.
 use Rattle.hardware.proofs.Laws.{below}
 use Rattle.hardware.specs.Poll.{restPoll, validPoll}
-use Rattle.hardware.specs.Prog.{fed}
 use borrow.Author.Needs.{needs}
 use borrow.Author.Tests.{ltb-true}
 use Rattle.hardware.proofs.poll.step.Statement.{statement}
 use Rattle.hardware.proofs.poll.step.Tie as tie
+use Rattle.hardware.proofs.Prog.{fed}
 
 enum-known-s : tie.Need-enum-known-s
 enum-known-s c = search needs

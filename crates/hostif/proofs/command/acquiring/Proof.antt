@@ -1,7 +1,8 @@
 -- `acquiring` meets its contract.
 use Rattle.hardware.specs.Change.{accessUpdate, change, restUpdate}
-use Rattle.hardware.specs.Prog.{_>>=_, erase, followed, going}
+use Rattle.hardware.specs.Prog.{_>>=_, erase, followed}
 use Rattle.hardware.specs.Registers.{byte, flag, outcome, word}
+use Rattle.hardware.proofs.Prog.{going}
 use Rattle.hostif.specs.Hostif.{accessCommand, accessRequest, acquired, both, closed, commandNext, hicrRead, released, request, requested, respond, restCommand, restRequest, validCommand, validCommandNext, validRequest}
 use Rattle.sync.specs.Resource.{acquireBitsNext, validAcquireBitsNext}
 use borrow.Author.Needs.{needs}

@@ -1,5 +1,6 @@
 -- `open` meets its contract.
-use Rattle.hardware.specs.Prog.{erase, over}
+use Rattle.hardware.specs.Prog.{erase}
+use Rattle.hardware.proofs.Prog.{over}
 use Rattle.hostif.specs.Hostif.{command}
 use Rattle.sync.specs.Resource.{acquireBits}
 use borrow.Author.Needs.{needs}

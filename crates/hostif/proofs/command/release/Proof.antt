@@ -1,5 +1,6 @@
 -- `release` meets its contract.
-use Rattle.hardware.specs.Prog.{erase, over}
+use Rattle.hardware.specs.Prog.{erase}
+use Rattle.hardware.proofs.Prog.{over}
 use Rattle.hostif.specs.Hostif.{released}
 use borrow.Author.Needs.{needs}
 use Rattle.hostif.proofs.command.release.Statement.{statement}

@@ -1,7 +1,8 @@
 -- `responding` meets its contract.
 use Rattle.hardware.specs.Change.{accessUpdate, change, restUpdate}
-use Rattle.hardware.specs.Prog.{_>>=_, followed, going}
+use Rattle.hardware.specs.Prog.{_>>=_, followed}
 use Rattle.hardware.specs.Registers.{byte, flag, outcome, word}
+use Rattle.hardware.proofs.Prog.{going}
 use Rattle.hostif.specs.Hostif.{accessCommand, acquired, both, closed, commandNext, hicrRead, released, request, requested, respond, responseNext, restCommand, validCommand, validCommandNext, validResponseNext}
 use borrow.Author.Needs.{needs}
 use Rattle.hostif.proofs.command.responding.Statement.{statement}

@@ -1,10 +1,10 @@
 -- `step` meets its contract.
-use Rattle.hardware.specs.Prog.{over}
 use Rattle.hostif.specs.Hostif.{restCommand, validCommand}
 use borrow.Author.Needs.{needs}
 use mathlib.Core.Path.{refl}
 use Rattle.hostif.proofs.command.step.Statement.{statement}
 use Rattle.hostif.proofs.command.step.Tie as tie
+use Rattle.hardware.proofs.Prog.{over}
 
 enum-known-s : tie.Need-enum-known-s
 enum-known-s c = search needs

@@ -1,5 +1,6 @@
 -- `complete` meets its contract.
 use Rattle.hardware.specs.Change.{accessUpdate, change, restUpdate}
+use Rattle.hardware.specs.Failures.{failureOf}
 use Rattle.hardware.specs.Prog.{erase, orErr, pick}
 use Rattle.hardware.specs.Registers.{word}
 use Rattle.hostif.specs.Hostif.{completed, enabled, hicrRead, request, requestNext, start, validRequest, validRequestNext, words}
@@ -18,7 +19,7 @@ none-of-requires-2 : tie.Need-none-of-requires-2
 none-of-requires-2 c κs = search needs
 
 returns : tie.Need-returns
-unfolding requestNext erase orErr pick word completed start enabled hicrRead request change accessUpdate restUpdate validRequest words validRequestNext
+unfolding requestNext erase orErr pick word completed start enabled hicrRead request change accessUpdate restUpdate validRequest words validRequestNext failureOf
 returns c = (λ l. rw (c .before .before .before .before .before .w .given .1, ← c .before .before .before .none-of .ensures, c .before .before .if1 .taken, ← c .before .none-of2 .ensures, c .if2 .taken), λ m. refl)
 
 returns-2 : tie.Need-returns-2
@@ -29,7 +30,7 @@ enum-known-w-2 : tie.Need-enum-known-w-2
 enum-known-w-2 c = search needs
 
 returns-3 : tie.Need-returns-3
-unfolding requestNext erase orErr pick word completed start enabled hicrRead request change accessUpdate restUpdate validRequest words validRequestNext
+unfolding requestNext erase orErr pick word completed start enabled hicrRead request change accessUpdate restUpdate validRequest words validRequestNext failureOf
 returns-3 c = (λ l. rw (c .before .before .before .w .given .1, ← c .before .none-of .ensures, c .if1 .left), λ m. refl)
 
 returns-4 : tie.Need-returns-4

@@ -1,7 +1,8 @@
 -- `started` meets its contract.
 use Rattle.hardware.specs.Change.{accessUpdate, change, restUpdate}
-use Rattle.hardware.specs.Prog.{erase, orErr, over}
+use Rattle.hardware.specs.Prog.{erase, orErr}
 use Rattle.hardware.specs.Registers.{outcome, word}
+use Rattle.hardware.proofs.Prog.{over}
 use Rattle.hostif.specs.Hostif.{POLLS, enabled, hicrRead, polling, request, requestNext, start, validRequest, validRequestNext, words}
 use borrow.Author.Needs.{needs}
 use mathlib.Core.Path.{refl}

@@ -1,9 +1,9 @@
 -- `step` meets its contract.
-use Rattle.hardware.specs.Prog.{fed, over}
 use Rattle.hostif.specs.Hostif.{POLLS, restRequest, validRequest}
 use borrow.Author.Needs.{needs}
 use Rattle.hostif.proofs.request.step.Statement.{statement}
 use Rattle.hostif.proofs.request.step.Tie as tie
+use Rattle.hardware.proofs.Prog.{fed, over}
 
 enum-known-s : tie.Need-enum-known-s
 enum-known-s c = search needs

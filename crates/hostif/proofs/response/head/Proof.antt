@@ -1,4 +1,5 @@
 -- `head` meets its contract.
+use Rattle.hardware.specs.Failures.{failureOf}
 use Rattle.hardware.specs.Prog.{erase, pick}
 use Rattle.hardware.specs.Registers.{byte, word}
 use Rattle.hostif.proofs.Laws.{words-fit}
@@ -26,7 +27,7 @@ add-if1 : tie.Need-add-if1
 add-if1 c = search needs
 
 returns : tie.Need-returns
-unfolding word headSeen pick erase responseNext byte validResponseNext
+unfolding word headSeen pick erase responseNext byte validResponseNext failureOf
 returns c = (rw (c .before .before .before .w .given .1, lt-ltb _ _ (rw (c .before .len .ensures) at (c .if1 .taken))), refl)
 
 store-requires : tie.Need-store-requires

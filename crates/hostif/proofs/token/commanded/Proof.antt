@@ -1,5 +1,6 @@
 -- `commanded` meets its contract.
-use Rattle.hardware.specs.Prog.{_>>=_, erase, followed, going}
+use Rattle.hardware.specs.Prog.{_>>=_, erase, followed}
+use Rattle.hardware.proofs.Prog.{going}
 use Rattle.hostif.specs.Hostif.{accessToken, commandNext, header, restToken, tokenNext, tokened, validCommandNext, validToken, validTokenNext}
 use borrow.Author.Needs.{needs}
 use mathlib.Core.Path.{refl}

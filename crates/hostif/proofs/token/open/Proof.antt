@@ -1,9 +1,9 @@
 -- `open` meets its contract.
-use Rattle.hardware.specs.Prog.{over}
 use Rattle.hostif.specs.Hostif.{token, tokenBlock}
 use borrow.Author.Needs.{needs}
 use Rattle.hostif.proofs.token.open.Statement.{statement}
 use Rattle.hostif.proofs.token.open.Tie as tie
+use Rattle.hardware.proofs.Prog.{over}
 
 header-requires : tie.Need-header-requires
 header-requires c κs = search needs

@@ -1,4 +1,5 @@
 -- `status` meets its contract.
+use Rattle.hardware.specs.Failures.{failureOf}
 use Rattle.hardware.specs.Prog.{pick}
 use Rattle.hardware.specs.Registers.{byte, flag}
 use Rattle.hostif.specs.Hostif.{header, tokenStatus, tokened, validToken}
@@ -22,11 +23,11 @@ enum-known-s-2 : tie.Need-enum-known-s-2
 enum-known-s-2 c = search needs
 
 returns-3 : tie.Need-returns-3
-unfolding pick byte flag tokenStatus tokened header validToken
-returns-3 c = cc
+unfolding pick byte flag tokenStatus tokened header validToken failureOf
+returns-3 c = rw (c .before .before .before .before .s .given .1, c .before .if2 .taken, c .if3 .left)
 
 returns-4 : tie.Need-returns-4
-unfolding pick byte flag tokenStatus tokened header validToken
+unfolding pick byte flag tokenStatus tokened header validToken failureOf
 returns-4 c = rw (c .before .before .before .s .given .1) (simp (ne-eqb _ _ (c .before .if1 .left), ne-eqb _ _ (c .if2 .left)))
 
 returns-5 : tie.Need-returns-5

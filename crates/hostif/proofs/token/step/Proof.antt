@@ -1,11 +1,11 @@
 -- `step` meets its contract.
-use Rattle.hardware.specs.Prog.{over}
 use Rattle.hostif.proofs.Laws.{two-words}
 use Rattle.hostif.specs.Hostif.{commandNext, restToken, validToken}
 use borrow.Author.Needs.{needs}
 use mathlib.Core.Path.{_∙_, ap}
 use Rattle.hostif.proofs.token.step.Statement.{statement}
 use Rattle.hostif.proofs.token.step.Tie as tie
+use Rattle.hardware.proofs.Prog.{over}
 
 slice-aggregate-step : tie.Need-slice-aggregate-step
 slice-aggregate-step c = search needs

@@ -1,8 +1,8 @@
 -- `told` meets its contract.
 use Rattle.bus.proofs.Laws.{picked}
-use Rattle.hardware.specs.Marks.{asked-on, going-on}
 use Rattle.hardware.specs.Asked.{yes}
 use Rattle.hardware.specs.Prog.{_>>=_, erase, followed, tally}
+use Rattle.hardware.proofs.Prog.{asked-on, going-on}
 use Rattle.i2c.proofs.Laws.{fits-valid, limit-most}
 use Rattle.i2c.specs.Calls.{restCall, saidTransfer, standsTransfer, validCall}
 use Rattle.i2c.specs.I2c.{givesValue}

@@ -1,10 +1,10 @@
 -- `transfer_step` meets its contract.
 use Rattle.bus.proofs.Laws.{picked-first, picked-second}
 use Rattle.hardware.proofs.Laws.{admits-no, admits-valid, admits-yes}
-use Rattle.hardware.specs.Asked.{validPort, yes}
-use Rattle.hardware.specs.Prog.{over-tally}
+use Rattle.hardware.specs.Asked.{yes}
+use Rattle.hardware.proofs.Prog.{over-tally}
 use Rattle.i2c.proofs.Laws.{fits-below, limit-most, valid-fits}
-use Rattle.i2c.specs.Calls.{limitOf, restCall, saidTransfer, standsTransfer, stepTransfer, validCall}
+use Rattle.i2c.specs.Calls.{limitOf, restCall, saidTransfer, standsTransfer, stepTransfer, validCall, validOperands}
 use borrow.Author.Needs.{needs}
 use mathlib.Core.Path.{_∙_, ap, refl, sym}
 use native.Mathlib.Omega.{arith}
@@ -44,11 +44,11 @@ returns c =
     let e = c .before .before .enum-told .given .1 in
     let h = rw (c .before .before .before .before .before .before .valid .ensures, c .before .before .before .before .before .access .ensures) at (c .before .before .before .before .admit .ensures) in
     let v = admits-valid _ _ _ e h in
-    let fits = valid-fits _ _ _ _ _ _ (picked-second (validPort _) _ v) in
+    let fits = valid-fits _ _ _ _ _ _ (picked-second (validOperands _ _) _ v) in
     rw (c .before .before .before .before .before .before .before .before .s .given .1)
     (record {
-      yields = c .told .ensures .yields (fits-below _ _ _ _ _ _ (limit-most _) (picked-second (validPort _) _ v)) ∙ ap yes (over-tally _ _ _ refl (c .before .step .ensures .yields)) ∙ sym (admits-yes _ _ _ _ e h);
-      limits = c .told .ensures .limits (picked-first (validPort _) _ v) (c .before .step .ensures .limits (limitOf _) (fits .counters)) (omega (arith, fits .all, c .before .step .ensures .due));
+      yields = c .told .ensures .yields (fits-below _ _ _ _ _ _ (limit-most _) (picked-second (validOperands _ _) _ v)) ∙ ap yes (over-tally _ _ _ refl (c .before .step .ensures .yields)) ∙ sym (admits-yes _ _ _ _ e h);
+      limits = c .told .ensures .limits (picked-first (validOperands _ _) _ v) (c .before .step .ensures .limits (limitOf _) (fits .counters)) (omega (arith, fits .all, c .before .step .ensures .due));
     })
 
 returns-2 : tie.Need-returns-2

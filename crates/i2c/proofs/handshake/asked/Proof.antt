@@ -1,8 +1,9 @@
 -- `asked` meets its contract.
 use Rattle.hardware.specs.Marks.{marked, more}
 use Rattle.hardware.specs.Change.{updateNext}
-use Rattle.hardware.specs.Prog.{_>>=_, erase, followed, going, orErr, pick}
+use Rattle.hardware.specs.Prog.{_>>=_, erase, followed, orErr, pick}
 use Rattle.hardware.specs.Registers.{outcome}
+use Rattle.hardware.proofs.Prog.{going}
 use Rattle.i2c.specs.Handshake.{accessHandshake, dueHandshake, dueHandshakeNext, handshakeNext, restHandshake, validHandshake, validHandshakeNext}
 use Rattle.transfer.specs.Attempt.{got}
 use borrow.Author.Needs.{needs}

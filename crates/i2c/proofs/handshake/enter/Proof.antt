@@ -1,10 +1,10 @@
 -- `enter` meets its contract.
-use Rattle.hardware.specs.Prog.{over}
 use Rattle.i2c.proofs.Laws.{allows-wanted, upto}
 use Rattle.i2c.specs.Handshake.{entered}
 use borrow.Author.Needs.{needs}
 use Rattle.i2c.proofs.handshake.enter.Statement.{statement}
 use Rattle.i2c.proofs.handshake.enter.Tie as tie
+use Rattle.hardware.proofs.Prog.{over}
 
 open-requires : tie.Need-open-requires
 open-requires c κs = search needs

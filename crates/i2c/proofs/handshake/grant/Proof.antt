@@ -1,5 +1,6 @@
 -- `grant` meets its contract.
 use Prim.Native.Nat.{_-_}
+use Rattle.hardware.specs.Failures.{failureOf}
 use Rattle.hardware.specs.Marks.{more}
 use Rattle.bus.proofs.Laws.{picked}
 use Rattle.hardware.specs.Prog.{_>>=_, erase, orErr, pick}
@@ -20,7 +21,7 @@ close-requires : tie.Need-close-requires
 close-requires c κs = search needs
 
 returns : tie.Need-returns
-unfolding awaitingGrant granted onGranted erase _>>=_ orErr pick got
+unfolding awaitingGrant granted onGranted erase _>>=_ orErr pick got failureOf
 returns c = record { yields = λ how. rw (c .before .before .if1 .taken, ← c .before .device .ensures) (c .close .ensures .yields how); limits = λ most h g. c .close .ensures .limits most; due = omega (arith, c .close .ensures .due) }
 
 sub-after : tie.Need-sub-after

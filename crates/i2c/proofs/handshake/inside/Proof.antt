@@ -1,6 +1,6 @@
 -- `inside` meets its contract.
-use Rattle.hardware.specs.Marks.{going-on}
 use Rattle.hardware.specs.Prog.{_>>=_, followed}
+use Rattle.hardware.proofs.Prog.{going-on}
 use Rattle.i2c.specs.Handshake.{accessHandshake, dueHandshake, dueHandshakeNext, handshakeNext, restHandshake, validHandshake, validHandshakeNext}
 use Rattle.i2c.specs.Retry.{dueRetryNext, retryNext, validRetryNext}
 use borrow.Author.Needs.{needs}

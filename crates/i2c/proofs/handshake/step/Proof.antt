@@ -1,6 +1,5 @@
 -- `step` meets its contract.
 use Rattle.bus.proofs.Laws.{picked-first, picked-second}
-use Rattle.hardware.specs.Prog.{over}
 use Rattle.i2c.proofs.Laws.{less, upto}
 use Rattle.i2c.specs.Handshake.{dueHandshake, restHandshake, validHandshake}
 use borrow.Author.Needs.{needs}
@@ -8,6 +7,7 @@ use borrow.Author.Tests.{ltb-true}
 use native.Mathlib.Omega.{arith}
 use Rattle.i2c.proofs.handshake.step.Statement.{statement}
 use Rattle.i2c.proofs.handshake.step.Tie as tie
+use Rattle.hardware.proofs.Prog.{over}
 
 enum-known-s : tie.Need-enum-known-s
 enum-known-s c = search needs

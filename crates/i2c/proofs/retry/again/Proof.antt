@@ -1,4 +1,5 @@
 -- `again` meets its contract.
+use Rattle.hardware.specs.Failures.{failureOf}
 use Rattle.hardware.specs.Prog.{erase}
 use Rattle.i2c.proofs.Laws.{again-more}
 use Rattle.i2c.specs.Retry.{dueRetryNext, triesLeft, retryNext, validRetryNext}
@@ -13,7 +14,7 @@ device-requires : tie.Need-device-requires
 device-requires c κs = search needs
 
 returns : tie.Need-returns
-unfolding retryNext got triesLeft erase validRetryNext dueRetryNext
+unfolding retryNext got triesLeft erase validRetryNext dueRetryNext failureOf
 returns c = record { yields = rw (c .before .if1 .taken, c .device .ensures); limits = λ tries h. refl; due = omega arith }
 
 sub-locked : tie.Need-sub-locked

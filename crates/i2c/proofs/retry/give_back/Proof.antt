@@ -1,5 +1,6 @@
 -- `give_back` meets its contract.
-use Rattle.hardware.specs.Prog.{erase, over}
+use Rattle.hardware.specs.Prog.{erase}
+use Rattle.hardware.proofs.Prog.{over}
 use Rattle.hostif.specs.Acquire.{release}
 use Rattle.i2c.proofs.Laws.{when-no, when-yes}
 use Rattle.i2c.proofs.Masks.{given-first}

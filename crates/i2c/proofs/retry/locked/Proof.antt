@@ -1,5 +1,6 @@
 -- `locked` meets its contract.
-use Rattle.hardware.specs.Prog.{erase, over}
+use Rattle.hardware.specs.Prog.{erase}
+use Rattle.hardware.proofs.Prog.{over}
 use Rattle.hostif.specs.Acquire.{acquire}
 use Rattle.i2c.proofs.Laws.{when-no, when-yes}
 use Rattle.i2c.proofs.Masks.{taken-first}

@@ -1,8 +1,9 @@
 -- `released` meets its contract.
 use Rattle.hardware.specs.Marks.{marked, more}
 use Rattle.bus.proofs.Laws.{picked}
-use Rattle.hardware.specs.Prog.{_>>=_, erase, followed, going, orErr, pick}
+use Rattle.hardware.specs.Prog.{_>>=_, erase, followed, orErr, pick}
 use Rattle.hardware.specs.Registers.{outcome}
+use Rattle.hardware.proofs.Prog.{going}
 use Rattle.i2c.specs.Retry.{accessStage, accessRetry, dueStage, dueRetry, dueRetryNext, restStage, restRetry, retryNext, validStage, validRetry, validRetryNext}
 use Rattle.sync.specs.Resource.{releaseBitsNext, validReleaseBitsNext}
 use Rattle.transfer.specs.Attempt.{got}

@@ -1,12 +1,12 @@
 -- `step` meets its contract.
 use Rattle.bus.proofs.Laws.{picked-first, picked-second}
-use Rattle.hardware.specs.Prog.{over}
 use Rattle.i2c.proofs.Laws.{less}
 use Rattle.i2c.specs.Retry.{dueStage, dueRetry, restStage, restRetry, validStage, validRetry}
 use borrow.Author.Needs.{needs}
 use borrow.Author.Tests.{ltb-true}
 use Rattle.i2c.proofs.retry.step.Statement.{statement}
 use Rattle.i2c.proofs.retry.step.Tie as tie
+use Rattle.hardware.proofs.Prog.{over}
 
 enum-known-stage : tie.Need-enum-known-stage
 enum-known-stage c = search needs

@@ -1,7 +1,8 @@
 -- `tried` meets its contract.
 use Rattle.hardware.specs.Marks.{marked, more}
 use Rattle.bus.proofs.Laws.{picked}
-use Rattle.hardware.specs.Prog.{_>>=_, followed, going, pick}
+use Rattle.hardware.specs.Prog.{_>>=_, followed, pick}
+use Rattle.hardware.proofs.Prog.{going}
 use Rattle.i2c.specs.Retry.{accessStage, accessRetry, dueStage, dueRetry, dueRetryNext, restStage, restRetry, retryNext, validStage, validRetry, validRetryNext}
 use Rattle.transfer.specs.Attempt.{attemptNext, awaiting, validAttemptNext}
 use Rattle.transfer.specs.Transfer.{tells}

@@ -2,7 +2,8 @@
 use Rattle.bus.proofs.Laws.{picked-first, picked-second}
 use Rattle.hardware.proofs.Laws.{admits-no, admits-valid, admits-yes}
 use Rattle.hardware.specs.Asked.{validPort, yes}
-use Rattle.hardware.specs.Prog.{tally, tally-erase}
+use Rattle.hardware.specs.Prog.{tally}
+use Rattle.hardware.proofs.Prog.{tally-erase}
 use Rattle.identify.proofs.Laws.{valid-below}
 use Rattle.identify.specs.Calls.{saidIdentify, standsIdentify, stepIdentify, validCall}
 use borrow.Author.Needs.{needs}

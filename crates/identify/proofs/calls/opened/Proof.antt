@@ -1,6 +1,7 @@
 -- `opened` meets its contract.
 use Rattle.hardware.specs.Asked.{yes}
-use Rattle.hardware.specs.Prog.{blank, tally, tally-erase}
+use Rattle.hardware.specs.Prog.{blank, tally}
+use Rattle.hardware.proofs.Prog.{tally-erase}
 use borrow.Author.Needs.{needs}
 use mathlib.Core.Path.{_∙_, ap}
 use native.Mathlib.Omega.{arith}

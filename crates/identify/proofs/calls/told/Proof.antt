@@ -1,8 +1,8 @@
 -- `told` meets its contract.
 use Rattle.bus.proofs.Laws.{picked}
-use Rattle.hardware.specs.Marks.{asked-on}
 use Rattle.hardware.specs.Asked.{yes}
 use Rattle.hardware.specs.Prog.{tally}
+use Rattle.hardware.proofs.Prog.{asked-on}
 use Rattle.identify.specs.Calls.{saidIdentify, standsIdentify, validCall}
 use Rattle.identify.specs.Walk.{identifyNext, validIdentifyNext}
 use borrow.Author.Needs.{needs}

@@ -1,6 +1,5 @@
 -- `step` meets its contract.
 use Rattle.bus.proofs.Laws.{picked-first, picked-second}
-use Rattle.hardware.specs.Prog.{over}
 use Rattle.i2c.proofs.Laws.{valid-fits}
 use Rattle.i2c.specs.Handshake.{restRequest}
 use Rattle.identify.specs.Place.{toldAt, validPlace}
@@ -9,6 +8,7 @@ use borrow.Author.Needs.{needs}
 use native.Mathlib.Omega.{arith}
 use Rattle.identify.proofs.walk.step.Statement.{statement}
 use Rattle.identify.proofs.walk.step.Tie as tie
+use Rattle.hardware.proofs.Prog.{over}
 
 request-requires : tie.Need-request-requires
 request-requires c κs = search needs

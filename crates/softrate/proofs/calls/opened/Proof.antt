@@ -1,6 +1,7 @@
 -- `opened` meets its contract.
 use Rattle.hardware.specs.Asked.{yes}
-use Rattle.hardware.specs.Prog.{blank, erase, pick, tally, tally-erase}
+use Rattle.hardware.specs.Prog.{blank, erase, pick, tally}
+use Rattle.hardware.proofs.Prog.{tally-erase}
 use Rattle.softrate.proofs.Laws.{first-placed}
 use Rattle.softrate.specs.Spot.{before, capAt, triesAt, upTo, validSpot}
 use borrow.Author.Needs.{needs}

@@ -1,8 +1,8 @@
 -- `told` meets its contract.
 use Rattle.bus.proofs.Laws.{picked}
-use Rattle.hardware.specs.Marks.{asked-on}
 use Rattle.hardware.specs.Asked.{yes}
 use Rattle.hardware.specs.Prog.{tally}
+use Rattle.hardware.proofs.Prog.{asked-on}
 use Rattle.softrate.specs.Calls.{saidRate, standsRate, validCall}
 use Rattle.softrate.specs.Walk.{rateNext, validRateNext}
 use borrow.Author.Needs.{needs}

@@ -1,7 +1,7 @@
 -- `from_request` meets its contract.
-use Rattle.hardware.specs.Marks.{going-on}
 use Rattle.bus.proofs.Laws.{picked}
 use Rattle.hardware.specs.Prog.{_>>=_, followed}
+use Rattle.hardware.proofs.Prog.{going-on}
 use Rattle.i2c.proofs.Laws.{fits-valid}
 use Rattle.i2c.specs.Handshake.{restRequest, dueHandshakeNext, handshakeNext, validHandshakeNext}
 use Rattle.softrate.proofs.Laws.{cap-most}

@@ -1,7 +1,8 @@
 -- `locking` meets its contract.
 use Rattle.hardware.specs.Change.{accessUpdate, restUpdate}
-use Rattle.hardware.specs.Prog.{_>>=_, erase, followed, going, orErr, pick}
+use Rattle.hardware.specs.Prog.{_>>=_, erase, followed, orErr, pick}
 use Rattle.hardware.specs.Registers.{outcome}
+use Rattle.hardware.proofs.Prog.{going}
 use Rattle.sync.specs.Lock.{lockNext, validLockNext}
 use Rattle.sync.specs.Resource.{accessAcquireBits, accessAcquireStage, acquireBitsNext, restAcquireBits, restAcquireStage, tryRead, validAcquireBits, validAcquireBitsNext, validAcquireStage}
 use borrow.Author.Needs.{needs}

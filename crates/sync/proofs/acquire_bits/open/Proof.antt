@@ -1,7 +1,9 @@
 -- `open` meets its contract.
 use Rattle.hardware.proofs.Laws.{one-less}
-use Rattle.hardware.specs.Prog.{erase, over}
+use Rattle.hardware.specs.Failures.{failureOf}
+use Rattle.hardware.specs.Prog.{erase}
 use Rattle.hardware.specs.Registers.{outcome}
+use Rattle.hardware.proofs.Prog.{over}
 use Rattle.sync.proofs.Laws.{acquire-more}
 use Rattle.sync.specs.Resource.{acquireBitsNext, acquireTries, validAcquireBitsNext}
 use borrow.Author.Needs.{needs}
@@ -10,7 +12,7 @@ use Rattle.sync.proofs.acquire_bits.open.Statement.{statement}
 use Rattle.sync.proofs.acquire_bits.open.Tie as tie
 
 returns : tie.Need-returns
-unfolding acquireTries erase acquireBitsNext outcome validAcquireBitsNext
+unfolding acquireTries erase acquireBitsNext outcome validAcquireBitsNext failureOf
 returns c = (rw (c .if1 .taken), λ h. refl)
 
 sub-locking : tie.Need-sub-locking

@@ -1,6 +1,7 @@
 -- `seen` meets its contract.
-use Rattle.hardware.specs.Prog.{_>>=_, erase, orErr, over, pick}
+use Rattle.hardware.specs.Prog.{_>>=_, erase, orErr, pick}
 use Rattle.hardware.specs.Registers.{outcome, word}
+use Rattle.hardware.proofs.Prog.{over}
 use Rattle.sync.specs.Resource.{accessAcquireBits, accessAcquireStage, acquireBitsNext, free, restAcquireBits, restAcquireStage, syncSeen, taken, tryAgain, validAcquireBits, validAcquireBitsNext, validAcquireStage}
 use borrow.Author.Needs.{needs}
 use borrow.Author.Tests.{lt-ltb}

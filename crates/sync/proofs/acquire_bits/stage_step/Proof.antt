@@ -1,11 +1,11 @@
 -- `stage_step` meets its contract.
-use Rattle.hardware.specs.Prog.{over}
 use Rattle.sync.specs.Resource.{restAcquireBits, restAcquireStage, validAcquireStage}
 use borrow.Author.Needs.{needs}
 use mathlib.Core.Path.{_∙_}
 use native.Mathlib.Omega.{arith}
 use Rattle.sync.proofs.acquire_bits.stage_step.Statement.{statement}
 use Rattle.sync.proofs.acquire_bits.stage_step.Tie as tie
+use Rattle.hardware.proofs.Prog.{over}
 
 enum-known-s : tie.Need-enum-known-s
 enum-known-s c = search needs

@@ -1,7 +1,9 @@
 -- `back` meets its contract.
 use Rattle.hardware.specs.Change.{updateNext}
-use Rattle.hardware.specs.Prog.{_>>=_, erase, followed, going, orErr}
+use Rattle.hardware.specs.Failures.{failureOf}
+use Rattle.hardware.specs.Prog.{_>>=_, erase, followed, orErr}
 use Rattle.hardware.specs.Registers.{outcome}
+use Rattle.hardware.proofs.Prog.{going}
 use Rattle.sync.specs.Lock.{accessLock, lockNext, restLock, validLock, validLockNext}
 use borrow.Author.Needs.{needs}
 use mathlib.Core.Path.{refl}
@@ -25,7 +27,7 @@ unfolding lockNext accessLock restLock updateNext validLockNext validLock
 returns c = (rw (c .before .n .given .1) (going _ _ _), refl)
 
 returns-2 : tie.Need-returns-2
-unfolding lockNext followed _>>=_ erase orErr outcome updateNext validLockNext
+unfolding lockNext followed _>>=_ erase orErr outcome updateNext validLockNext failureOf
 returns-2 c = (rw (c .before .before .before .n2 .given .1, c .enum-told .given .1), refl)
 
 returns-3 : tie.Need-returns-3

@@ -1,11 +1,11 @@
 -- `open` meets its contract.
-use Rattle.hardware.specs.Prog.{over}
 use Rattle.sync.specs.Lock.{lock}
 use Rattle.sync.specs.Regs.{TRIES}
 use borrow.Author.Needs.{needs}
 use native.Mathlib.Omega.{arith}
 use Rattle.sync.proofs.lock.open.Statement.{statement}
 use Rattle.sync.proofs.lock.open.Tie as tie
+use Rattle.hardware.proofs.Prog.{over}
 
 smbi-requires : tie.Need-smbi-requires
 smbi-requires c κs = search needs

@@ -1,6 +1,7 @@
 -- `regsmp` meets its contract.
 use Rattle.hardware.specs.Poll.{pollNext, validPollNext}
-use Rattle.hardware.specs.Prog.{_>>=_, followed, going}
+use Rattle.hardware.specs.Prog.{_>>=_, followed}
+use Rattle.hardware.proofs.Prog.{going}
 use Rattle.sync.specs.Lock.{accessLock, lockNext, restLock, validLock, validLockNext}
 use borrow.Author.Needs.{needs}
 use Rattle.sync.proofs.lock.regsmp.Statement.{statement}

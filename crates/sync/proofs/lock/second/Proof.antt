@@ -1,5 +1,6 @@
 -- `second` meets its contract.
-use Rattle.hardware.specs.Prog.{over, pick}
+use Rattle.hardware.specs.Prog.{pick}
+use Rattle.hardware.proofs.Prog.{over}
 use Rattle.sync.specs.Lock.{second}
 use Rattle.sync.specs.Regs.{TRIES}
 use borrow.Author.Needs.{needs}

@@ -1,4 +1,5 @@
 -- `smbi_done` meets its contract.
+use Rattle.hardware.specs.Failures.{failureOf}
 use Rattle.hardware.specs.Prog.{erase, orErr, pick}
 use Rattle.hardware.specs.Registers.{outcome, word}
 use Rattle.sync.specs.Lock.{lockNext, smbiDone, validLockNext}
@@ -24,7 +25,7 @@ enum-known-w-2 : tie.Need-enum-known-w-2
 enum-known-w-2 c = search needs
 
 returns-2 : tie.Need-returns-2
-unfolding lockNext smbiDone erase orErr pick word outcome validLockNext
+unfolding lockNext smbiDone erase orErr pick word outcome validLockNext failureOf
 returns-2 c = (rw (c .before .before .before .w .given .1, ← c .before .none-of .ensures, c .if1 .left), refl)
 
 returns-3 : tie.Need-returns-3

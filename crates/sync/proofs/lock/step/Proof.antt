@@ -1,10 +1,10 @@
 -- `step` meets its contract.
-use Rattle.hardware.specs.Prog.{over}
 use Rattle.sync.specs.Lock.{lock, restLock, second, validLock}
 use Rattle.sync.specs.Regs.{TRIES}
 use borrow.Author.Needs.{needs}
 use Rattle.sync.proofs.lock.step.Statement.{statement}
 use Rattle.sync.proofs.lock.step.Tie as tie
+use Rattle.hardware.proofs.Prog.{over}
 
 enum-known-s : tie.Need-enum-known-s
 enum-known-s c = search needs

@@ -1,5 +1,6 @@
 -- `swesmbi` meets its contract.
-use Rattle.hardware.specs.Prog.{_>>=_, followed, going}
+use Rattle.hardware.specs.Prog.{_>>=_, followed}
+use Rattle.hardware.proofs.Prog.{going}
 use Rattle.sync.specs.Lock.{accessLock, lockNext, restLock, swesmbiNext, validLock, validLockNext, validSwesmbiNext}
 use borrow.Author.Needs.{needs}
 use Rattle.sync.proofs.lock.swesmbi.Statement.{statement}

@@ -1,9 +1,9 @@
 -- `clear_done` meets its contract.
-use Rattle.hardware.specs.Prog.{over}
 use Rattle.sync.specs.Resource.{cleared}
 use borrow.Author.Needs.{needs}
 use Rattle.sync.proofs.release_bits.clear_done.Statement.{statement}
 use Rattle.sync.proofs.release_bits.clear_done.Tie as tie
+use Rattle.hardware.proofs.Prog.{over}
 
 open-requires : tie.Need-open-requires
 open-requires c κs = search needs

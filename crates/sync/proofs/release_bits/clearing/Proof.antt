@@ -1,6 +1,7 @@
 -- `clearing` meets its contract.
 use Rattle.hardware.specs.Change.{updateNext}
-use Rattle.hardware.specs.Prog.{_>>=_, followed, going}
+use Rattle.hardware.specs.Prog.{_>>=_, followed}
+use Rattle.hardware.proofs.Prog.{going}
 use Rattle.sync.specs.Resource.{accessReleaseBits, releaseBitsNext, restReleaseBits, validReleaseBits, validReleaseBitsNext}
 use borrow.Author.Needs.{needs}
 use mathlib.Core.Path.{refl}

@@ -1,9 +1,9 @@
 -- `lock` meets its contract.
-use Rattle.hardware.specs.Prog.{over}
 use Rattle.sync.specs.Resource.{unmuxed}
 use borrow.Author.Needs.{needs}
 use Rattle.sync.proofs.release_bits.lock.Statement.{statement}
 use Rattle.sync.proofs.release_bits.lock.Tie as tie
+use Rattle.hardware.proofs.Prog.{over}
 
 open-requires : tie.Need-open-requires
 open-requires c κs = search needs

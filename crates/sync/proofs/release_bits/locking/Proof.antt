@@ -1,7 +1,8 @@
 -- `locking` meets its contract.
 use Rattle.hardware.specs.Change.{accessUpdate, change, restUpdate}
-use Rattle.hardware.specs.Prog.{_>>=_, erase, followed, going, orErr}
+use Rattle.hardware.specs.Prog.{_>>=_, erase, followed, orErr}
 use Rattle.hardware.specs.Registers.{outcome}
+use Rattle.hardware.proofs.Prog.{going}
 use Rattle.sync.specs.Lock.{lockNext, validLockNext}
 use Rattle.sync.specs.Resource.{accessReleaseBits, clearing, releaseBitsNext, restReleaseBits, validReleaseBits, validReleaseBitsNext}
 use borrow.Author.Needs.{needs}

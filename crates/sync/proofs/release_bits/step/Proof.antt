@@ -1,7 +1,8 @@
 -- `step` meets its contract.
 use Rattle.hardware.specs.Change.{accessUpdate, change, restUpdate}
-use Rattle.hardware.specs.Prog.{erase, over}
+use Rattle.hardware.specs.Prog.{erase}
 use Rattle.hardware.specs.Registers.{outcome}
+use Rattle.hardware.proofs.Prog.{over}
 use Rattle.sync.specs.Resource.{against, clearBits, cleared, clearing, releaseBits, releaseBitsNext, restReleaseBits, settle, tryAgain, unmuxed, validAcquireBits, validAcquireStage, validReleaseBits, validReleaseBitsNext}
 use borrow.Author.Needs.{needs}
 use mathlib.Core.Path.{refl}

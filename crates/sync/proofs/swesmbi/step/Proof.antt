@@ -1,6 +1,6 @@
 -- `step` meets its contract.
 use Rattle.hardware.proofs.Laws.{below}
-use Rattle.hardware.specs.Prog.{fed, over}
+use Rattle.hardware.proofs.Prog.{fed, over}
 use Rattle.sync.specs.Lock.{restSwesmbi, swesmbiCheck, validSwesmbi}
 use borrow.Author.Needs.{needs}
 use borrow.Author.Tests.{ltb-true}

@@ -1,10 +1,10 @@
 -- `step` meets its contract.
-use Rattle.hardware.specs.Prog.{over}
 use Rattle.sync.specs.Lock.{restUnlock, unlock}
 use borrow.Author.Needs.{needs}
 use mathlib.Core.Path.{_∙_}
 use Rattle.sync.proofs.unlock.step.Statement.{statement}
 use Rattle.sync.proofs.unlock.step.Tie as tie
+use Rattle.hardware.proofs.Prog.{over}
 
 enum-known-s : tie.Need-enum-known-s
 enum-known-s c = search needs

@@ -1,7 +1,8 @@
 -- `sync` meets its contract.
 use Rattle.hardware.specs.Change.{accessUpdate, change, restUpdate, updateNext}
-use Rattle.hardware.specs.Prog.{_>>=_, erase, followed, going, orErr}
+use Rattle.hardware.specs.Prog.{_>>=_, erase, followed, orErr}
 use Rattle.hardware.specs.Registers.{outcome}
+use Rattle.hardware.proofs.Prog.{going}
 use Rattle.sync.specs.Lock.{accessUnlock, restUnlock, unlockNext}
 use borrow.Author.Needs.{needs}
 use Rattle.sync.proofs.unlock.sync.Statement.{statement}

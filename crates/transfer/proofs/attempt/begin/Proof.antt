@@ -1,6 +1,7 @@
 -- `begin` meets its contract.
-use Rattle.hardware.specs.Prog.{erase, orErr, over}
+use Rattle.hardware.specs.Prog.{erase, orErr}
 use Rattle.hardware.specs.Registers.{word}
+use Rattle.hardware.proofs.Prog.{over}
 use Rattle.transfer.specs.Attempt.{attemptNext, begun, got, validAttemptNext}
 use borrow.Author.Needs.{needs}
 use mathlib.Core.Path.{refl}

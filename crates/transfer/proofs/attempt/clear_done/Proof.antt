@@ -1,4 +1,5 @@
 -- `clear_done` meets its contract.
+use Rattle.hardware.specs.Failures.{failureOf}
 use Rattle.hardware.specs.Prog.{pick}
 use Rattle.transfer.specs.Attempt.{orI2c}
 use borrow.Author.Needs.{needs}
@@ -9,7 +10,7 @@ is-i2c-requires : tie.Need-is-i2c-requires
 is-i2c-requires c κs = search needs
 
 returns : tie.Need-returns
-unfolding orI2c pick
+unfolding orI2c pick failureOf
 returns c = rw (← c .before .is-i2c .ensures, c .if1 .taken)
 
 returns-2 : tie.Need-returns-2

@@ -1,6 +1,8 @@
 -- `cleared` meets its contract.
 use Rattle.bus.specs.Clear.{clearNext, validClearNext}
-use Rattle.hardware.specs.Prog.{_>>=_, erase, followed, going}
+use Rattle.hardware.specs.Failures.{failureOf}
+use Rattle.hardware.specs.Prog.{_>>=_, erase, followed}
+use Rattle.hardware.proofs.Prog.{going}
 use Rattle.transfer.specs.Attempt.{accessAttempt, attemptNext, awaiting, cleared, got, orCleared, restAttempt, validAttempt, validAttemptNext}
 use borrow.Author.Needs.{needs}
 use mathlib.Core.Path.{refl}
@@ -27,7 +29,7 @@ unfolding attemptNext awaiting accessAttempt restAttempt validAttemptNext validA
 returns c = (λ m q s. rw (c .before .n .given .1) (going _ _ _), λ s h. rw (c .before .n .given .1) at h)
 
 returns-2 : tie.Need-returns-2
-unfolding attemptNext got followed _>>=_ erase validAttemptNext clearNext cleared orCleared
+unfolding attemptNext got followed _>>=_ erase validAttemptNext clearNext cleared orCleared failureOf
 returns-2 c = (λ m q s. rw (c .before .before .before .n2 .given .1, c .enum-told .given .1), λ s h. refl)
 
 returns-3 : tie.Need-returns-3

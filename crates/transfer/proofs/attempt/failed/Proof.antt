@@ -1,5 +1,6 @@
 -- `failed` meets its contract.
-use Rattle.hardware.specs.Prog.{erase, over, pick}
+use Rattle.hardware.specs.Prog.{erase, pick}
+use Rattle.hardware.proofs.Prog.{over}
 use Rattle.transfer.specs.Attempt.{attemptNext, got, orTried, validAttemptNext}
 use borrow.Author.Needs.{needs}
 use mathlib.Core.Path.{refl}

@@ -1,5 +1,6 @@
 -- `from_transfer` meets its contract.
-use Rattle.hardware.specs.Prog.{_>>=_, erase, followed, going}
+use Rattle.hardware.specs.Prog.{_>>=_, erase, followed}
+use Rattle.hardware.proofs.Prog.{going}
 use Rattle.transfer.proofs.Laws.{told-on}
 use Rattle.transfer.specs.Attempt.{accessAttempt, attemptNext, awaiting, got, orTried, restAttempt, tried, validAttempt, validAttemptNext}
 use Rattle.transfer.specs.Transfer.{asking, transferNext, validTransferNext}

@@ -1,9 +1,9 @@
 -- `step` meets its contract.
-use Rattle.hardware.specs.Prog.{fed, over}
 use Rattle.transfer.specs.Attempt.{restAttempt, validAttempt}
 use borrow.Author.Needs.{needs}
 use Rattle.transfer.proofs.attempt.step.Statement.{statement}
 use Rattle.transfer.proofs.attempt.step.Tie as tie
+use Rattle.hardware.proofs.Prog.{fed, over}
 
 enum-told : tie.Need-enum-told
 enum-told c = search needs

@@ -1,6 +1,7 @@
 -- `told` meets its contract.
 use Rattle.hardware.specs.Asked.{yes}
-use Rattle.hardware.specs.Prog.{_>>=_, erase, followed, going-tally, pick, tally}
+use Rattle.hardware.specs.Prog.{_>>=_, erase, followed, pick, tally}
+use Rattle.hardware.proofs.Prog.{going-tally}
 use Rattle.transfer.proofs.Laws.{told-tally}
 use Rattle.transfer.specs.Attempt.{attemptNext, awaiting, validAttemptNext}
 use Rattle.transfer.specs.Calls.{dropped, restScript, saidScript, standsScript, single, validScript}

@@ -1,6 +1,6 @@
 -- `after` meets its contract.
 use Rattle.script.proofs.Laws.{on-next}
-use Rattle.script.specs.Script.{device}
+use Rattle.script.specs.Script.{device, stepAt}
 use Rattle.transfer.proofs.Laws.{after-other, after-read}
 use Rattle.transfer.specs.Transfer.{tells}
 use borrow.Author.Needs.{needs}
@@ -8,11 +8,8 @@ use mathlib.Core.Path.{_∙_, ap, sym}
 use Rattle.transfer.proofs.transfer.after.Statement.{statement}
 use Rattle.transfer.proofs.transfer.after.Tie as tie
 
-command-requires : tie.Need-command-requires
-command-requires c κs = search needs
-
-next-requires : tie.Need-next-requires
-next-requires c κs = search needs
+at-requires : tie.Need-at-requires
+at-requires c κs = search needs
 
 took-requires : tie.Need-took-requires
 took-requires c κs = search needs
@@ -27,12 +24,14 @@ told-requires : tie.Need-told-requires
 told-requires c κs = search needs
 
 returns : tie.Need-returns
-returns c = (λ m device. c .told .ensures .0 m (c .before .before .before .before .before .before .before .before .args .l) device (c .before .before .before .before .before .before .before .before .args .script .now) ∙ ap (tells m (c .before .before .before .before .before .before .before .before .args .b)) (rw (c .before .before .before .before .took .ensures, c .before .before .before .before .before .next .ensures, c .before .before .before .before .before .before .command .ensures) at (c .before .before .before .from .ensures .0 m device)) ∙ after-read m (c .before .before .before .before .before .before .before .before .args .l) device (c .before .before .before .before .before .before .before .before .args .script .now) (c .before .before .before .before .before .before .before .before .args .at) (c .before .before .before .before .before .before .before .before .args .taken) (c .before .before .before .before .before .before .before .before .args .b) (c .before .before .before .before .before .before .before .before .args .ctl) (sym (rw (c .before .before .before .before .before .before .command .ensures) at (c .before .before .is-read .ensures)) ∙ c .before .if1 .taken), λ h. c .told .ensures .1 (c .before .before .before .before .before .before .before .before .args .l) (c .before .before .before .before .before .before .before .before .args .script .now) (c .before .before .before .from .ensures .1 (λ lt. rw (c .before .before .before .before .before .next .ensures) (on-next (c .before .before .before .before .before .before .before .before .args .script .now) (c .before .before .before .before .before .before .before .before .args .at) h (rw (c .before .before .before .before .before .next .ensures) at lt)))))
+unfolding stepAt
+returns c = (λ m device. c .told .ensures .0 m (c .before .before .before .before .before .before .before .args .l) device (c .before .before .before .before .before .before .before .args .script .now) ∙ ap (tells m (c .before .before .before .before .before .before .before .args .b)) (rw (c .before .before .before .before .took .ensures, c .before .before .before .before .before .at .ensures) at (c .before .before .before .from .ensures .0 m device)) ∙ after-read m (c .before .before .before .before .before .before .before .args .l) device (c .before .before .before .before .before .before .before .args .script .now) (c .before .before .before .before .before .before .before .args .at) (c .before .before .before .before .before .before .before .args .taken) (c .before .before .before .before .before .before .before .args .b) (c .before .before .before .before .before .before .before .args .ctl) (sym (rw (c .before .before .before .before .before .at .ensures) at (c .before .before .is-read .ensures)) ∙ c .before .if1 .taken), λ h. c .told .ensures .1 (c .before .before .before .before .before .before .before .args .l) (c .before .before .before .before .before .before .before .args .script .now) (c .before .before .before .from .ensures .1 (λ lt. rw (c .before .before .before .before .before .at .ensures) (on-next (c .before .before .before .before .before .before .before .args .script .now) (c .before .before .before .before .before .before .before .args .at) h (rw (c .before .before .before .before .before .at .ensures) at lt)))))
 
 returns-2 : tie.Need-returns-2
-returns-2 c = (λ m device. rw (c .before .before .before .took .ensures, c .before .before .before .before .next .ensures, c .before .before .before .before .before .command .ensures) at (c .before .before .from .ensures .0 m device) ∙ after-other m (c .before .before .before .before .before .before .before .args .l) device (c .before .before .before .before .before .before .before .args .script .now) (c .before .before .before .before .before .before .before .args .at) (c .before .before .before .before .before .before .before .args .taken) (c .before .before .before .before .before .before .before .args .b) (c .before .before .before .before .before .before .before .args .ctl) (sym (rw (c .before .before .before .before .before .command .ensures) at (c .before .is-read .ensures)) ∙ c .if1 .left), λ h. c .before .before .from .ensures .1 (λ lt. rw (c .before .before .before .before .next .ensures) (on-next (c .before .before .before .before .before .before .before .args .script .now) (c .before .before .before .before .before .before .before .args .at) h (rw (c .before .before .before .before .next .ensures) at lt))))
+unfolding stepAt
+returns-2 c = (λ m device. rw (c .before .before .before .took .ensures, c .before .before .before .before .at .ensures) at (c .before .before .from .ensures .0 m device) ∙ after-other m (c .before .before .before .before .before .before .args .l) device (c .before .before .before .before .before .before .args .script .now) (c .before .before .before .before .before .before .args .at) (c .before .before .before .before .before .before .args .taken) (c .before .before .before .before .before .before .args .b) (c .before .before .before .before .before .before .args .ctl) (sym (rw (c .before .before .before .before .at .ensures) at (c .before .is-read .ensures)) ∙ c .if1 .left), λ h. c .before .before .from .ensures .1 (λ lt. rw (c .before .before .before .before .at .ensures) (on-next (c .before .before .before .before .before .before .args .script .now) (c .before .before .before .before .before .before .args .at) h (rw (c .before .before .before .before .at .ensures) at lt))))
 
 pub after-spec : {M : Type 1} → statement M
 after-spec =
-    tie.close (tie.spec command-requires next-requires took-requires from-requires is-read-requires told-requires
+    tie.close (tie.spec at-requires took-requires from-requires is-read-requires told-requires
     returns returns-2)

@@ -1,13 +1,14 @@
 -- `step` meets its contract.
 use Rattle.bus.proofs.Laws.{picked-first, picked-second}
+use Rattle.script.specs.Script.{stepAt}
 use Rattle.transfer.specs.Transfer.{ranOn, restTransfer, validTransfer}
 use borrow.Author.Needs.{needs}
 use mathlib.Core.Path.{_∙_}
 use Rattle.transfer.proofs.transfer.step.Statement.{statement}
 use Rattle.transfer.proofs.transfer.step.Tie as tie
 
-command-requires : tie.Need-command-requires
-command-requires c κs = search needs
+at-requires : tie.Need-at-requires
+at-requires c κs = search needs
 
 step-requires : tie.Need-step-requires
 step-requires c κs = search needs
@@ -16,8 +17,8 @@ jobbed-requires : tie.Need-jobbed-requires
 jobbed-requires c κs = search needs
 
 returns : tie.Need-returns
-unfolding restTransfer validTransfer
-returns c = (λ m. c .jobbed .ensures .0 m ∙ rw (c .before .before .command .ensures) at (c .before .step .ensures .0 (ranOn m (c .before .before .before .before .before .before .args .l) (c .before .before .before .before .before .before .args .device) (c .before .before .before .before .before .before .args .script .now) (c .before .before .before .before .before .before .args .s .at) (c .before .before .before .before .before .before .args .s .taken))), λ h. c .jobbed .ensures .1 (picked-first _ _ h) ((rw (c .before .before .command .ensures) at (c .before .step .ensures .1)) (picked-second _ _ h)))
+unfolding stepAt restTransfer validTransfer
+returns c = (λ m. c .jobbed .ensures .0 m ∙ rw (c .before .before .at .ensures) at (c .before .step .ensures .0 (ranOn m (c .before .before .before .before .before .before .args .l) (c .before .before .before .before .before .before .args .device) (c .before .before .before .before .before .before .args .script .now) (c .before .before .before .before .before .before .args .s .at) (c .before .before .before .before .before .before .args .s .taken))), λ h. c .jobbed .ensures .1 (picked-first _ _ h) ((rw (c .before .before .at .ensures) at (c .before .step .ensures .1)) (picked-second _ _ h)))
 
 pub step-spec : {M : Type 1} → statement M
-step-spec = tie.close (tie.spec command-requires step-requires jobbed-requires returns)
+step-spec = tie.close (tie.spec at-requires step-requires jobbed-requires returns)

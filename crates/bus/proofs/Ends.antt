@@ -12,6 +12,22 @@ use Rattle.hardware.proofs.Ends.{ends-more, ends-bind, ends-pick, ends-erase, r
 use Rattle.bus.specs.declared.Layout.{Layout}
 use Rattle.bus.specs.declared.Taken.{Taken}
 use Rattle.bus.specs.Bus.{Bus, done, fail, none, orHeld, flushing, put, get, wait, sclSeen, sclTries, sclHigh, sclLow, sdaSeen, sdaFree, sda, releaseSda, look, lookSeen, start, close, stop, outBit, sample, sampleSeen, inBit, shifted, inBits, inByte, bitOf, outBits, ackSeen, ackTries, send, pulses, orQuiet, quieted, quiet, clear, clearFree, clearAgain, clearStop}
+use Rattle.hardware.specs.declared.Answer.{Answer}
+use Rattle.bus.specs.declared.line.Call.{Call}
+use Rattle.bus.specs.declared.line.Call.the-variants.{Look, Sda, Release, Up, Down, Wait as Pausing, Sample, Ack, Close}
+use Rattle.bus.specs.declared.line.Goal.{Goal}
+use Rattle.bus.specs.declared.line.Goal.the-variants.{High, Free, Low, Release as Released, Down as Lowered, Up as Raised, Close as Closed}
+use Rattle.bus.specs.declared.line.Line.{Line}
+use Rattle.bus.specs.declared.line.Line.the-variants.{Look as Looking, Pause, Sample as Sampling, Ack as Listening, Rest, Write as Writing, Flush, Settle, Check, Rise}
+use Rattle.bus.specs.declared.command.Command.{Command}
+use Rattle.bus.specs.declared.command.Command.the-variants.{Start, Send, Read, Stop, Free as FreeLines}
+use Rattle.bus.specs.declared.job.Job.{Job}
+use Rattle.bus.specs.declared.clear.Clear.{Clear}
+use Rattle.bus.specs.declared.clear.Part.{Part}
+use Rattle.bus.specs.declared.clear.Part.the-variants.{First, Free as Freeing, Again, Stop as Stopping}
+use Rattle.bus.specs.Line.{sensed, called, reached, settled, restAt, restLine}
+use Rattle.bus.specs.Command.{finished, callsLeft, restJob}
+use Rattle.bus.specs.Clear.{restPart, restClear}
 
 -- n accesses bring a program to its end, whatever control word it is given
 abbrev pub EndsBus : Bus → ℕ → Type 0
@@ -357,3 +373,142 @@ clear-ends l =
 
 pub clear-erased-ends : (l : Layout) (ctl : ℕ) → Ends (erase (clear l ctl)) CLEAR-STEPS
 clear-erased-ends l ctl = ends-erase _ CLEAR-STEPS (clear-ends l ctl)
+
+-- the answers that each machine may still need after the one it awaits, up to the end of the call, the command or the sequence
+
+-- once the wait after a word is over
+abbrev pub reachAfter : Goal → ℕ
+reachAfter High = PUT-STEPS + GET-STEPS
+reachAfter Free = GET-STEPS
+reachAfter Low = 0
+reachAfter Released = 0
+reachAfter Lowered = 0
+reachAfter (Raised left) = GET-STEPS + left * SCL-TRY-STEPS
+reachAfter Closed = 0
+
+-- with that wait
+abbrev pub settleAfter : Goal → ℕ
+settleAfter g = WAIT-STEPS + reachAfter g
+
+abbrev pub lineAfter : Line → ℕ
+lineAfter Looking = 0
+lineAfter (Pause us) = 0
+lineAfter Sampling = 0
+lineAfter (Listening left) = WAIT-STEPS + left * (GET-STEPS + WAIT-STEPS)
+lineAfter (Rest left) = left * (GET-STEPS + WAIT-STEPS)
+lineAfter (Writing g) = 1 + settleAfter g
+lineAfter (Flush g) = settleAfter g
+lineAfter (Settle g) = reachAfter g
+lineAfter Check = 0
+lineAfter (Rise left) = left * SCL-TRY-STEPS
+
+-- no line call takes more than that of SCL; left: the calls after this one
+abbrev pub jobAfter : Job → ℕ
+jobAfter s = lineAfter (s .state .line) + s .left * SCL-HIGH-STEPS
+
+abbrev pub partAfter : Part → ℕ
+partAfter First = FREE-STEPS + (START-STEPS + STOP-STEPS)
+partAfter Freeing = START-STEPS + STOP-STEPS
+partAfter Again = STOP-STEPS
+partAfter Stopping = 0
+
+abbrev pub clearAfter : Clear → ℕ
+clearAfter s = jobAfter (s .job) + partAfter (s .part)
+
+reached-ends : (l : Layout) (g : Goal) (k : Bus) (n : ℕ) → EndsBus k n → EndsBus (reached l g k) (reachAfter g + n)
+unfolding reached sclSeen
+reached-ends l High k n e = bus-more _ (PUT-STEPS + (GET-STEPS + n)) (reachAfter High + n) (sda-free-ends l k n e) (omega arith)
+reached-ends l Free k n e = get-ends l _ n (sda-seen-ends l k n e)
+reached-ends l Low k n e = bus-more _ n (0 + n) e (omega arith)
+reached-ends l Released k n e = bus-more _ n (0 + n) e (omega arith)
+reached-ends l Lowered k n e = bus-more _ n (0 + n) e (omega arith)
+reached-ends l (Raised left) k n e =
+    bus-more _ (GET-STEPS + (left * SCL-TRY-STEPS + n)) (reachAfter (Raised left) + n)
+    (get-ends l _ (left * SCL-TRY-STEPS + n) (λ v. either-ends _ _ _ _ (scl-tries-ends l left k n e) (bus-more k n (left * SCL-TRY-STEPS + n) e (omega arith))))
+    (omega arith)
+reached-ends l Closed k n e = bus-more _ n (0 + n) e (omega arith)
+
+settled-ends : (l : Layout) (g : Goal) (k : Bus) (n : ℕ) → EndsBus k n → EndsBus (settled l g k) (settleAfter g + n)
+unfolding settled reached
+settled-ends l High k n e = bus-more _ (WAIT-STEPS + (reachAfter High + n)) (settleAfter High + n) (wait-ends 3 _ _ (reached-ends l High k n e)) (omega arith)
+settled-ends l Free k n e = bus-more _ (reachAfter Free + n) (settleAfter Free + n) (reached-ends l Free k n e) (omega arith)
+settled-ends l Low k n e = wait-ends 3 k n e
+settled-ends l Released k n e = wait-ends 1 k n e
+settled-ends l Lowered k n e = wait-ends 1 k n e
+settled-ends l (Raised left) k n e =
+    bus-more _ (WAIT-STEPS + (reachAfter (Raised left) + n)) (settleAfter (Raised left) + n) (wait-ends 1 _ _ (reached-ends l (Raised left) k n e)) (omega arith)
+settled-ends l Closed k n e = bus-more _ n (settleAfter Closed + n) e (omega arith)
+
+-- k is what comes after the call
+at-rest-ends : (l : Layout) (ctl bits : ℕ) (s : Line) (a : Answer) (k : ℕ → Bus) (n : ℕ) → ((b : ℕ) → EndsBus (k b) n)
+    → Ends (restAt l ctl bits s a k) (lineAfter s + n)
+unfolding restAt lookSeen sampleSeen sensed ackSeen sclSeen
+at-rest-ends l ctl bits Looking a k n e = ends-more _ n (0 + n) (held-ends _ n (λ v c. e bits _) ctl (raw a)) (omega arith)
+at-rest-ends l ctl bits (Pause us) a k n e = ends-more _ n (0 + n) (e bits ctl) (omega arith)
+at-rest-ends l ctl bits Sampling a k n e = ends-more _ n (0 + n) (held-ends _ n (λ v. e _) ctl (raw a)) (omega arith)
+at-rest-ends l ctl bits (Listening left) a k n e =
+    let m : ℕ = left * (GET-STEPS + WAIT-STEPS) + n in
+    ends-more _ (WAIT-STEPS + m) (lineAfter (Listening left) + n)
+    (held-ends _ (WAIT-STEPS + m) (λ v. either-ends _ _ _ (WAIT-STEPS + m) (bus-more _ n (WAIT-STEPS + m) (e _) (omega arith)) (wait-ends 1 _ m (ack-tries-ends l left _ n (λ high. e _)))) ctl (raw a))
+    (omega arith)
+at-rest-ends l ctl bits (Rest left) a k n e = ack-tries-ends l left _ n (λ high. e _) ctl
+at-rest-ends l ctl bits (Writing g) a k n e =
+    ends-more _ (suc (settleAfter g + n)) (lineAfter (Writing g) + n) (held-ends _ (suc (settleAfter g + n)) (λ _. flushing-ends _ _ (settled-ends l g (k bits) n (e bits))) ctl (written a)) (omega arith)
+at-rest-ends l ctl bits (Flush g) a k n e = held-ends _ (settleAfter g + n) (λ _. settled-ends l g (k bits) n (e bits)) ctl (flushed a)
+at-rest-ends l ctl bits (Settle g) a k n e = reached-ends l g (k bits) n (e bits) ctl
+at-rest-ends l ctl bits Check a k n e = ends-more _ n (0 + n) (held-ends _ n (sda-seen-ends l (k bits) n (e bits)) ctl (raw a)) (omega arith)
+at-rest-ends l ctl bits (Rise left) a k n e =
+    held-ends _ (left * SCL-TRY-STEPS + n) (λ v. either-ends _ _ _ _ (scl-tries-ends l left (k bits) n (e bits)) (bus-more (k bits) n (left * SCL-TRY-STEPS + n) (e bits) (omega arith))) ctl (raw a)
+
+called-ends : (l : Layout) (c : Call) (bits : ℕ) (k : ℕ → Bus) (n : ℕ) → ((b : ℕ) → EndsBus (k b) n) → EndsBus (called l c bits k) (SCL-HIGH-STEPS + n)
+unfolding called sensed
+called-ends l Look bits k n e = bus-more _ _ (SCL-HIGH-STEPS + n) (look-ends l (k bits) n (e bits)) (omega arith)
+called-ends l (Sda high) bits k n e = bus-more _ _ (SCL-HIGH-STEPS + n) (sda-ends l high (k bits) n (e bits)) (omega arith)
+called-ends l Release bits k n e = bus-more _ _ (SCL-HIGH-STEPS + n) (release-sda-ends l (k bits) n (e bits)) (omega arith)
+called-ends l Up bits k n e = scl-high-ends l (k bits) n (e bits)
+called-ends l Down bits k n e = bus-more _ _ (SCL-HIGH-STEPS + n) (scl-low-ends l (k bits) n (e bits)) (omega arith)
+called-ends l (Pausing us) bits k n e = bus-more _ _ (SCL-HIGH-STEPS + n) (wait-ends us (k bits) n (e bits)) (omega arith)
+called-ends l Sample bits k n e = bus-more _ _ (SCL-HIGH-STEPS + n) (sample-ends l _ n (λ b. e _)) (omega arith)
+called-ends l Ack bits k n e = bus-more _ _ (SCL-HIGH-STEPS + n) (ack-tries-ends l 10 _ n (λ b. e _)) (omega arith)
+called-ends l Close bits k n e = bus-more _ _ (SCL-HIGH-STEPS + n) (close-ends l (k bits) n (e bits)) (omega arith)
+
+finished-ends : (device : ℕ) (c : Command) (k : ℕ → Bus) (n : ℕ) → ((b : ℕ) → EndsBus (k b) n) → (bits : ℕ) → EndsBus (finished device c k bits) n
+unfolding finished
+finished-ends device Start k n e bits = e bits
+finished-ends device (Send value) k n e bits = either-ends _ _ _ n (e bits) (fail-ends _ n)
+finished-ends device (Read high) k n e bits = e bits
+finished-ends device Stop k n e bits = e bits
+finished-ends device FreeLines k n e bits = e bits
+
+calls-left-ends : (l : Layout) (device : ℕ) (c : Command) (left : ℕ) (k : ℕ → Bus) (n : ℕ) → ((b : ℕ) → EndsBus (k b) n) → (bits : ℕ)
+    → EndsBus (callsLeft l device c left k bits) (left * SCL-HIGH-STEPS + n)
+unfolding callsLeft
+calls-left-ends l device c zero k n e bits = bus-more _ n (zero * SCL-HIGH-STEPS + n) (finished-ends device c k n e bits) (omega arith)
+calls-left-ends l device c (suc left) k n e bits =
+    bus-more _ (SCL-HIGH-STEPS + (left * SCL-HIGH-STEPS + n)) (suc left * SCL-HIGH-STEPS + n) (called-ends l _ bits _ (left * SCL-HIGH-STEPS + n) (calls-left-ends l device c left k n e)) (omega arith)
+
+-- whatever command the script has at the position
+pub job-rest-ends : (l : Layout) (device : ℕ) (c : Command) (s : Job) (a : Answer) (k : ℕ → Bus) (n : ℕ) → ((b : ℕ) → EndsBus (k b) n)
+    → Ends (restJob l device c s a k) (jobAfter s + n)
+unfolding restJob restLine
+job-rest-ends l device c s a k n e =
+    ends-more _ (lineAfter (s .state .line) + (s .left * SCL-HIGH-STEPS + n)) (jobAfter s + n)
+    (at-rest-ends l (s .state .ctl) (s .state .bits) (s .state .line) a _ (s .left * SCL-HIGH-STEPS + n) (calls-left-ends l device c (s .left) k n e))
+    (omega arith)
+
+part-rest-ends : (l : Layout) (p : Part) (j : Job) (a : Answer) → Ends (restPart l p j a) (jobAfter j + partAfter p)
+unfolding restPart quieted
+part-rest-ends l First j a =
+    ends-more _ (jobAfter j + 0 + partAfter First) (jobAfter j + partAfter First)
+    (ends-bind _ _ (jobAfter j + 0) (partAfter First) (job-rest-ends l 0 Start j a _ 0 (λ b. done-ends none 0)) (λ h. quieted-ends (clearFree l) _ (clear-free-ends l) (h .ctl) (h .out))) (omega arith)
+part-rest-ends l Freeing j a = job-rest-ends l 0 FreeLines j a _ (partAfter Freeing) (λ b. clear-again-ends l)
+part-rest-ends l Again j a =
+    ends-more _ (jobAfter j + 0 + partAfter Again) (jobAfter j + partAfter Again)
+    (ends-bind _ _ (jobAfter j + 0) (partAfter Again) (job-rest-ends l 0 Start j a _ 0 (λ b. done-ends none 0)) (λ h. quieted-ends (clearStop l) _ (clear-stop-ends l) (h .ctl) (h .out))) (omega arith)
+part-rest-ends l Stopping j a =
+    ends-more _ (jobAfter j + 0 + 0) (jobAfter j + partAfter Stopping)
+    (ends-bind _ _ (jobAfter j + 0) 0 (job-rest-ends l 0 Stop j a _ 0 (λ b. done-ends none 0)) (λ h. quieted-ends (done none) 0 (done-ends none 0) (h .ctl) (h .out))) (omega arith)
+
+pub clear-rest-ends : (l : Layout) (s : Clear) (a : Answer) → Ends (restClear l s a) (clearAfter s)
+unfolding restClear
+clear-rest-ends l s a = part-rest-ends l (s .part) (s .job) a

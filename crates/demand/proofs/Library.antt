@@ -13,8 +13,8 @@ use Rattle.bus.specs.declared.Layout.{Layout}
 use Rattle.bus.specs.Layout.{layoutOf}
 use Rattle.wire.specs.Lines.{Each}
 use Rattle.wire.specs.Machine.{World}
-use Rattle.wire.specs.Run.{Source, listed, fixed, checked, Event, atMachine, answered, noticed, BenchOutcome, ended, short, stopped, Finished, BenchRun, run}
-use Rattle.wire.proofs.Run.{Fits, fixed-checked, checked-run, fixed-finishes}
+use Rattle.wire.specs.Run.{Source, listed, fixed, kindChecked, Event, atMachine, answered, noticed, BenchOutcome, ended, short, stopped, Finished, BenchRun, run}
+use Rattle.wire.proofs.Run.{Fits, fixed-kind-checked, kind-checked-run, fixed-finishes}
 use Rattle.bench.specs.declared.Bench.{Bench}
 use Rattle.bench.specs.AtOnce.{atOnce}
 use Rattle.bench.specs.Register.{side}
@@ -65,9 +65,9 @@ module _ (port : Port) (b : Bench) (word : ℕ) where
   library s answers = identifyRun s (yes port) (record { word = word; other = b }) answers
 
   library-counts : (s : Source) (answers : List Answer)
-      → library s answers ≡ counted (run (layoutOf (port .family)) machine (checked s) (identify standard port) (atStart word b) answers .outcome)
+      → library s answers ≡ counted (run (layoutOf (port .family)) machine (kindChecked s) (identify standard port) (atStart word b) answers .outcome)
   unfolding identifyRun
-  library-counts s answers = tally-run side alone alone-sees (layoutOf (port .family)) (checked s) (identify standard port) (atStart word b) answers
+  library-counts s answers = tally-run side alone alone-sees (layoutOf (port .family)) (kindChecked s) (identify standard port) (atStart word b) answers
 
   module _ (answers : List Answer) (s : Starts port b word) (m : Premises port b word answers) where
     -- whatever comes to the same as the Rust's run, and to its end
@@ -80,7 +80,7 @@ module _ (port : Port) (b : Bench) (word : ℕ) where
     unfolding Premises
     same =
         library-counts listed answers
-        ∙ ap (λ (r : BenchRun machine (R Identity)). counted (r .outcome)) (checked-run (layoutOf (port .family)) machine listed (identify standard port) (atStart word b) answers (all-fit (benchRun port (identify standard port) b word answers .trace) m))
+        ∙ ap (λ (r : BenchRun machine (R Identity)). counted (r .outcome)) (kind-checked-run (layoutOf (port .family)) machine listed (identify standard port) (atStart word b) answers (all-fit (benchRun port (identify standard port) b word answers .trace) m))
 
     -- Demand 3 of the library's `identify` on the bench, whenever it has come to its end
     pub demand-3-ended : Finished (library listed answers) → Demand3 port b word answers (library listed answers)
@@ -105,4 +105,4 @@ module _ (port : Port) (b : Bench) (word : ℕ) where
       as-prompt : library (fixed atOnce) [] ≡ counted (prompt port b word .outcome)
       as-prompt =
           library-counts (fixed atOnce) []
-          ∙ ap (λ (t : Source). counted (run (layoutOf (port .family)) machine t (identify standard port) (atStart word b) [] .outcome)) (fixed-checked atOnce at-once-fits)
+          ∙ ap (λ (t : Source). counted (run (layoutOf (port .family)) machine t (identify standard port) (atStart word b) [] .outcome)) (fixed-kind-checked atOnce at-once-fits)

@@ -62,21 +62,21 @@ module _ (l : Layout) (s : Source) {A : Type 0} (Q : A → World machine → Typ
   abbrev Goes : Prog A → World machine → List Answer → Type 0
   Goes p w answers = Always l machine p w Q → Each Premise (run l machine s p w answers .trace) → Sound l Q (run l machine s p w answers)
 
-  always-fed : (x : Access) (f : Answer → Prog A) (w : World machine) (g : Given) → ((a : Answer) (rest : List Answer) → Goes (f a) w rest)
+  always-proceed : (x : Access) (f : Answer → Prog A) (w : World machine) (g : Given) → ((a : Answer) (rest : List Answer) → Goes (f a) w rest)
       → ByKind staysIn x (λ a. Always l machine (f a) w Q) → Each Premise (proceed x w (λ a rest. run l machine s (f a) w rest) g .trace)
       → Sound l Q (proceed x w (λ a rest. run l machine s (f a) w rest) g)
   unfolding proceed Ending Premise Steady
-  always-fed x f w (given a rest) h k m =
+  always-proceed x f w (given a rest) h k m =
       let r = h a rest (works-kind x a (λ b. Always l machine (f b) w Q) k (m .0)) (m .1) in record { ending = r .ending; steady = (tt, r .steady) }
-  always-fed x f w nothing h k m = record { ending = tt; steady = tt }
-  always-fed x f w (refused n) h k m = record { ending = tt; steady = tt }
+  always-proceed x f w nothing h k m = record { ending = tt; steady = tt }
+  always-proceed x f w (refused n) h k m = record { ending = tt; steady = tt }
 
   always-at : (x : Access) (b : Bool) (f : Answer → Prog A) (w : World machine) (answers : List Answer) → modelled l x ≡ b
       → ((a : Answer) (w′ : World machine) (rest : List Answer) → Goes (f a) w′ rest) → Goes (ask x f) w answers
   unfolding run Always Answered pick Steady
   always-at x true f w answers e h k m =
       rw e (let r = h _ _ answers ((rw e at k) .1) ((rw e at m) .1) in record { ending = r .ending; steady = ((rw e at k) .0, r .steady) })
-  always-at x false f w answers e h k m = rw e (always-fed x f w (s x answers) (λ a rest. h a w rest) (rw e at k) (rw e at m))
+  always-at x false f w answers e h k m = rw e (always-proceed x f w (s x answers) (λ a rest. h a w rest) (rw e at k) (rw e at m))
 
   after-note : (n : Note) (r : BenchRun machine A) → Sound l Q r → Sound l Q (record { trace = noticed n ∷ r .trace; outcome = r .outcome })
   unfolding Steady
@@ -98,20 +98,20 @@ module _ (l : Layout) {A : Type 0} where
   abbrev Reaches : Prog A → World machine → List Answer → Type 0
   Reaches p w answers = Each Premise (run l machine listed p w answers .trace) → Finished (run l machine listed p w answers .outcome)
 
-  ends-fed : (x : Access) (f : Answer → Prog A) (n : ℕ) (w : World machine) (answers : List Answer)
+  ends-proceed : (x : Access) (f : Answer → Prog A) (n : ℕ) (w : World machine) (answers : List Answer)
       → ((a : Answer) (rest : List Answer) → T (fits x a) → n ≤ length rest → Reaches (f a) w rest) → suc n ≤ length answers
       → Each Premise (proceed x w (λ a rest. run l machine listed (f a) w rest) (listed x answers) .trace)
       → Finished (proceed x w (λ a rest. run l machine listed (f a) w rest) (listed x answers) .outcome)
   unfolding proceed listed Premise
-  ends-fed x f n w [] h b m = absurd (omega (arith, b))
-  ends-fed x f n w (a ∷ rest) h b m = h a rest (works-fits x a (m .0)) (omega (arith, b)) (m .1)
+  ends-proceed x f n w [] h b m = absurd (omega (arith, b))
+  ends-proceed x f n w (a ∷ rest) h b m = h a rest (works-fits x a (m .0)) (omega (arith, b)) (m .1)
 
   ends-at : (x : Access) (b : Bool) (f : Answer → Prog A) (n : ℕ) (w : World machine) (answers : List Answer) → modelled l x ≡ b
       → ((a : Answer) (w′ : World machine) (rest : List Answer) → T (fits x a) → n ≤ length rest → Reaches (f a) w′ rest) → suc n ≤ length answers
       → Reaches (ask x f) w answers
   unfolding run pick
   ends-at x true f n w answers e h b m = rw e (h _ _ answers (reply-fits l machine x w) (omega (arith, b)) ((rw e at m) .1))
-  ends-at x false f n w answers e h b m = rw e (ends-fed x f n w answers (λ a rest. h a w rest) b (rw e at m))
+  ends-at x false f n w answers e h b m = rw e (ends-proceed x f n w answers (λ a rest. h a w rest) b (rw e at m))
 
   pub ends-run : (p : Prog A) (n : ℕ) → Ends p n → (w : World machine) (answers : List Answer) → n ≤ length answers → Reaches p w answers
   unfolding Ends run Finished
@@ -171,12 +171,12 @@ module _ (o : Side) (see : CountedBench → o .State) (same : Sees o see) where
     abbrev Tells : Prog A → World machine → List Answer → Type 0
     Tells p w answers = run l o s (tally (w .other .meter) p) (seen w) answers .outcome ≡ told (run l machine s p w answers .outcome)
 
-    tally-fed : (x : Access) (f : Answer → Prog A) (w : World machine) (g : Given) → ((a : Answer) (rest : List Answer) → Tells (f a) w rest)
+    tally-proceed : (x : Access) (f : Answer → Prog A) (w : World machine) (g : Given) → ((a : Answer) (rest : List Answer) → Tells (f a) w rest)
         → proceed x (seen w) (λ a rest. run l o s (tally (w .other .meter) (f a)) (seen w) rest) g .outcome ≡ told (proceed x w (λ a rest. run l machine s (f a) w rest) g .outcome)
     unfolding proceed told
-    tally-fed x f w (given a rest) h = h a rest
-    tally-fed x f w nothing h = refl
-    tally-fed x f w (refused n) h = refl
+    tally-proceed x f w (given a rest) h = h a rest
+    tally-proceed x f w nothing h = refl
+    tally-proceed x f w (refused n) h = refl
 
     tally-at : (x : Access) (b : Bool) (f : Answer → Prog A) (w : World machine) (answers : List Answer) → modelled l x ≡ b
         → ((a : Answer) (w′ : World machine) (rest : List Answer) → Tells (f a) w′ rest) → Tells (ask x f) w answers
@@ -184,7 +184,7 @@ module _ (o : Side) (see : CountedBench → o .State) (same : Sees o see) where
     tally-at x true f w answers e h =
         rw (e, reply-seen l x w, after-seen l x w)
         (ap (λ n. run l o s (tally n (f (reply l machine x w))) (seen (after l machine x w)) answers .outcome) (sym (after-meter l x w)) ∙ h _ _ answers)
-    tally-at x false f w answers e h = rw e (tally-fed x f w (s x answers) (λ a rest. h a w rest))
+    tally-at x false f w answers e h = rw e (tally-proceed x f w (s x answers) (λ a rest. h a w rest))
 
     pub tally-run : (p : Prog A) (w : World machine) (answers : List Answer) → Tells p w answers
     unfolding tally run told

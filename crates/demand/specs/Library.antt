@@ -10,7 +10,7 @@ use Rattle.hardware.specs.Prog.{R, Counted, tally, blank}
 use Rattle.bus.specs.declared.Layout.{Layout}
 use Rattle.bus.specs.Layout.{layoutOf}
 use Rattle.wire.specs.Machine.{World}
-use Rattle.wire.specs.Run.{Source, checked, BenchOutcome, ended, short, stopped, run}
+use Rattle.wire.specs.Run.{Source, kindChecked, BenchOutcome, ended, short, stopped, run}
 use Rattle.bench.specs.declared.Bench.{Bench}
 use Rattle.bench.specs.Register.{side}
 use Rattle.sfp.specs.declared.Identity.{Identity}
@@ -20,7 +20,7 @@ use Rattle.demand.specs.Claim.{machine, benchRun, Claimed, Premises}
 -- what the opening promises, run on the bench; a refused opening alters nothing
 unfoldable pub identifyRun : Source → Asked Port → World side → List Answer → BenchOutcome side (Counted (R Identity))
 identifyRun s (no n) w answers = stopped n w
-identifyRun s (yes port) w answers = run (layoutOf (port .family)) side (checked s) (tally blank (identify standard port)) w answers .outcome
+identifyRun s (yes port) w answers = run (layoutOf (port .family)) side (kindChecked s) (tally blank (identify standard port)) w answers .outcome
 
 -- the count of transfers is the result's alone
 abbrev pub forget : World machine → World side

@@ -24,7 +24,7 @@ use Rattle.hostif.specs.declared.calls.TokenTold.{TokenTold}
 use Rattle.hostif.specs.declared.calls.TokenTold.the-variants.{Ask as TokenAsk, End as TokenEnd, Refused as TokenRefused}
 use Rattle.hostif.specs.Hostif.{Left, command, restCommand, token, restToken}
 use Rattle.hostif.specs.Calls.{goes, lent, blockFits, openCommand, stepped, stepCommand, saidCommand, standsCommand, openToken, stepToken, saidToken, standsToken, followsToken, CommandAt, asked, saidAt, followsCommand, followsBlock}
-use Rattle.hostif.proofs.Ends.{COMMAND-STEPS, command-ends, TOKEN-STEPS, token-ends, tokenAfter, token-rest-ends}
+use Rattle.hostif.proofs.Ends.{COMMAND-STEPS, command-ends, TOKEN-STEPS, token-ends, tokenAfter, token-rest-ends, commandAfter, command-rest-ends}
 use Rattle.hardware.specs.Promise.{Keeps}
 use Rattle.hardware.proofs.Prog.{run-erase}
 
@@ -94,6 +94,16 @@ command-driven family device lan block t k ks kept w =
         opened-runs saidAt followsCommand standsAt command-on (record { told = t; block = block }) ks (record { yields = ap asked (k .yields); limits = (k .limits, e) }) kept w
     by false e =
         refused-runs saidAt (record { told = t; block = block }) ks (subst (λ q. Refuses (asked q)) (sym (k .yields)) (command-refuses block (openPort family device lan) (blockFits block) e))
+
+-- from any state that passes question 10, whoever made it, the call takes at most so many steps more, with a block that only
+-- the steps alter
+pub command-lasts : (x : Access) (port : Port) (s : Command) (block : List ℕ) (ks : List (Step CommandAt)) → standsCommand (CommandAsk x (CommandGoing port s)) block → blockFits block ≡ true
+    → Kept followsCommand (record { told = CommandAsk x (CommandGoing port s); block = block }) ks
+    → AwaitedIn (saidAt (record { told = CommandAsk x (CommandGoing port s); block = block })) (answersOf ks) → length ks ≤ suc (commandAfter (length block) s)
+unfolding saidCommand asked IfYes
+command-lasts x port s block ks h f k w =
+    steps-few saidAt followsCommand standsAt command-on (record { told = CommandAsk x (CommandGoing port s); block = block }) ks (suc (commandAfter (length block) s)) (h, f) k w
+    (ask-ends x _ (commandAfter (length block) s) (λ a. ends-erase _ _ (command-rest-ends port s block a)))
 
 pub token-runs : (family device lan : ℕ) (take : Bool) (r : TokenTold) → saidToken r ≡ openToken family device lan take → (l : List Answer)
     → runAsked (saidToken r) l ≡ andThen (openPort family device lan) (λ port. yes (run (token port take) l))

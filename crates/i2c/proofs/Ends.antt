@@ -11,21 +11,32 @@ use Rattle.hardware.specs.declared.Port.{Port}
 use Rattle.hardware.specs.Prog.{Prog, R, Ok, pick}
 use Rattle.hardware.specs.Change.{change}
 use Rattle.hardware.specs.Runs.{Ends}
-use Rattle.hardware.proofs.Ends.{ends-more, ends-bind, ends-try, ends-pick, ret-ends, note-ends, read-ends, delay-ends, change-ends}
+use Rattle.hardware.proofs.Ends.{ends-more, ends-bind, ends-try, ends-pick, ret-ends, note-ends, read-ends, delay-ends, change-ends, ends-or, updateAfter, update-rest-ends}
 use Rattle.sync.specs.Regs.{tries}
-use Rattle.sync.proofs.Ends.{ACQUIRE-BITS-STEPS, RELEASE-BITS-STEPS, acquire-bits-ends, release-bits-ends}
+use Rattle.sync.proofs.Ends.{ACQUIRE-BITS-STEPS, RELEASE-BITS-STEPS, acquire-bits-ends, release-bits-ends, acquireBitsAfter, releaseBitsAfter, acquire-bits-rest-ends, release-bits-rest-ends}
 use Rattle.hostif.specs.Acquire.{hwOf, withBits, acquiredAll, acquire, giveBits, release}
 use Rattle.bus.specs.declared.Layout.{Layout}
 use Rattle.bus.specs.declared.Taken.{Taken}
 use Rattle.bus.specs.Layout.{layoutOf}
 use Rattle.bus.proofs.Ends.{EndsBus, bus-more, done-ends, START-STEPS, SEND-STEPS, IN-BYTE-STEPS, OUT-BIT-STEPS, STOP-STEPS, start-ends, send-ends, in-byte-ends, out-bit-ends, stop-ends}
-use Rattle.transfer.proofs.Ends.{ATTEMPT-STEPS, attempt-ends}
+use Rattle.transfer.proofs.Ends.{ATTEMPT-STEPS, attempt-ends, attemptAfter, attempt-rest-ends}
 use Rattle.i2c.specs.declared.How.{How}
 use Rattle.i2c.specs.declared.once.Request.{Request}
 use Rattle.i2c.specs.declared.once.Request.the-variants.{ReadByte, WriteByte, ReadCombined, WriteCombined}
-use Rattle.i2c.specs.I2c.{mask, isWrite, deviceOf, body, givesValue, once, whenLock, readJudged, readTries, writeTries, givenUp, writes, retried, granting, granted, givenBus, onGrant, withBus, handshaken, transferred, setupBus}
+use Rattle.i2c.specs.I2c.{mask, isWrite, deviceOf, body, givesValue, once, whenLock, readJudged, readTries, writeTries, givenUp, writes, retried, granting, granted, givenBus, onGrant, withBus, handshaken, transferred, setupBus, scriptOf}
 use Rattle.i2c.specs.Calls.{triesOf}
 use Rattle.i2c.proofs.Masks.{mask-plain}
+use lib.ListN.{length}
+use Rattle.hardware.specs.declared.Answer.{Answer}
+use Rattle.transfer.specs.Transfer.{keeping}
+use Rattle.script.specs.Scripts.{readByteScript, writeByteScript, readCombinedScript, writeCombinedScript}
+use Rattle.i2c.specs.declared.retry.Stage.{Stage}
+use Rattle.i2c.specs.declared.retry.Stage.the-variants.{Acquiring, Trying, Releasing, Pausing}
+use Rattle.i2c.specs.declared.retry.Retry.{Retry}
+use Rattle.i2c.specs.declared.handshake.Handshake.{Handshake}
+use Rattle.i2c.specs.declared.handshake.Handshake.the-variants.{Asking, Granting, Waiting, Inside, Giving}
+use Rattle.i2c.specs.Retry.{backThen, afterRelease, afterRead, afterWrite, afterTry, tryNow, lockedTry, triesLeft, restStage, restRetry}
+use Rattle.i2c.specs.Handshake.{closing, onGranted, awaitingGrant, lookedAt, restHandshake, valued, restRequest}
 
 -- a byte read, and the acknowledgement or none behind it
 abbrev pub TAKE-STEPS : ℕ
@@ -290,3 +301,111 @@ transferred-ends port r how n =
 -- `qsfp_setup` is one change
 pub setup-ends : Ends (change setupBus) 3
 setup-ends = change-ends setupBus
+
+-- the answers that each machine may still need after the one it awaits
+
+-- behind an attempt, with so many left
+abbrev pub triedAfter : Family → Request → Bool → ℕ → ℕ
+triedAfter family r lock left = GIVING-STEPS lock + (1 + left * READ-STEPS family r lock)
+
+abbrev pub stageAfter : Family → Request → Bool → ℕ → Stage → ℕ
+stageAfter family r lock left (Acquiring s) = acquireBitsAfter s + (ONCE-STEPS r + triedAfter family r lock left)
+stageAfter family r lock left (Trying s) = attemptAfter s + triedAfter family r lock left
+stageAfter family r lock left (Releasing g s) = releaseBitsAfter s + (1 + left * READ-STEPS family r lock)
+stageAfter family r lock left Pausing = left * READ-STEPS family r lock
+
+abbrev pub retryAfter : Family → Request → Bool → Retry → ℕ
+retryAfter family r lock t = stageAfter family r lock (t .left) (t .stage)
+
+-- the attempts, and the request for the bus taken back
+abbrev pub grantedAfter : Family → Request → Bool → ℕ → ℕ
+grantedAfter family r lock tries = RETRIED-STEPS family r lock tries + 3
+
+abbrev pub handshakeAfter : Family → Request → Bool → Handshake → ℕ
+handshakeAfter family r lock (Asking tries u) = updateAfter u + (2 * 200 + grantedAfter family r lock tries)
+handshakeAfter family r lock (Granting tries left) = 1 + 2 * left + grantedAfter family r lock tries
+handshakeAfter family r lock (Waiting tries left) = 2 * left + grantedAfter family r lock tries
+handshakeAfter family r lock (Inside t) = retryAfter family r lock t + 3
+handshakeAfter family r lock (Giving g u) = updateAfter u
+
+after-read-ends : (port : Port) (r : Request) (how : How) (left : ℕ) (result : R Taken) → Ends (afterRead port r how left result) (triedAfter (port .family) r (how .lock) left)
+unfolding afterRead backThen
+after-read-ends port r how left result =
+    given-ends port (how .lock) _ (1 + left * READ-STEPS (port .family) r (how .lock)) (judged-ends r (how .lock) _ (left * READ-STEPS (port .family) r (how .lock)) (read-tries-ends port r how left) result)
+
+-- a write's attempt takes no longer than a read's
+once-less : (n o s g : ℕ) → o ≤ s → n * o + g ≤ g + (1 + n * s)
+once-less zero o s g h = omega arith
+once-less (suc n) o s g h = rw suc-mul (omega (arith, once-less n o s g h))
+
+after-write-ends : (port : Port) (r : Request) (how : How) (left : ℕ) (result : R Taken) → Ends (afterWrite port r how left result) (triedAfter (port .family) r (how .lock) left)
+unfolding afterWrite givenUp
+after-write-ends port r how left result =
+    ends-more _ (left * ONCE-STEPS r + GIVING-STEPS (how .lock)) (triedAfter (port .family) r (how .lock) left)
+    (ends-bind _ _ (left * ONCE-STEPS r) (GIVING-STEPS (how .lock)) (ends-pick _ _ _ (left * ONCE-STEPS r) (write-tries-ends port r how left result) (ret-ends _ _))
+    (λ v. ends-more _ (GIVING-STEPS (how .lock) + 0) (GIVING-STEPS (how .lock)) (given-ends port (how .lock) _ 0 (ret-ends _ 0)) (omega arith)))
+    (once-less left (ONCE-STEPS r) (READ-STEPS (port .family) r (how .lock)) (GIVING-STEPS (how .lock)) (omega arith))
+
+after-try-ends : (port : Port) (r : Request) (how : How) (left : ℕ) (result : R Taken) → Ends (afterTry port r how left result) (triedAfter (port .family) r (how .lock) left)
+unfolding afterTry
+after-try-ends port r how left result = ends-pick _ _ _ _ (after-write-ends port r how left result) (after-read-ends port r how left result)
+
+try-now-ends : (port : Port) (r : Request) (how : How) (left : ℕ) → Ends (tryNow port r how left) (ONCE-STEPS r + triedAfter (port .family) r (how .lock) left)
+unfolding tryNow
+try-now-ends port r how left = ends-bind _ _ (ONCE-STEPS r) _ (once-ends port r how) (after-try-ends port r how left)
+
+tries-left-ends : (port : Port) (r : Request) (how : How) (left : ℕ) → Ends (triesLeft port r how left) (left * READ-STEPS (port .family) r (how .lock))
+unfolding triesLeft lockedTry
+tries-left-ends port r how zero = ret-ends _ _
+tries-left-ends port r how (suc left) =
+    ends-more _ (TAKING-STEPS (port .family) (how .lock) + (ONCE-STEPS r + triedAfter (port .family) r (how .lock) left)) (suc left * READ-STEPS (port .family) r (how .lock))
+    (taken-ends port (how .lock) _ _ (try-now-ends port r how left))
+    (one-more left (TAKING-STEPS (port .family) (how .lock)) (ONCE-STEPS r) (GIVING-STEPS (how .lock)) (READ-STEPS (port .family) r (how .lock)) refl)
+
+script-few : (r : Request) → length (scriptOf r) ≤ 64
+unfolding scriptOf readByteScript writeByteScript readCombinedScript writeCombinedScript
+script-few (ReadByte d o) = omega arith
+script-few (WriteByte d o v) = omega arith
+script-few (ReadCombined d reg) = omega arith
+script-few (WriteCombined d reg v) = omega arith
+
+retry-rest-ends : (port : Port) (r : Request) (how : How) (t : Retry) (a : Answer) → Ends (restRetry port r how t a) (retryAfter (port .family) r (how .lock) t)
+unfolding restRetry restStage afterRelease
+retry-rest-ends port r how t a = by (t .left) (t .stage)
+  where
+    by : (left : ℕ) (s : Stage) → Ends (restStage port r how left s a) (stageAfter (port .family) r (how .lock) left s)
+    by left (Acquiring s) = ends-try _ _ (acquireBitsAfter s) _ (acquire-bits-rest-ends port (mask port) s a) (λ _. try-now-ends port r how left)
+    by left (Trying s) =
+        ends-bind _ _ (attemptAfter s) _ (attempt-rest-ends keeping (how .sequence) (layoutOf (port .family)) (deviceOf r) (scriptOf r) s a (script-few r)) (after-try-ends port r how left)
+    by left (Releasing g s) =
+        ends-try _ _ (releaseBitsAfter s) _ (release-bits-rest-ends port (mask port) s a)
+        (λ _. ends-pick _ _ _ _ (ret-ends _ _) (judged-ends r (how .lock) _ (left * READ-STEPS (port .family) r (how .lock)) (read-tries-ends port r how left) _))
+    by left Pausing = tries-left-ends port r how left
+
+closing-ends : (port : Port) (r : Request) (result : R Taken) → Ends (closing port r result) 3
+unfolding closing givenBus
+closing-ends port r result = ends-pick _ _ _ 3 (ends-try _ _ 3 0 (change-ends _) (λ _. ret-ends _ 0)) (ret-ends _ 3)
+
+on-granted-ends : (port : Port) (r : Request) (how : How) (tries : ℕ) (came : Bool) → Ends (onGranted port r how tries came) (grantedAfter (port .family) r (how .lock) tries)
+unfolding onGranted
+on-granted-ends port r how tries came =
+    ends-bind _ _ (RETRIED-STEPS (port .family) r (how .lock) tries) 3 (ends-pick _ _ _ _ (retried-ends port r how tries) (ret-ends _ _)) (closing-ends port r)
+
+pub handshake-rest-ends : (port : Port) (r : Request) (how : How) (s : Handshake) (a : Answer) → Ends (restHandshake port r how s a) (handshakeAfter (port .family) r (how .lock) s)
+unfolding restHandshake awaitingGrant lookedAt granting
+handshake-rest-ends port r how (Asking tries u) a =
+    ends-try _ _ (updateAfter u) _ (update-rest-ends _ u a) (λ _. ends-try _ _ (2 * 200) _ (granted-ends 200) (on-granted-ends port r how tries))
+handshake-rest-ends port r how (Granting tries left) a =
+    ends-try _ _ (1 + 2 * left) _
+    (ends-or _ _ (1 + 2 * left) (λ v. ends-pick _ _ _ (1 + 2 * left) (ends-try _ _ 1 (2 * left) (delay-ends _) (λ _. granted-ends left)) (ret-ends _ _)))
+    (on-granted-ends port r how tries)
+handshake-rest-ends port r how (Waiting tries left) a = ends-try _ _ (2 * left) _ (granted-ends left) (on-granted-ends port r how tries)
+handshake-rest-ends port r how (Inside t) a = ends-bind _ _ (retryAfter (port .family) r (how .lock) t) 3 (retry-rest-ends port r how t a) (closing-ends port r)
+handshake-rest-ends port r how (Giving g u) a =
+    ends-more _ (updateAfter u + 0) (updateAfter u) (ends-try _ _ (updateAfter u) 0 (update-rest-ends _ u a) (λ _. ret-ends _ 0)) (omega arith)
+
+-- a request, and what a call makes of its value
+pub request-rest-ends : {A : Type 0} (port : Port) (r : Request) (how : How) (f : R ℕ → Prog A) (n : ℕ) → ((v : R ℕ) → Ends (f v) n) → (s : Handshake) (a : Answer)
+    → Ends (restRequest port r how f s a) (handshakeAfter (port .family) r (how .lock) s + n)
+unfolding restRequest valued
+request-rest-ends port r how f n e s a = ends-bind _ _ (handshakeAfter (port .family) r (how .lock) s) n (handshake-rest-ends port r how s a) (λ v. e _)

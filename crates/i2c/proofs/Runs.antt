@@ -2,7 +2,7 @@
 -- without, and every list of answers the library's run is the Rust's, the count of the attempts in it beside the result,
 -- and every list of answers of the awaited kinds that is long enough brings it to its end. A state that was handed out is
 -- not refused at its next step.
-use Prim.Native.Nat.{ℕ, _≤_, suc}
+use Prim.Native.Nat.{ℕ, _≤_, suc, _+_}
 use mathlib.Core.Path.{_≡_, refl, ap, _∙_}
 use mathlib.Core.Bool.{Bool, true, false}
 use mathlib.Core.List.{List}
@@ -17,23 +17,24 @@ use Rattle.hardware.specs.Prog.{Prog, R, blank, tally, erase}
 use Rattle.hardware.specs.Change.{change, restUpdate}
 use Rattle.hardware.specs.Runs.{run, runAsked, Awaited, ended, meterIn, countedStatus, counted, AwaitedIn, after, afterAsked, Step, answersOf, Kept, driven, Asks, IfYes}
 use Rattle.hardware.proofs.Laws.{run-tally, is-true, StepsOn, opened-runs, steps-few}
-use Rattle.hardware.proofs.Ends.{run-ends, ask-ends, ends-erase, updateAfter, update-rest-ends}
+use Rattle.hardware.proofs.Ends.{run-ends, ask-ends, ends-erase, updateAfter, update-rest-ends, ends-tally, ends-more, ends-bind, ret-ends}
 use Rattle.i2c.specs.declared.How.{How}
 use Rattle.i2c.specs.declared.once.Request.{Request}
 use Rattle.i2c.specs.declared.handshake.Handshake.{Handshake}
 use Rattle.i2c.specs.declared.calls.TransferCall.the-variants.{Going, Over}
 use Rattle.i2c.specs.declared.calls.TransferTold.{TransferTold}
 use Rattle.i2c.specs.declared.calls.TransferTold.the-variants.{Ask, End, Refused}
-use Rattle.i2c.specs.I2c.{transferred, setupBus}
+use Rattle.i2c.specs.I2c.{transferred, setupBus, givesValue}
 use Rattle.i2c.specs.Calls.{triesOf, evenDevice, openTransfer, restCall, stepTransfer, saidTransfer, standsTransfer, followsTransfer, stepSetup, saidSetup, standsSetup, followsSetup}
 use Rattle.i2c.proofs.Laws.{upto}
-use Rattle.i2c.proofs.Ends.{TRANSFER-STEPS, transferred-ends, MOST-STEPS, transfer-most, setup-ends}
+use Rattle.i2c.proofs.Ends.{TRANSFER-STEPS, transferred-ends, MOST-STEPS, transfer-most, setup-ends, handshakeAfter, handshake-rest-ends}
 use Rattle.hardware.specs.Promise.{Keeps}
 use Rattle.hardware.specs.declared.Update.{Update}
 use Rattle.hardware.proofs.Prog.{run-erase}
 use Rattle.i2c.specs.declared.calls.SetupCall.the-variants.{Going as SetupGoing, Over as SetupOver}
 use Rattle.i2c.specs.declared.calls.SetupTold.{SetupTold}
 use Rattle.i2c.specs.declared.calls.SetupTold.the-variants.{Ask as SetupAsk, End as SetupEnd, Refused as SetupRefused}
+use native.Mathlib.Omega.{arith}
 
 -- an opening's questions and then the run
 asked-runs : (o : Asked Port) (e f : Bool) (p : Port → Prog (R ℕ)) (l : List Answer)
@@ -126,3 +127,12 @@ pub setup-lasts : (x : Access) (s : Update) (ks : List (Step SetupTold)) → sta
 unfolding saidSetup IfYes
 setup-lasts x s ks h k w =
     steps-few saidSetup followsSetup standsSetup setup-on (SetupAsk x (SetupGoing s)) ks (suc (updateAfter s)) h k w (ask-ends x _ (updateAfter s) (λ a. ends-erase _ _ (update-rest-ends setupBus s a)))
+
+pub transfer-lasts : (x : Access) (port : Port) (r : Request) (how : How) (m : Meter) (s : Handshake) (ks : List (Step TransferTold)) → standsTransfer (Ask x (Going port r how m s))
+    → Kept followsTransfer (Ask x (Going port r how m s)) ks → AwaitedIn (saidTransfer (Ask x (Going port r how m s))) (answersOf ks) → length ks ≤ suc (handshakeAfter (port .family) r (how .lock) s)
+unfolding saidTransfer restCall givesValue IfYes
+transfer-lasts x port r how m s ks h k w =
+    steps-few saidTransfer followsTransfer standsTransfer transfer-on (Ask x (Going port r how m s)) ks (suc (handshakeAfter (port .family) r (how .lock) s)) h k w
+    (ask-ends x _ (handshakeAfter (port .family) r (how .lock) s)
+    (λ a. ends-tally m _ _ (ends-more _ (handshakeAfter (port .family) r (how .lock) s + 0) (handshakeAfter (port .family) r (how .lock) s)
+    (ends-bind _ _ (handshakeAfter (port .family) r (how .lock) s) 0 (handshake-rest-ends port r how s a) (λ v. ret-ends _ 0)) (omega arith))))

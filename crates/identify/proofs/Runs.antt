@@ -13,8 +13,8 @@ use Rattle.hardware.specs.declared.Port.{Port}
 use Rattle.hardware.specs.Asked.{yes, andThen, question, openPort, fits, admitting}
 use Rattle.hardware.specs.Prog.{Prog, R, Ok, Err, blank, tally}
 use Rattle.hardware.specs.Runs.{run, runAsked, Awaited, AwaitedIn, driven, ended, meterIn, counted, after, afterAsked, Step, answersOf, Kept, Asks, IfYes}
-use Rattle.hardware.proofs.Laws.{asked-runs, StepsOn, is-true, opened-runs}
-use Rattle.hardware.proofs.Ends.{run-ends}
+use Rattle.hardware.proofs.Laws.{asked-runs, StepsOn, is-true, opened-runs, steps-few}
+use Rattle.hardware.proofs.Ends.{run-ends, ask-ends, ends-tally}
 use Rattle.i2c.specs.declared.once.Request.the-variants.{ReadByte}
 use Rattle.transfer.specs.declared.attempt.Sequence.{Sequence}
 use Rattle.i2c.specs.I2c.{standard, locked}
@@ -36,6 +36,7 @@ use Rattle.identify.specs.declared.calls.IdentifyTold.the-variants.{Ask,
 use Rattle.identify.specs.Walk.{restIdentify}
 use Rattle.identify.specs.Calls.{openIdentify, openQsfp, stepIdentify, saidIdentify, standsIdentify, followsIdentify}
 use Rattle.hardware.specs.Promise.{Keeps}
+use Rattle.identify.proofs.Ends.{identifyAfter, identify-rest-ends}
 
 pub identify-runs : (family device lan : ℕ) (t : IdentifyTold) → saidIdentify t ≡ openIdentify family device lan → (l : List Answer)
     → runAsked (saidIdentify t) l ≡ andThen (openPort family device lan) (λ port. yes (counted (meterIn blank (identify standard port) l) (run (identify standard port) l)))
@@ -126,3 +127,11 @@ qsfp-paired q port l =
     (byte-pairs q port 0x82 _ _ (λ a. pairs-pick false _ _ _ _ (byte-pairs q port 0x92 _ _ (λ b. pairs-pick false _ _ _ _
     (byte-pairs q port 0x93 _ _ (λ c. pairs-pick false _ _ _ _ (pairs-ret false _) (pairs-ret false _))) (pairs-ret false _))) (pairs-ret false _))))))))
     (pairs-ret false _)))
+
+-- from any state that passes question 10, whoever made it, the call takes at most so many steps more
+pub identify-lasts : (x : Access) (port : Port) (q : Sequence) (m : Meter) (s : Identify) (ks : List (Step IdentifyTold)) → standsIdentify (Ask x (Going port q m s))
+    → Kept followsIdentify (Ask x (Going port q m s)) ks → AwaitedIn (saidIdentify (Ask x (Going port q m s))) (answersOf ks) → length ks ≤ suc (identifyAfter (port .family) s)
+unfolding saidIdentify IfYes
+identify-lasts x port q m s ks h k w =
+    steps-few saidIdentify followsIdentify standsIdentify identify-on (Ask x (Going port q m s)) ks (suc (identifyAfter (port .family) s)) h k w
+    (ask-ends x _ (identifyAfter (port .family) s) (λ a. ends-tally m _ _ (identify-rest-ends q port s a)))

@@ -28,7 +28,7 @@ use Rattle.bus.specs.declared.Layout.{Layout}
 use Rattle.bus.specs.Layout.{layoutOf}
 use Rattle.wire.specs.Lines.{ready}
 use Rattle.wire.specs.Machine.{World, modelled, reply, after}
-use Rattle.wire.specs.Run.{Given as Gives, given, refused, Source, listed, fixed, kindAsked, checked, Finished, BenchRun, proceed, run, runAsked}
+use Rattle.wire.specs.Run.{Given as Gives, given, refused, Source, listed, fixed, kindAsked, kindChecked, Finished, BenchRun, proceed, run, runAsked}
 use Rattle.wire.proofs.Run.{run-own, run-other, reply-fits}
 use Rattle.bench.specs.declared.register.BenchState.{BenchState}
 use Rattle.bench.specs.declared.register.Reply.{Reply}
@@ -132,7 +132,7 @@ module _ (l : Layout) (o : Origin) (ns : List ℕ) where
   left = leftOf l o ns
 
   abbrev source : Source
-  source = checked (sourceOf o)
+  source = kindChecked (sourceOf o)
 
   settles : (s : Progress) → Settled (s .told) → Final left s
   unfolding leftOf Final
@@ -186,10 +186,10 @@ module _ (l : Layout) (o : Origin) (ns : List ℕ) where
       taken a rest true = refl
       taken a rest false = refl
 
-      fed-by : (n : Next) → nextOf ns n ≡ sourceOf o x lent → r .here ≡ false
+      proceed-by : (n : Next) → nextOf ns n ≡ sourceOf o x lent → r .here ≡ false
           → run l side source (ask x (restOf c)) (world d) lent .outcome
           ≡ proceed x (world d) (λ e t. run l side source (restOf c e) (world d) t) (kindAsked x (nextOf ns n)) .outcome
-      fed-by n en h =
+      proceed-by n en h =
           ap (λ (q : BenchRun side (Counted (R Identity))). q .outcome) (run-other l side source x (restOf c) (world d) lent (reply-other l x d (modelled l x) refl (here-is false h)))
           ∙ ap (λ (g : Gives). proceed x (world d) (λ e t. run l side source (restOf c e) (world d) t) (kindAsked x g) .outcome) (sym en)
 
@@ -198,7 +198,7 @@ module _ (l : Layout) (o : Origin) (ns : List ℕ) where
           → Advances left from (record { told = t; state = d; used = used′; over = false })
       unfolding nextOf kindAsked
       visit-given n t a used′ e en h said stands =
-          stepped t a d used′ said stands (λ _. taken a (decodedAll (drop used′ ns)) (fits x a) ∙ sym (fed-by (Given a used′) (ap (nextOf ns) (sym e) ∙ en) h))
+          stepped t a d used′ said stands (λ _. taken a (decodedAll (drop used′ ns)) (fits x a) ∙ sym (proceed-by (Given a used′) (ap (nextOf ns) (sym e) ∙ en) h))
 
       -- none is left
       pub visit-none : (n : Next) → n ≡ Nothing → nextOf ns n ≡ sourceOf o x lent → r .here ≡ false
@@ -209,7 +209,7 @@ module _ (l : Layout) (o : Origin) (ns : List ℕ) where
             same = refl;
             stands = st;
             less = λ z. absurd (false≢true (sym z));
-            final = λ _. ap (λ q. runAsked l side source q (world d) lent) (said-ask x c st) ∙ fed-by Nothing (ap (nextOf ns) (sym e) ∙ en) h;
+            final = λ _. ap (λ q. runAsked l side source q (world d) lent) (said-ask x c st) ∙ proceed-by Nothing (ap (nextOf ns) (sym e) ∙ en) h;
           }
 
   -- by what was told
@@ -308,7 +308,7 @@ module _ (family device lan : ℕ) (d : BenchState) where
     opened g p t r e h said st played =
         let y : yes p ≡ openPort family device lan = ap portOpened (sym e) ∙ h in
         played st (subst⁻¹ (λ q. Bounded q 1600450488) (opened-said p t y said) (enough p))
-        ∙ ap (λ q. runAsked (layoutOf (p .family)) side (checked (sourceOf o)) q (world d) (decodedAll ns)) (opened-said p t y said)
+        ∙ ap (λ q. runAsked (layoutOf (p .family)) side (kindChecked (sourceOf o)) q (world d) (decodedAll ns)) (opened-said p t y said)
         ∙ ap (λ q. identifyRun (sourceOf o) q (world d) (decodedAll ns)) y
 
     pub unopened : (g : Opening) (q : Refusal) → g ≡ Unopened q → portOpened g ≡ openPort family device lan

@@ -10,7 +10,7 @@ use Rattle.hardware.specs.declared.Port.{Port}
 use Rattle.hardware.specs.Asked.{yes, andThen, openPort}
 use Rattle.hardware.specs.Prog.{R, Counted, tally, blank}
 use Rattle.bus.specs.Layout.{layoutOf}
-use Rattle.wire.specs.Run.{listed, checked, BenchOutcome, Finished, runAsked}
+use Rattle.wire.specs.Run.{listed, kindChecked, BenchOutcome, Finished, runAsked}
 use Rattle.bench.specs.declared.Bench.{Bench}
 use Rattle.bench.specs.Register.{side}
 use Rattle.sfp.specs.declared.Identity.{Identity}
@@ -26,12 +26,12 @@ module _ (family device lan : ℕ) (t : IdentifyTold) (promised : saidIdentify t
     (port : Port) (opened : yes port ≡ openPort family device lan) (b : Bench) (word : ℕ) (answers : List Answer) where
   -- what was told, run on the bench
   abbrev pub run : BenchOutcome side (Counted (R Identity))
-  run = runAsked (layoutOf (port .family)) side (checked listed) (saidIdentify t) (record { word = word; other = b }) answers
+  run = runAsked (layoutOf (port .family)) side (kindChecked listed) (saidIdentify t) (record { word = word; other = b }) answers
 
   plain : run ≡ identifyRun listed (yes port) (record { word = word; other = b }) answers
   unfolding openIdentify andThen runAsked identifyRun
   plain =
-      ap (λ s. runAsked (layoutOf (port .family)) side (checked listed) s (record { word = word; other = b }) answers)
+      ap (λ s. runAsked (layoutOf (port .family)) side (kindChecked listed) s (record { word = word; other = b }) answers)
       (promised ∙ ap (λ o. andThen o (λ p. yes (tally blank (identify standard p)))) (sym opened))
 
   -- for every list that meets the premises and on which the call comes to its end, as it does on every one that is long enough

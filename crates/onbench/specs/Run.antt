@@ -13,7 +13,7 @@ use Rattle.hardware.specs.Prog.{Prog, R, pick, Counted}
 use Rattle.hardware.specs.Runs.{Ends}
 use Rattle.bus.specs.declared.Layout.{Layout}
 use Rattle.wire.specs.Machine.{World}
-use Rattle.wire.specs.Run.{Given as Gives, given, nothing, Source, listed, fixed, checked, BenchOutcome, ended, short, stopped, runAsked}
+use Rattle.wire.specs.Run.{Given as Gives, given, nothing, Source, listed, fixed, kindChecked, BenchOutcome, ended, short, stopped, runAsked}
 use Rattle.bench.specs.AtOnce.{atOnce}
 use Rattle.bench.specs.Register.{side, world}
 use Rattle.sfp.specs.declared.Identity.{Identity}
@@ -60,7 +60,7 @@ outcomeOf r = endingOf (r .ending) (world (r .state))
 
 -- what the call comes to from here
 unfoldable pub leftOf : Layout → Origin → List ℕ → Progress → IdentifyOutcome
-leftOf l o ns s = runAsked l side (checked (sourceOf o)) (saidIdentify (s .told)) (world (s .state)) (decodedAll (drop (s .used) ns))
+leftOf l o ns s = runAsked l side (kindChecked (sourceOf o)) (saidIdentify (s .told)) (world (s .state)) (decodedAll (drop (s .used) ns))
 
 -- n more accesses are enough
 unfoldable pub Bounded : {A : Type 0} → Asked (Prog A) → ℕ → Type 0

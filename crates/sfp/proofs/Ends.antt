@@ -44,7 +44,7 @@ pub qsfp-steps : (QSFP-STEPS F82599 ≡ 166097244) × (QSFP-STEPS X550 ≡ 80022
 qsfp-steps = (refl, refl)
 
 -- a byte written back
-abbrev WRITTEN-STEPS : Family → ℕ
+abbrev pub WRITTEN-STEPS : Family → ℕ
 WRITTEN-STEPS family = TRANSFER-STEPS family (WriteByte DIAG 0 0) true 2
 
 -- two bytes, each read and written
@@ -58,19 +58,19 @@ module _ (q : Sequence) (port : Port) where
   few : (tries : ℕ) → tries ≤ 11 → TRANSFER-STEPS (port .family) (ReadByte EEPROM 0) true tries ≤ BYTE-STEPS (port .family)
   few tries h = omega (arith, mul-le-mul-right (READ-STEPS (port .family) (ReadByte EEPROM 0) true) h)
 
-  absent-ends : (k : ℕ → Prog (R Identity)) (n : ℕ) → ((v : ℕ) → Ends (k v) n) → (r : R ℕ) → Ends (orAbsent k r) n
+  pub absent-ends : (k : ℕ → Prog (R Identity)) (n : ℕ) → ((v : ℕ) → Ends (k v) n) → (r : R ℕ) → Ends (orAbsent k r) n
   unfolding orAbsent
   absent-ends k n e (Ok v) = e v
   absent-ends k n e (Err error) = ends-pick _ _ _ n (ret-ends _ n) (ret-ends _ n)
 
-  byte-ends : (offset tries : ℕ) (k : ℕ → Prog (R Identity)) (n : ℕ) → tries ≤ 11 → ((v : ℕ) → Ends (k v) n) → Ends (byte q port offset tries k) (BYTE-STEPS (port .family) + n)
+  pub byte-ends : (offset tries : ℕ) (k : ℕ → Prog (R Identity)) (n : ℕ) → tries ≤ 11 → ((v : ℕ) → Ends (k v) n) → Ends (byte q port offset tries k) (BYTE-STEPS (port .family) + n)
   unfolding byte
   byte-ends offset tries k n h e =
       ends-bind _ _ (BYTE-STEPS (port .family)) n
       (ends-more _ _ (BYTE-STEPS (port .family)) (transferred-ends port (ReadByte EEPROM offset) (locked q) tries) (few tries h)) (absent-ends k n e)
 
   -- the identifier, so many times
-  identifier-ends : (left identifier : ℕ) (k : ℕ → Prog (R Identity)) (n : ℕ) → ((v : ℕ) → Ends (k v) n)
+  pub identifier-ends : (left identifier : ℕ) (k : ℕ → Prog (R Identity)) (n : ℕ) → ((v : ℕ) → Ends (k v) n)
       → Ends (identifierOf q port left identifier k) (left * BYTE-STEPS (port .family) + n)
   unfolding identifierOf
   identifier-ends zero identifier k n e = ends-more _ n _ (e identifier) (omega arith)
@@ -82,25 +82,25 @@ module _ (q : Sequence) (port : Port) where
       many : (a b : ℕ) → b + (a * b + n) ≤ suc a * b + n
       many a b = omega (arith, suc-mul a b)
 
-  reach-ends : (k : Bool → Prog (R Identity)) (n : ℕ) → ((b : Bool) → Ends (k b) n) → Ends (reachOf q port k) (2 * BYTE-STEPS (port .family) + n)
+  pub reach-ends : (k : Bool → Prog (R Identity)) (n : ℕ) → ((b : Bool) → Ends (k b) n) → Ends (reachOf q port k) (2 * BYTE-STEPS (port .family) + n)
   unfolding reachOf
   reach-ends k n e =
       ends-more _ _ _ (byte-ends 14 _ _ _ (attempts-few port) (λ km. byte-ends 15 _ _ n (attempts-few port) (λ hm. e _))) (omega arith)
 
-  bx-ends : (c : Codes) (k : Bool → Prog (R Identity)) (n : ℕ) → ((b : Bool) → Ends (k b) n) → Ends (bx10gOf q port c k) (3 * BYTE-STEPS (port .family) + n)
+  pub bx-ends : (c : Codes) (k : Bool → Prog (R Identity)) (n : ℕ) → ((b : Bool) → Ends (k b) n) → Ends (bx10gOf q port c k) (3 * BYTE-STEPS (port .family) + n)
   unfolding bx10gOf
   bx-ends c k n e =
       ends-pick _ _ _ _
       (ends-more _ _ _ (byte-ends 12 _ _ (2 * BYTE-STEPS (port .family) + n) (attempts-few port) (λ rate. ends-pick _ _ _ _ (reach-ends k n e) (ends-more _ n _ (e false) (omega arith)))) (omega arith))
       (ends-more _ n _ (e false) (omega arith))
 
-  kind-ends : (c : Codes) (bx : Bool) (k : Kind → Prog (R Identity)) (n : ℕ) → ((kind : Kind) → Ends (k kind) n) → Ends (kindBy q port c bx k) (BYTE-STEPS (port .family) + n)
+  pub kind-ends : (c : Codes) (bx : Bool) (k : Kind → Prog (R Identity)) (n : ℕ) → ((kind : Kind) → Ends (k kind) n) → Ends (kindBy q port c bx k) (BYTE-STEPS (port .family) + n)
   unfolding kindBy
   kind-ends c bx k n e =
       ends-pick _ _ _ _ (ends-more _ n _ (e _) (omega arith))
       (ends-pick _ _ _ _ (byte-ends 60 _ _ n (attempts-few port) (λ v. e _)) (ends-more _ n _ (e _) (omega arith)))
 
-  known-ends : (identifier : ℕ) → Ends (known q port identifier) (7 * BYTE-STEPS (port .family))
+  pub known-ends : (identifier : ℕ) → Ends (known q port identifier) (7 * BYTE-STEPS (port .family))
   unfolding known classify
   known-ends identifier =
       ends-more _ _ _
@@ -116,19 +116,19 @@ module _ (q : Sequence) (port : Port) where
       (identifier-ends 5 0 _ (7 * BYTE-STEPS (port .family)) (λ identifier. ends-pick _ _ _ _ (known-ends identifier) (ret-ends _ _)))
       (omega arith))
 
-  technology-ends : (g10 g1 v : ℕ) → Ends (qsfpTechnology g10 g1 v) 0
+  pub technology-ends : (g10 g1 v : ℕ) → Ends (qsfpTechnology g10 g1 v) 0
   unfolding qsfpTechnology
   technology-ends g10 g1 v = ends-pick _ _ _ 0 (ret-ends _ 0) (ret-ends _ 0)
 
-  length-ends : (g10 g1 v : ℕ) → Ends (qsfpLength q port g10 g1 v) (BYTE-STEPS (port .family) + 0)
+  pub length-ends : (g10 g1 v : ℕ) → Ends (qsfpLength q port g10 g1 v) (BYTE-STEPS (port .family) + 0)
   unfolding qsfpLength
   length-ends g10 g1 v = ends-pick _ _ _ _ (byte-ends 0x93 _ _ 0 (attempts-few port) (technology-ends g10 g1)) (ret-ends _ _)
 
-  connector-ends : (g10 g1 v : ℕ) → Ends (qsfpConnector q port g10 g1 v) (BYTE-STEPS (port .family) + (BYTE-STEPS (port .family) + 0))
+  pub connector-ends : (g10 g1 v : ℕ) → Ends (qsfpConnector q port g10 g1 v) (BYTE-STEPS (port .family) + (BYTE-STEPS (port .family) + 0))
   unfolding qsfpConnector
   connector-ends g10 g1 v = ends-pick _ _ _ _ (byte-ends 0x92 _ _ _ (attempts-few port) (length-ends g10 g1)) (ret-ends _ _)
 
-  codes-ends : (g10 g1 : ℕ) → Ends (qsfpClassify q port g10 g1) (3 * BYTE-STEPS (port .family))
+  pub codes-ends : (g10 g1 : ℕ) → Ends (qsfpClassify q port g10 g1) (3 * BYTE-STEPS (port .family))
   unfolding qsfpClassify
   codes-ends g10 g1 =
       ends-pick _ _ _ _ (ret-ends _ _) (ends-pick _ _ _ _ (ret-ends _ _) (ends-pick _ _ _ _ (ret-ends _ _)
@@ -142,12 +142,12 @@ module _ (q : Sequence) (port : Port) where
       (ends-more _ _ _ (byte-ends 0x83 _ _ _ (attempts-few port) (λ g10. byte-ends 0x86 _ _ _ (attempts-few port) (codes-ends g10))) (omega arith)) (ret-ends _ _)))
       (omega arith)
 
-  not-ends : (k : Bool → Prog (R Bool)) (f : ℕ → Prog (R Bool)) (n : ℕ) → ((b : Bool) → Ends (k b) n) → ((v : ℕ) → Ends (f v) n) → (r : R ℕ) → Ends (orNot k f r) n
+  pub not-ends : (k : Bool → Prog (R Bool)) (f : ℕ → Prog (R Bool)) (n : ℕ) → ((b : Bool) → Ends (k b) n) → ((v : ℕ) → Ends (f v) n) → (r : R ℕ) → Ends (orNot k f r) n
   unfolding orNot
   not-ends k f n e g (Ok v) = g v
   not-ends k f n e g (Err error) = ends-pick _ _ _ n (e false) (ret-ends _ n)
 
-  rate-byte-ends : (ten ok : Bool) (offset : ℕ) (k : Bool → Prog (R Bool)) (n : ℕ) → ((b : Bool) → Ends (k b) n)
+  pub rate-byte-ends : (ten ok : Bool) (offset : ℕ) (k : Bool → Prog (R Bool)) (n : ℕ) → ((b : Bool) → Ends (k b) n)
       → Ends (rateByte q port ten ok offset k) (BYTE-STEPS (port .family) + (WRITTEN-STEPS (port .family) + n))
   unfolding rateByte
   rate-byte-ends ten ok offset k n e =

@@ -1,7 +1,7 @@
 -- Whole calls of `soft_rate_select`: for every port that is accepted and every list of answers the library's run is the
 -- Rust's, the count of the attempts in it beside the result. A state that was handed out is not refused at its next step.
 -- Each successful acquire gets one release call.
-use Prim.Native.Nat.{ℕ, _≤_}
+use Prim.Native.Nat.{ℕ, _≤_, _+_, suc}
 use mathlib.Core.Path.{_≡_, ap, _∙_}
 use mathlib.Core.Bool.{Bool, true, false}
 use mathlib.Core.List.{List}
@@ -12,9 +12,9 @@ use Rattle.hardware.specs.declared.Meter.{Meter}
 use Rattle.hardware.specs.declared.Port.{Port}
 use Rattle.hardware.specs.Asked.{yes, andThen, question, openPort, fits, admitting}
 use Rattle.hardware.specs.Prog.{Prog, R, Ok, Err, blank, tally}
-use Rattle.hardware.specs.Runs.{run, runAsked, Awaited, AwaitedIn, driven, ended, meterIn, counted, after, afterAsked, Step, answersOf, Kept, Asks, IfYes}
-use Rattle.hardware.proofs.Laws.{asked-runs, StepsOn, is-true, opened-runs}
-use Rattle.hardware.proofs.Ends.{run-ends}
+use Rattle.hardware.specs.Runs.{run, runAsked, Awaited, AwaitedIn, driven, ended, meterIn, counted, after, afterAsked, Step, answersOf, Kept, Asks, IfYes, Ends}
+use Rattle.hardware.proofs.Laws.{asked-runs, StepsOn, is-true, opened-runs, steps-few}
+use Rattle.hardware.proofs.Ends.{run-ends, ask-ends, ends-tally, ends-more, ends-bind, ret-ends}
 use Rattle.i2c.specs.declared.once.Request.the-variants.{ReadByte, WriteByte}
 use Rattle.i2c.specs.I2c.{standard, locked, attempts}
 use Rattle.transfer.specs.declared.attempt.Sequence.{Sequence}
@@ -22,7 +22,7 @@ use Rattle.i2c.specs.Paired.{Paired}
 use Rattle.i2c.proofs.Pairs.{Pairs, pairs-then, pairs-pick, pairs-ret, pairs-paired}
 use Rattle.i2c.proofs.Paired.{transferred-pairs}
 use Rattle.sfp.specs.Rate.{DIAG, orNot, selected, rateByte, softRateSelect}
-use Rattle.sfp.proofs.Ends.{RATE-STEPS, rate-ends}
+use Rattle.sfp.proofs.Ends.{RATE-STEPS, rate-ends, BYTE-STEPS, WRITTEN-STEPS, not-ends, rate-byte-ends}
 use Rattle.softrate.specs.declared.walk.Rate.{Rate}
 use Rattle.softrate.specs.declared.calls.RateCall.{RateCall}
 use Rattle.softrate.specs.declared.calls.RateCall.the-variants.{Going, Over}
@@ -31,6 +31,12 @@ use Rattle.softrate.specs.declared.calls.RateTold.the-variants.{Ask, End
 use Rattle.softrate.specs.Walk.{restRate}
 use Rattle.softrate.specs.Calls.{openRate, stepRate, saidRate, standsRate, followsRate}
 use Rattle.hardware.specs.Promise.{Keeps}
+use native.Mathlib.Omega.{arith}
+use Rattle.hardware.specs.declared.Family.{Family}
+use Rattle.i2c.proofs.Ends.{transferred-ends, handshakeAfter, request-rest-ends}
+use Rattle.softrate.specs.declared.spot.Place.{Place}
+use Rattle.softrate.specs.declared.spot.Place.the-variants.{Reading, Writing}
+use Rattle.softrate.specs.Spot.{requestAt, nextByte, onPlace, onAt}
 
 pub rate-runs : (family device lan : ℕ) (ten : Bool) (t : RateTold) → saidRate t ≡ openRate family device lan ten → (l : List Answer)
     → runAsked (saidRate t) l ≡ andThen (openPort family device lan) (λ port. yes (counted (meterIn blank (softRateSelect standard port ten) l) (run (softRateSelect standard port ten) l)))
@@ -78,3 +84,46 @@ pub rate-paired : (q : Sequence) (port : Port) (ten : Bool) (l : List Answer) �
 unfolding softRateSelect
 rate-paired q port ten l =
     pairs-paired _ l (rate-byte-pairs q port ten true 0x6e _ (λ ok. rate-byte-pairs q port ten ok 0x76 _ (λ both. pairs-ret false _)))
+
+-- the answers that may still be needed behind a byte, behind a request, and after the answer that is awaited
+abbrev pub nextAfter : Family → Bool → ℕ
+nextAfter f false = BYTE-STEPS f + WRITTEN-STEPS f
+nextAfter f true = 0
+
+abbrev pub placeAfter : Family → Bool → Place → ℕ
+placeAfter f second Reading = WRITTEN-STEPS f + nextAfter f second
+placeAfter f second (Writing v) = nextAfter f second
+
+abbrev pub rateAfter : Family → Bool → Rate → ℕ
+rateAfter f ten s = handshakeAfter f (requestAt ten (s .spot)) true (s .request) + placeAfter f (s .spot .second) (s .spot .place)
+
+module _ (q : Sequence) (port : Port) (ten : Bool) where
+  next-ends : (second ok : Bool) → Ends (nextByte q port ten second ok) (nextAfter (port .family) second)
+  unfolding nextByte
+  next-ends false ok = ends-more _ _ _ (rate-byte-ends q port ten ok 0x76 _ 0 (λ both. ret-ends _ 0)) (omega arith)
+  next-ends true ok = ret-ends _ 0
+
+  place-ends : (second ok : Bool) (p : Place) (v : ℕ) → Ends (onPlace q port ten second ok p v) (placeAfter (port .family) second p)
+  unfolding onPlace
+  place-ends second ok Reading v =
+      ends-bind _ _ (WRITTEN-STEPS (port .family)) _ (transferred-ends port _ (locked q) 2) (not-ends q port _ _ _ (next-ends second) (λ _. next-ends second ok))
+  place-ends second ok (Writing w) v = next-ends second ok
+
+  next-within : (second : Bool) (p : Place) → nextAfter (port .family) second ≤ placeAfter (port .family) second p
+  next-within second Reading = omega arith
+  next-within second (Writing v) = omega arith
+
+  pub rate-rest-ends : (s : Rate) (a : Answer) → Ends (restRate q port ten s a) (rateAfter (port .family) ten s)
+  unfolding restRate onAt
+  rate-rest-ends s a =
+      request-rest-ends port (requestAt ten (s .spot)) (locked q) _ (placeAfter (port .family) (s .spot .second) (s .spot .place))
+      (not-ends q port _ _ _ (λ b. ends-more _ _ _ (next-ends (s .spot .second) b) (next-within (s .spot .second) (s .spot .place))) (place-ends (s .spot .second) (s .spot .ok) (s .spot .place)))
+      (s .request) a
+
+-- from any state that passes question 10, whoever made it, the call takes at most so many steps more
+pub rate-lasts : (x : Access) (port : Port) (q : Sequence) (ten : Bool) (m : Meter) (s : Rate) (ks : List (Step RateTold)) → standsRate (Ask x (Going port q ten m s))
+    → Kept followsRate (Ask x (Going port q ten m s)) ks → AwaitedIn (saidRate (Ask x (Going port q ten m s))) (answersOf ks) → length ks ≤ suc (rateAfter (port .family) ten s)
+unfolding saidRate IfYes
+rate-lasts x port q ten m s ks h k w =
+    steps-few saidRate followsRate standsRate rate-on (Ask x (Going port q ten m s)) ks (suc (rateAfter (port .family) ten s)) h k w
+    (ask-ends x _ (rateAfter (port .family) ten s) (λ a. ends-tally m _ _ (rate-rest-ends q port ten s a)))

@@ -1,24 +1,33 @@
 -- How many answers of the awaited kinds bring commands, transfers and attempts to their end, for every layout, device
 -- and control word. The numbers are accesses.
-use Prim.Native.Nat.{ℕ, _+_, _*_}
+use Prim.Native.Nat.{ℕ, _+_, _*_, _-_, _≤_}
 use mathlib.Core.Path.{_≡_, refl}
 use mathlib.Core.List.{List, [], _∷_}
-use lib.ListN.{length}
+use lib.ListN.{length, drop, length-drop}
 use native.Mathlib.Omega.{arith}
 use Rattle.hardware.specs.declared.Meter.{Meter}
 use Rattle.hardware.specs.Prog.{Prog, ret, ask, note, give, R, Ok, Err, erase, tally}
 use Rattle.hardware.specs.Runs.{Ends}
-use Rattle.hardware.proofs.Ends.{ends-more, ends-bind, ends-try, ends-pick, ends-erase, ends-tally, ret-ends, note-ends, readRaw-ends}
+use Rattle.hardware.proofs.Ends.{ends-more, ends-bind, ends-try, ends-pick, ends-erase, ends-tally, ret-ends, note-ends, readRaw-ends, ends-or}
 use Rattle.bus.specs.declared.Layout.{Layout}
 use Rattle.bus.specs.declared.Taken.{Taken}
 use Rattle.bus.specs.declared.command.Command.{Command}
 use Rattle.bus.specs.declared.command.Command.the-variants.{Start, Send, Read, Stop, Free}
-use Rattle.bus.specs.Bus.{Bus}
-use Rattle.bus.proofs.Ends.{EndsBus, bus-more, done-ends, SEND-STEPS, CLEAR-STEPS, start-ends, send-ends, in-byte-ends, out-bit-ends, stop-ends, free-ends, clear-ends}
+use Rattle.bus.specs.Bus.{Bus, none}
+use Rattle.bus.proofs.Ends.{EndsBus, bus-more, done-ends, SEND-STEPS, CLEAR-STEPS, start-ends, send-ends, in-byte-ends, out-bit-ends, stop-ends, free-ends, clear-ends, jobAfter, clearAfter, job-rest-ends, clear-rest-ends}
 use Rattle.transfer.specs.declared.attempt.Sequence.{Sequence}
 use Rattle.transfer.specs.declared.attempt.Sequence.the-variants.{Pulses}
-use Rattle.transfer.specs.Transfer.{Mode, handing, keeping, tells, did, tookBy, handed, transfer}
-use Rattle.transfer.specs.Attempt.{clearing, orCleared, cleared, orTried, tried, begun, attempting, attempt}
+use Rattle.transfer.specs.Transfer.{Mode, handing, keeping, tells, did, tookBy, handed, transfer, ranOn, restTransfer}
+use Rattle.transfer.specs.Attempt.{clearing, orCleared, cleared, orTried, tried, begun, attempting, attempt, restAttempt}
+use mathlib.Core.Bool.{Bool, true, false}
+use lib.Dec.{ltb}
+use borrow.Author.Tests.{ltb-true, ltb-false}
+use Rattle.hardware.specs.declared.Answer.{Answer}
+use Rattle.script.specs.Script.{commands, nextAt}
+use Rattle.script.proofs.Laws.{commands-length, next-after}
+use Rattle.transfer.specs.declared.transfer.Transfer.{Transfer}
+use Rattle.transfer.specs.declared.attempt.Attempt.{Attempt}
+use Rattle.transfer.specs.declared.attempt.Attempt.the-variants.{New, Moving, Clearing}
 
 -- the longest command sends a byte
 abbrev pub COMMAND-STEPS : ℕ
@@ -117,3 +126,40 @@ commands-erased-ends m q l device cs t = ends-erase _ _ (commands-ends m q l dev
 pub attempt-counted-ends : (m : Meter) (q : Sequence) (l : Layout) (device : ℕ) (f : Bus) (n : ℕ) → EndsBus f n
     → Ends (tally m (attempt q l device f)) (ATTEMPT-STEPS n)
 attempt-counted-ends m q l device f n e = ends-tally m _ _ (attempt-ends q l device f n e)
+
+-- the answers that each machine may still need after the one it awaits, whatever accepted script is lent: behind a position
+-- it has at most 63 commands less the position
+abbrev pub transferAfter : Transfer → ℕ
+transferAfter t = jobAfter (t .job) + COMMAND-STEPS * (63 - t .at)
+
+abbrev pub attemptAfter : Attempt → ℕ
+attemptAfter New = COMMAND-STEPS * 64 + CLEAR-STEPS
+attemptAfter (Moving t) = transferAfter t + CLEAR-STEPS
+attemptAfter (Clearing c) = clearAfter c
+
+next-beyond : (s : List ℕ) (at : ℕ) → at ≤ nextAt s at
+unfolding nextAt
+next-beyond s at = omega arith
+
+behind-few : (s : List ℕ) (at : ℕ) → length s ≤ 64 → length (commands (drop (nextAt s at) s)) ≤ 63 - at
+behind-few s at h = by (ltb at (length s)) refl
+  where
+    by : (b : Bool) → ltb at (length s) ≡ b → length (commands (drop (nextAt s at) s)) ≤ 63 - at
+    by true e = omega (arith, commands-length (drop (nextAt s at) s), length-drop (nextAt s at) s, next-after s at (ltb-true at (length s) e), h)
+    by false e = omega (arith, commands-length (drop (nextAt s at) s), length-drop (nextAt s at) s, next-beyond s at, ltb-false at (length s) e)
+
+transfer-rest-ends : (m : Mode) (l : Layout) (device : ℕ) (s : List ℕ) (t : Transfer) (a : Answer) → length s ≤ 64 → Ends (restTransfer m l device s t a) (transferAfter t)
+unfolding restTransfer ranOn
+transfer-rest-ends m l device s t a h =
+    job-rest-ends l device _ (t .job) a _ (COMMAND-STEPS * (63 - t .at))
+    (λ b. handed-ends m _ b _ _ (bus-more _ _ (COMMAND-STEPS * (63 - t .at)) (transfer-ends m l device (commands (drop (nextAt s (t .at)) s)) _) (omega (arith, behind-few s (t .at) h))))
+
+pub attempt-rest-ends : (m : Mode) (q : Sequence) (l : Layout) (device : ℕ) (s : List ℕ) (t : Attempt) (a : Answer) → length s ≤ 64
+    → Ends (restAttempt m q l device s t a) (attemptAfter t)
+unfolding restAttempt tried cleared
+attempt-rest-ends m q l device s New a h =
+    ends-or _ _ (COMMAND-STEPS * 64 + CLEAR-STEPS) (begun-ends q l device _ (COMMAND-STEPS * 64) (bus-more _ _ (COMMAND-STEPS * 64) (transfer-ends m l device (commands s) none) (omega (arith, commands-length s, h))))
+attempt-rest-ends m q l device s (Moving t) a h =
+    ends-bind _ _ (transferAfter t) CLEAR-STEPS (transfer-rest-ends m l device s t a h) (λ r. or-tried-ends q l device (r .ctl) (r .out))
+attempt-rest-ends m q l device s (Clearing c) a h =
+    ends-more _ (clearAfter c + 0) (clearAfter c) (ends-bind _ _ (clearAfter c) 0 (clear-rest-ends l c a) (λ r. or-cleared-ends device (r .out))) (omega arith)

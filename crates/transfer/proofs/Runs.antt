@@ -14,8 +14,8 @@ use Rattle.hardware.specs.declared.Port.{Port}
 use Rattle.hardware.specs.Asked.{Asked, no, yes, andThen, question, openPort, fits, admitting}
 use Rattle.hardware.specs.Prog.{Prog, R, blank, tally, _>>=_}
 use Rattle.hardware.specs.Runs.{run, runAsked, Ends, Awaited, ended, transfersIn, meterIn, counted, AwaitedIn, after, afterAsked, Step, answersOf, Kept, driven, Refuses, Asks, IfYes}
-use Rattle.hardware.proofs.Laws.{run-tally, is-true, StepsOn, opened-runs, refused-runs}
-use Rattle.hardware.proofs.Ends.{ends-more, ends-bind, ret-ends, run-ends}
+use Rattle.hardware.proofs.Laws.{run-tally, is-true, StepsOn, opened-runs, refused-runs, steps-few}
+use Rattle.hardware.proofs.Ends.{ends-more, ends-bind, ret-ends, run-ends, ask-ends, ends-tally}
 use Rattle.bus.specs.declared.Taken.{Taken}
 use Rattle.bus.proofs.Noteless.{Noteless, ret-noteless, bind-noteless, transfers-none}
 use Rattle.script.specs.Script.{commands, device, judged}
@@ -31,7 +31,7 @@ use Rattle.transfer.specs.Transfer.{handing}
 use Rattle.transfer.specs.Attempt.{attempt}
 use Rattle.transfer.specs.Calls.{dropped, script, restScript, judgedThen, openScript, steppedScript, stepScript, saidScript, standsScript, single, followsScript}
 use Rattle.transfer.proofs.Laws.{judged-yes}
-use Rattle.transfer.proofs.Ends.{COMMAND-STEPS, ATTEMPT-STEPS, attempt-steps, commands-ends}
+use Rattle.transfer.proofs.Ends.{COMMAND-STEPS, ATTEMPT-STEPS, attempt-steps, commands-ends, attemptAfter, attempt-rest-ends}
 use Rattle.transfer.proofs.Noteless.{transfer-noteless, attempting-noteless}
 use Rattle.hardware.specs.Promise.{Keeps}
 use borrow.Author.Tests.{eqb-true}
@@ -119,3 +119,19 @@ script-driven family device lan s t k ks kept w = by (eqb (judged s) 0) refl ∙
     by : (b : Bool) → eqb (judged s) 0 ≡ b → driven (λ t. saidScript t s) t ks ≡ runAsked (saidScript t s) (answersOf ks)
     by true e = opened-runs (λ t. saidScript t s) (followsScript s) (λ t. standsScript t s) (script-on s (eqb-true (judged s) 0 e)) t ks k kept w
     by false e = refused-runs (λ t. saidScript t s) t ks (subst Refuses (sym (k .yields)) (unaccepted (openPort family device lan) e))
+
+script-rest-ends : (port : Port) (s : List ℕ) (t : Attempt) (a : Answer) → judged s ≡ 0 → Ends (restScript port s t a) (attemptAfter t)
+unfolding restScript dropped
+script-rest-ends port s t a h =
+    ends-more _ (attemptAfter t + 0) (attemptAfter t)
+    (ends-bind _ _ (attemptAfter t) 0 (attempt-rest-ends handing Pulses (layoutOf (port .family)) (device s) s t a (fits-length s (accepted s h .0) .1)) (λ r. ret-ends _ 0))
+    (omega arith)
+
+-- from any state that passes question 10, whoever made it, the call takes at most so many steps more with any accepted script
+-- that is lent at each of them
+pub script-lasts : (x : Access) (port : Port) (s : List ℕ) (t : Attempt) (ks : List (Step ScriptTold)) → judged s ≡ 0 → standsScript (Ask x (Going port t)) s
+    → Kept (followsScript s) (Ask x (Going port t)) ks → AwaitedIn (saidScript (Ask x (Going port t)) s) (answersOf ks) → length ks ≤ suc (attemptAfter t)
+unfolding saidScript IfYes
+script-lasts x port s t ks j h k w =
+    steps-few (λ u. saidScript u s) (followsScript s) (λ u. standsScript u s) (script-on s j) (Ask x (Going port t)) ks (suc (attemptAfter t)) h k w
+    (ask-ends x _ (attemptAfter t) (λ a. ends-tally single _ _ (script-rest-ends port s t a j)))

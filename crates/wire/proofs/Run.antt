@@ -11,7 +11,7 @@ use Rattle.hardware.specs.Prog.{Prog, ret, ask, note, give, pick}
 use Rattle.bus.specs.declared.Layout.{Layout}
 use Rattle.wire.specs.Lines.{Each}
 use Rattle.wire.specs.Machine.{Side, World, modelled, reply, after, noted}
-use Rattle.wire.specs.Run.{Given, given, nothing, refused, Source, listed, fixed, kindAsked, checked, Event, atMachine, answered, noticed, Finished, BenchRun, saw, proceed, run, answersIn}
+use Rattle.wire.specs.Run.{Given, given, nothing, refused, Source, listed, fixed, kindAsked, kindChecked, Event, atMachine, answered, noticed, Finished, BenchRun, saw, proceed, run, answersIn}
 use Rattle.hardware.proofs.Laws.{is-true}
 
 -- an answer of the awaited kind
@@ -21,9 +21,9 @@ Fits (answered x a) = T (fits x a)
 Fits (noticed n) = Unit {0}
 
 -- fixed answers of the awaited kinds pass the question
-pub fixed-checked : (f : Access → Answer) → ((x : Access) → T (fits x (f x))) → checked (fixed f) ≡ fixed f
+pub fixed-kind-checked : (f : Access → Answer) → ((x : Access) → T (fits x (f x))) → kindChecked (fixed f) ≡ fixed f
 unfolding fixed kindAsked pick
-fixed-checked f h = fun-ext (λ x. fun-ext (λ answers. rw (is-true (fits x (f x)) (h x))))
+fixed-kind-checked f h = fun-ext (λ x. fun-ext (λ answers. rw (is-true (fits x (f x)) (h x))))
 
 module _ (l : Layout) (o : Side) {A : Type 0} where
   -- an access of the machine's own, and any other
@@ -38,41 +38,41 @@ module _ (l : Layout) (o : Side) {A : Type 0} where
   run-other s x f w answers e = rw e
 
   -- Where every answer is of the awaited kind, that question changes nothing
-  checked-proceed : (x : Access) (w : World o) (h k : Answer → List Answer → BenchRun o A) (g : Given)
+  kind-checked-proceed : (x : Access) (w : World o) (h k : Answer → List Answer → BenchRun o A) (g : Given)
       → ((a : Answer) (rest : List Answer) → Each Fits (k a rest .trace) → h a rest ≡ k a rest) → Each Fits (proceed x w k g .trace)
       → proceed x w h (kindAsked x g) ≡ proceed x w k g
   unfolding proceed kindAsked pick Fits
-  checked-proceed x w h k (given a rest) e m = rw (is-true (fits x a) (m .0)) (ap (saw (answered x a)) (e a rest (m .1)))
-  checked-proceed x w h k nothing e m = refl
-  checked-proceed x w h k (refused n) e m = refl
+  kind-checked-proceed x w h k (given a rest) e m = rw (is-true (fits x a) (m .0)) (ap (saw (answered x a)) (e a rest (m .1)))
+  kind-checked-proceed x w h k nothing e m = refl
+  kind-checked-proceed x w h k (refused n) e m = refl
 
-  awaited-at : (s : Source) (x : Access) (b : Bool) (f : Answer → Prog A) (w : World o) (answers : List Answer) → modelled l x ≡ b
+  kind-checked-at : (s : Source) (x : Access) (b : Bool) (f : Answer → Prog A) (w : World o) (answers : List Answer) → modelled l x ≡ b
       → ((a : Answer) (w′ : World o) (rest : List Answer) → Each Fits (run l o s (f a) w′ rest .trace)
-      → run l o (checked s) (f a) w′ rest ≡ run l o s (f a) w′ rest)
-      → Each Fits (run l o s (ask x f) w answers .trace) → run l o (checked s) (ask x f) w answers ≡ run l o s (ask x f) w answers
+      → run l o (kindChecked s) (f a) w′ rest ≡ run l o s (f a) w′ rest)
+      → Each Fits (run l o s (ask x f) w answers .trace) → run l o (kindChecked s) (ask x f) w answers ≡ run l o s (ask x f) w answers
   unfolding run pick
-  awaited-at s x true f w answers e h m = rw e (ap (saw _) (h _ _ _ ((rw e at m) .1)))
-  awaited-at s x false f w answers e h m = rw e (checked-proceed x w _ _ (s x answers) (λ a rest. h a w rest) (rw e at m))
+  kind-checked-at s x true f w answers e h m = rw e (ap (saw _) (h _ _ _ ((rw e at m) .1)))
+  kind-checked-at s x false f w answers e h m = rw e (kind-checked-proceed x w _ _ (s x answers) (λ a rest. h a w rest) (rw e at m))
 
-  pub checked-run : (s : Source) (p : Prog A) (w : World o) (answers : List Answer) → Each Fits (run l o s p w answers .trace)
-      → run l o (checked s) p w answers ≡ run l o s p w answers
+  pub kind-checked-run : (s : Source) (p : Prog A) (w : World o) (answers : List Answer) → Each Fits (run l o s p w answers .trace)
+      → run l o (kindChecked s) p w answers ≡ run l o s p w answers
   unfolding run
-  checked-run s (ret a) w answers m = refl
-  checked-run s (ask x f) w answers m = awaited-at s x (modelled l x) f w answers refl (λ a w′ rest. checked-run s (f a) w′ rest) m
-  checked-run s (note n p) w answers m = ap (saw (noticed n)) (checked-run s p (noted o n w) answers (m .1))
-  checked-run s (give b p) w answers m = checked-run s p w answers m
+  kind-checked-run s (ret a) w answers m = refl
+  kind-checked-run s (ask x f) w answers m = kind-checked-at s x (modelled l x) f w answers refl (λ a w′ rest. kind-checked-run s (f a) w′ rest) m
+  kind-checked-run s (note n p) w answers m = ap (saw (noticed n)) (kind-checked-run s p (noted o n w) answers (m .1))
+  kind-checked-run s (give b p) w answers m = kind-checked-run s p w answers m
 
   -- A run that came to its end is the run over the list of the answers in it, whatever stands after them
   module _ (s : Source) (rest : List Answer) where
-    replayed-fed : (x : Access) (f : Answer → Prog A) (w : World o) (g : Given)
+    replayed-proceed : (x : Access) (f : Answer → Prog A) (w : World o) (g : Given)
         → ((a : Answer) (w′ : World o) (t : List Answer) → Finished (run l o s (f a) w′ t .outcome)
         → run l o listed (f a) w′ (answersIn (run l o s (f a) w′ t .trace) ++ rest) ≡ run l o s (f a) w′ t)
         → Finished (proceed x w (λ a t. run l o s (f a) w t) g .outcome)
         → proceed x w (λ a t. run l o listed (f a) w t) (listed x (answersIn (proceed x w (λ a t. run l o s (f a) w t) g .trace) ++ rest)) ≡ proceed x w (λ a t. run l o s (f a) w t) g
     unfolding proceed listed answersIn Finished
-    replayed-fed x f w (given a t) h m = ap (saw (answered x a)) (h a w t m)
-    replayed-fed x f w nothing h m = absurd m
-    replayed-fed x f w (refused n) h m = absurd m
+    replayed-proceed x f w (given a t) h m = ap (saw (answered x a)) (h a w t m)
+    replayed-proceed x f w nothing h m = absurd m
+    replayed-proceed x f w (refused n) h m = absurd m
 
     replayed-at : (x : Access) (b : Bool) (f : Answer → Prog A) (w : World o) (answers : List Answer) → modelled l x ≡ b
         → ((a : Answer) (w′ : World o) (t : List Answer) → Finished (run l o s (f a) w′ t .outcome)
@@ -81,7 +81,7 @@ module _ (l : Layout) (o : Side) {A : Type 0} where
         → run l o listed (ask x f) w (answersIn (run l o s (ask x f) w answers .trace) ++ rest) ≡ run l o s (ask x f) w answers
     unfolding run pick answersIn
     replayed-at x true f w answers e h m = rw e (ap (saw _) (h _ _ _ (rw e at m)))
-    replayed-at x false f w answers e h m = rw e (replayed-fed x f w (s x answers) h (rw e at m))
+    replayed-at x false f w answers e h m = rw e (replayed-proceed x f w (s x answers) h (rw e at m))
 
     pub replayed : (p : Prog A) (w : World o) (answers : List Answer) → Finished (run l o s p w answers .outcome)
         → run l o listed p w (answersIn (run l o s p w answers .trace) ++ rest) ≡ run l o s p w answers

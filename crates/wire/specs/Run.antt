@@ -33,8 +33,8 @@ kindAsked x (given a answers) = pick (fits x a) (given a answers) (refused 12)
 kindAsked x nothing = nothing
 kindAsked x (refused n) = refused n
 
-abbrev pub checked : Source → Source
-checked s x answers = kindAsked x (s x answers)
+abbrev pub kindChecked : Source → Source
+kindChecked s x answers = kindAsked x (s x answers)
 
 -- What happens in a run: an access of the machine's own takes I2CCTL from one word to the next, another register gives an
 -- answer, something is noted
@@ -62,18 +62,18 @@ pub record BenchRun (o : Side) (A : Type 0) : Type 0 where
 abbrev pub saw : {o : Side} {A : Type 0} → Event → BenchRun o A → BenchRun o A
 saw e r = record { trace = e ∷ r .trace; outcome = r .outcome }
 
-abbrev pub closing : {o : Side} {A : Type 0} → BenchOutcome o A → BenchRun o A
-closing e = record { trace = []; outcome = e }
+abbrev pub halted : {o : Side} {A : Type 0} → BenchOutcome o A → BenchRun o A
+halted e = record { trace = []; outcome = e }
 
 -- by what a source gives; k goes on from there
 unfoldable pub proceed : {o : Side} {A : Type 0} → Access → World o → (Answer → List Answer → BenchRun o A) → Given → BenchRun o A
 proceed x w k (given a answers) = saw (answered x a) (k a answers)
-proceed x w k nothing = closing (short w)
-proceed x w k (refused n) = closing (stopped n w)
+proceed x w k nothing = halted (short w)
+proceed x w k (refused n) = halted (stopped n w)
 
 -- the machine answers its own accesses, the source all others
 unfoldable pub run : (l : Layout) (o : Side) → Source → {A : Type 0} → Prog A → World o → List Answer → BenchRun o A
-run l o s (ret a) w answers = closing (ended a w)
+run l o s (ret a) w answers = halted (ended a w)
 run l o s (ask x f) w answers =
     pick (modelled l x)
     (saw (atMachine (w .word) (after l o x w .word)) (run l o s (f (reply l o x w)) (after l o x w) answers))

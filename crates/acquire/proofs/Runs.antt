@@ -11,7 +11,7 @@ use Rattle.hardware.specs.declared.Answer.{Answer}
 use Rattle.hardware.specs.declared.Port.{Port}
 use Rattle.hardware.specs.Asked.{yes, andThen, question, openPort, fits, admitting}
 use Rattle.hardware.specs.Prog.{R, erase}
-use Rattle.hardware.specs.Runs.{run, runAsked, Awaited, ended, AwaitedIn, after, afterAsked, Step, answersOf, Kept, driven, Asks, IfYes}
+use Rattle.hardware.specs.Runs.{run, runAsked, Awaited, ended, AwaitedIn, leftAfter, leftAskedAfter, Exchange, answersOf, AllKept, driven, Asks, IfYes, Lasts}
 use Rattle.hardware.proofs.Laws.{runs-open, is-true, StepsOn, opened-runs, steps-few}
 use Rattle.hardware.proofs.Ends.{run-ends, ask-ends, ends-erase}
 use Rattle.acquire.specs.declared.acquire.Acquire.{Acquire}
@@ -44,14 +44,14 @@ unfolding standsAcquire stepAcquire admitting question
 acquire-accepts x port hw t a h e = rw (h .1, ← h .0, e)
 
 acquire-on : StepsOn saidAcquire followsAcquire standsAcquire
-unfolding followsAcquire saidAcquire standsAcquire AwaitedIn Awaited afterAsked after IfYes Asks
+unfolding followsAcquire saidAcquire standsAcquire AwaitedIn Awaited leftAskedAfter leftAfter IfYes Asks
 acquire-on (AcquireAsk y (AcquireGoing port hw t)) u a h k w = (k .yields ∙ acquire-accepts y port hw t a h (is-true (fits y a) (w .0)), k .limits, tt)
 acquire-on (AcquireAsk y AcquireOver) u a h k w = absurd h
 acquire-on (AcquireEnd o) u a h k w = absurd k
 acquire-on (AcquireRefused q) u a h k w = absurd k
 
 -- from the opening on, driven by steps that keep their promises
-pub acquire-driven : (family device lan mask : ℕ) (t : AcquireTold) → Keeps (saidAcquire t ≡ openAcquire family device lan mask) (standsAcquire t) → (ks : List (Step AcquireTold)) → Kept followsAcquire t ks
+pub acquire-driven : (family device lan mask : ℕ) (t : AcquireTold) → Keeps (saidAcquire t ≡ openAcquire family device lan mask) (standsAcquire t) → (ks : List (Exchange AcquireTold)) → AllKept followsAcquire t ks
     → AwaitedIn (openAcquire family device lan mask) (answersOf ks) → driven saidAcquire t ks ≡ andThen (openPort family device lan) (λ port. yes (run (acquire port mask) (answersOf ks)))
 acquire-driven family device lan mask t k ks kept w = opened-runs saidAcquire followsAcquire standsAcquire acquire-on t ks k kept w ∙ acquire-runs family device lan mask t (k .yields) (answersOf ks)
 
@@ -70,27 +70,27 @@ unfolding standsRelease stepRelease admitting question
 release-accepts x port hw t a h e = rw (h .1, ← h .0, e)
 
 release-on : StepsOn saidRelease followsRelease standsRelease
-unfolding followsRelease saidRelease standsRelease AwaitedIn Awaited afterAsked after IfYes Asks
+unfolding followsRelease saidRelease standsRelease AwaitedIn Awaited leftAskedAfter leftAfter IfYes Asks
 release-on (ReleaseAsk y (ReleaseGoing port hw t)) u a h k w = (k .yields ∙ release-accepts y port hw t a h (is-true (fits y a) (w .0)), k .limits, tt)
 release-on (ReleaseAsk y ReleaseOver) u a h k w = absurd h
 release-on (ReleaseEnd o) u a h k w = absurd k
 release-on (ReleaseRefused q) u a h k w = absurd k
 
 -- from the opening on, driven by steps that keep their promises
-pub release-driven : (family device lan mask : ℕ) (t : ReleaseTold) → Keeps (saidRelease t ≡ openRelease family device lan mask) (standsRelease t) → (ks : List (Step ReleaseTold)) → Kept followsRelease t ks
+pub release-driven : (family device lan mask : ℕ) (t : ReleaseTold) → Keeps (saidRelease t ≡ openRelease family device lan mask) (standsRelease t) → (ks : List (Exchange ReleaseTold)) → AllKept followsRelease t ks
     → AwaitedIn (openRelease family device lan mask) (answersOf ks) → driven saidRelease t ks ≡ andThen (openPort family device lan) (λ port. yes (run (release port mask) (answersOf ks)))
 release-driven family device lan mask t k ks kept w = opened-runs saidRelease followsRelease standsRelease release-on t ks k kept w ∙ release-runs family device lan mask t (k .yields) (answersOf ks)
 
 -- from any state that passes question 10, whoever made it, a call takes at most so many steps more
-pub acquire-lasts : (x : Access) (port : Port) (hw : ℕ) (s : Acquire) (ks : List (Step AcquireTold)) → standsAcquire (AcquireAsk x (AcquireGoing port hw s))
-    → Kept followsAcquire (AcquireAsk x (AcquireGoing port hw s)) ks → AwaitedIn (saidAcquire (AcquireAsk x (AcquireGoing port hw s))) (answersOf ks) → length ks ≤ suc (acquireAfter (port .family) s)
+pub acquire-lasts : (x : Access) (port : Port) (hw : ℕ) (s : Acquire) (ks : List (Exchange AcquireTold)) → standsAcquire (AcquireAsk x (AcquireGoing port hw s))
+    → AllKept followsAcquire (AcquireAsk x (AcquireGoing port hw s)) ks → AwaitedIn (saidAcquire (AcquireAsk x (AcquireGoing port hw s))) (answersOf ks) → Lasts saidAcquire (AcquireAsk x (AcquireGoing port hw s)) ks (suc (acquireAfter (port .family) s))
 unfolding saidAcquire IfYes
 acquire-lasts x port hw s ks h k w =
     steps-few saidAcquire followsAcquire standsAcquire acquire-on (AcquireAsk x (AcquireGoing port hw s)) ks (suc (acquireAfter (port .family) s)) h k w
     (ask-ends x _ (acquireAfter (port .family) s) (λ a. ends-erase _ _ (acquire-rest-ends port hw s a)))
 
-pub release-lasts : (x : Access) (port : Port) (hw : ℕ) (s : Release) (ks : List (Step ReleaseTold)) → standsRelease (ReleaseAsk x (ReleaseGoing port hw s))
-    → Kept followsRelease (ReleaseAsk x (ReleaseGoing port hw s)) ks → AwaitedIn (saidRelease (ReleaseAsk x (ReleaseGoing port hw s))) (answersOf ks) → length ks ≤ suc (releaseAfter s)
+pub release-lasts : (x : Access) (port : Port) (hw : ℕ) (s : Release) (ks : List (Exchange ReleaseTold)) → standsRelease (ReleaseAsk x (ReleaseGoing port hw s))
+    → AllKept followsRelease (ReleaseAsk x (ReleaseGoing port hw s)) ks → AwaitedIn (saidRelease (ReleaseAsk x (ReleaseGoing port hw s))) (answersOf ks) → Lasts saidRelease (ReleaseAsk x (ReleaseGoing port hw s)) ks (suc (releaseAfter s))
 unfolding saidRelease IfYes
 release-lasts x port hw s ks h k w =
     steps-few saidRelease followsRelease standsRelease release-on (ReleaseAsk x (ReleaseGoing port hw s)) ks (suc (releaseAfter s)) h k w (ask-ends x _ (releaseAfter s) (λ a. ends-erase _ _ (release-rest-ends port hw s a)))

@@ -92,7 +92,7 @@ module _ (port : Port) (b : Bench) (small : (n : ℕ) → byteOf (b .a0) n < 256
   -- the end of the call, by the start
   pub record End (r : R Identity) (w : World machine) : Type 0 where
     pub facts : (InAckWrite b → ⊥) → Facts (layoutOf (port .family)) b r w
-    pub absent : InAckWrite b → Absent r × (w .other .meter .transfers ≡ 11)
+    pub no-module : InAckWrite b → Absent r × (w .other .meter .transfers ≡ 11)
 
   well : (e j : ℕ) → extra b ≡ e → (n : CountedBench) (w : ℕ) → After (layoutOf (port .family)) start j n w → j ≡ requests (byteOf (b .a0)) + e
       → Facts (layoutOf (port .family)) b (Ok (identityOf (byteOf (b .a0)))) (world w n)
@@ -116,15 +116,15 @@ module _ (port : Port) (b : Bench) (small : (n : ℕ) → byteOf (b .a0) n < 256
       free : pullsLow b ≡ false → Always (layoutOf (port .family)) machine (identify standard port) (atStart word b) End
       free e =
           Identify.identify-reads port start small End word x y r e
-          (λ n w a. record { facts = λ _. well 0 _ (rw e) n w a (omega arith); absent = λ i. absurd (free-not b e i) })
+          (λ n w a. record { facts = λ _. well 0 _ (rw e) n w a (omega arith); no-module = λ i. absurd (free-not b e i) })
 
       held : pullsLow b ≡ true → Always (layoutOf (port .family)) machine (identify standard port) (atStart word b) End
       held e =
           ⊎-elim
-          (λ i. Identify.identify-fails port start small End word x y r i (λ n v made. record { facts = λ no. absurd (no i); absent = λ _. (refl, omega (arith, made)) }))
+          (λ i. Identify.identify-fails port start small End word x y r i (λ n v made. record { facts = λ no. absurd (no i); no-module = λ _. (refl, omega (arith, made)) }))
           (λ s.
           Identify.identify-clears port start small End word x y r e s
-          (λ n w a. record { facts = λ _. well 1 _ (rw e) n w a refl; absent = λ i. absurd (stuck-not b s i) }))
+          (λ n w a. record { facts = λ _. well 1 _ (rw e) n w a refl; no-module = λ i. absurd (stuck-not b s i) }))
           (stuck start e)
 
       by : (t : Bool) → pullsLow b ≡ t → Always (layoutOf (port .family)) machine (identify standard port) (atStart word b) End
@@ -133,7 +133,7 @@ module _ (port : Port) (b : Bench) (small : (n : ℕ) → byteOf (b .a0) n < 256
 
   pub claimed : (r : R Identity) (w : World machine) → End r w → Claimed (layoutOf (port .family)) b (record { meter = w .other .meter; result = r }) w
   claimed r w h =
-      record { count = refl; facts = h .facts; only = λ f i. never-both (byteOf (b .a0)) r (f .class) (h .absent i .0); absent = h .absent }
+      record { count = refl; facts = h .facts; only = λ f i. never-both (byteOf (b .a0)) r (f .class) (h .no-module i .0); no-module = h .no-module }
 
   -- from both outcomes to the claim
   both : (o : BenchOutcome machine (R Identity)) (p : BenchOutcome machine (Counted (R Identity))) → Ending End o → Finished o → p ≡ told machine recount recount-sees o

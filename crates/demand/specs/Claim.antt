@@ -117,7 +117,7 @@ pub record Claimed (l : Layout) (b : Bench) (c : Counted (R Identity)) (w : Worl
   pub count : c .meter ≡ w .other .meter
   pub facts : (InAckWrite b → ⊥) → Facts l b (c .result) w
   pub only : Facts l b (c .result) w → InAckWrite b → ⊥
-  pub absent : InAckWrite b → Absent (c .result) × (w .other .meter .transfers ≡ 11)
+  pub no-module : InAckWrite b → Absent (c .result) × (w .other .meter .transfers ≡ 11)
 
 -- the call that the claim is about
 abbrev pub call : Port → Prog (R Identity)

@@ -1,24 +1,19 @@
--- The examples that the papers mark as proved, joined in one table and proved together.
+-- The examples that the papers mark as proved, joined in one table.
 use Prim.Native.Nat.{ℕ}
-use mathlib.Core.Path.{_≡_, refl}
-use mathlib.Core.Bool.{Bool, true, false, _||_}
+use mathlib.Core.Path.{_≡_}
+use mathlib.Core.Bool.{Bool, true, false}
 use mathlib.Core.List.{List, [], _∷_}
 use lib.Bits.{bitOr}
 use Rattle.hardware.specs.declared.Family.the-variants.{X540, X552}
-use Rattle.hardware.specs.Asked.{is}
-use Rattle.hardware.specs.Prog.{pick}
-use Rattle.hardware.specs.Registers.{noneOf}
-use Rattle.sync.specs.Regs.{bits, bits82599, bitsX540}
+use Rattle.sync.specs.Regs.{bits}
 use Rattle.bus.specs.declared.command.Command.{Command}
 use Rattle.bus.specs.declared.command.Command.the-variants.{Start, Send, Read, Stop}
-use Rattle.script.specs.Script.{alone, commands}
+use Rattle.script.specs.Script.{commands}
 use Rattle.script.specs.Scripts.{readCombinedScript, writeCombinedScript}
-use Rattle.script.specs.Sum.{onesAdd, onesSumFrom, onesSum, checkByte, highWrite, highRead, readCheck, writeCheck}
 use Rattle.sfp.specs.declared.Kind.{Kind}
 use Rattle.sfp.specs.declared.Kind.the-variants.{DaCu, SrLr, Bx10g, Bx1g, Unknown}
 use Rattle.sfp.specs.Bytes.{sfpBytes}
-use Rattle.sfp.specs.Classes.{Bytes, Class, SFP, has, asksRate, asksReach, bx10g, kindOf, isCable, multispeedOf, classOf}
-use Rattle.sfp.specs.Kinds.{isKind}
+use Rattle.sfp.specs.Classes.{Bytes, Class, SFP, classOf}
 
 -- a combined read that sends the device these bytes, the check byte last; the device then sends three
 abbrev pub combinedRead : ℕ → ℕ → ℕ → ℕ → List Command
@@ -50,26 +45,3 @@ pub record Starred : Type 0 where
   pub cable-0C : (b3 b6 b12 b14 b15 b60 : ℕ) → classOf (sfp b3 b6 0x0C b12 b14 b15 b60) ≡ class DaCu true
   pub sr-sx : (b12 b14 b15 b60 : ℕ) → classOf (sfp 0x10 0x01 0x00 b12 b14 b15 b60) ≡ class SrLr true
   pub lr-sx : (b12 b14 b15 b60 : ℕ) → classOf (sfp 0x20 0x01 0x00 b12 b14 b15 b60) ≡ class SrLr false
-
-or-true : (x y : Bool) → (x || (y || true)) ≡ true
-or-true true y = refl
-or-true false true = refl
-or-true false false = refl
-
-pub starred : Starred
-unfolding bits bits82599 bitsX540 is pick noneOf commands alone readCombinedScript writeCombinedScript readCheck writeCheck checkByte onesSum onesSumFrom onesAdd highWrite highRead sfpBytes has asksRate asksReach bx10g kindOf isKind isCable multispeedOf classOf
-starred =
-    record {
-      shared-i2c = refl;
-      eeprom = refl;
-      read-1234 = λ device. refl;
-      read-7FFF = λ device. refl;
-      read-0080 = λ device. refl;
-      write-ABCD = λ device. refl;
-      reach-0A = λ b60. refl;
-      reach-09 = λ b60. refl;
-      rate-66 = λ b14 b15 b60. refl;
-      cable-0C = λ b3 b6 b12 b14 b15 b60. rw or-true;
-      sr-sx = λ b12 b14 b15 b60. refl;
-      lr-sx = λ b12 b14 b15 b60. refl;
-    }

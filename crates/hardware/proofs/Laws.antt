@@ -1,6 +1,6 @@
 -- Laws of the register programs that the proofs cite.
 use Prim.Native.Nat.{ℕ, _+_, _-_, _<_, _≤_, suc, zero}
-use mathlib.Core.Path.{_≡_, refl, ap, sym, _∙_, subst}
+use mathlib.Core.Path.{_≡_, refl, ap, sym, _∙_, subst, subst⁻¹}
 use mathlib.Core.Bool.{Bool, true, false}
 use mathlib.Core.List.{List, [], _∷_}
 use lib.Dec.{T, ltb}
@@ -11,7 +11,7 @@ use native.Mathlib.Omega.{arith}
 use borrow.Author.Tests.{ltb-true}
 use Rattle.hardware.specs.Prog.{Note, Attempt, Acquires, Acquired, Released, Lapsed, Prog, ret, ask, note, give, erase, _>>=_, pick, attemptsAfter, metered, blank, tally}
 use Rattle.hardware.specs.Asked.{Asked, no, yes, andThen, question, openFamily, openLan, openPort, portOpened, validPort, fits, admitting, Admits}
-use Rattle.hardware.specs.Runs.{run, onAnswer, runAsked, given, answered, transfersIn, meterIn, countedStatus, counted, Awaited, AwaitedIn, after, afterAsked, Step, answersOf, Kept, led, driven, Refuses, Asks, IfYes, Ends}
+use Rattle.hardware.specs.Runs.{run, onAnswer, runAsked, given, answered, transfersIn, meterIn, countedStatus, counted, Awaited, AwaitedIn, leftAfter, leftAskedAfter, Exchange, answersOf, AllKept, led, driven, Refuses, Asks, IfYes, Ends, lastTold, Lasts}
 use Rattle.hardware.specs.declared.Access.{Access}
 use Rattle.hardware.specs.declared.Admitted.{Admitted}
 use Rattle.hardware.specs.declared.Admitted.the-variants.{Yes, No}
@@ -152,11 +152,11 @@ is-true false h = absurd h
 -- from; a step follows only what asked for an access
 abbrev pub StepsOn : {A Told : Type 0} → (Told → Asked (Prog A)) → (Told → Answer → Told → Type 0) → (Told → Type 0) → Type 0
 StepsOn {A} {Told} said Promise Stands =
-    (t u : Told) (a : Answer) → Stands t → Promise t a u → AwaitedIn (said t) (a ∷ []) → (said u ≡ afterAsked (said t) a) × Stands u × IfYes Asks (said t)
+    (t u : Told) (a : Answer) → Stands t → Promise t a u → AwaitedIn (said t) (a ∷ []) → (said u ≡ leftAskedAfter (said t) a) × Stands u × IfYes Asks (said t)
 
 -- one answer of the awaited kind, and those after it
-awaited-first : {A : Type 0} (p : Prog A) (a : Answer) (l : List Answer) → Awaited p (a ∷ l) → Awaited p (a ∷ []) × Awaited (after p a) l
-unfolding Awaited after
+awaited-first : {A : Type 0} (p : Prog A) (a : Answer) (l : List Answer) → Awaited p (a ∷ l) → Awaited p (a ∷ []) × Awaited (leftAfter p a) l
+unfolding Awaited leftAfter
 awaited-first (ret v) a l w = (tt, tt)
 awaited-first (ask x f) a [] w = (w, w .1)
 awaited-first (ask x f) a (b ∷ l) w = ((w .0, by (f a)), w .1)
@@ -169,8 +169,8 @@ awaited-first (ask x f) a (b ∷ l) w = ((w .0, by (f a)), w .1)
 awaited-first (note n p) a l w = awaited-first p a l w
 awaited-first (give b p) a l w = awaited-first p a l w
 
-led-run : {A : Type 0} (p : Prog A) (a : Answer) (l : List Answer) → led p (yes (run (after p a) l)) ≡ yes (run p (a ∷ l))
-unfolding led after run onAnswer andThen
+led-run : {A : Type 0} (p : Prog A) (a : Answer) (l : List Answer) → led p (yes (run (leftAfter p a) l)) ≡ yes (run p (a ∷ l))
+unfolding led leftAfter run onAnswer andThen
 led-run (ret v) a l = refl
 led-run (ask x f) a l = refl
 led-run (note n p) a l = led-run p a l
@@ -178,52 +178,63 @@ led-run (give b p) a l = ap (λ r. andThen r (λ r′. yes (given b r′))) (led
 
 -- so driven by its steps a call makes the run of what was told first
 pub driven-runs : {A Told : Type 0} (said : Told → Asked (Prog A)) (Promise : Told → Answer → Told → Type 0) (Stands : Told → Type 0) → StepsOn said Promise Stands
-    → (t : Told) (ks : List (Step Told)) → Stands t → Kept Promise t ks → AwaitedIn (said t) (answersOf ks) → driven said t ks ≡ runAsked (said t) (answersOf ks)
-unfolding driven answersOf runAsked andThen AwaitedIn Kept afterAsked
+    → (t : Told) (ks : List (Exchange Told)) → Stands t → AllKept Promise t ks → AwaitedIn (said t) (answersOf ks) → driven said t ks ≡ runAsked (said t) (answersOf ks)
+unfolding driven answersOf runAsked andThen AwaitedIn AllKept leftAskedAfter
 driven-runs said Promise Stands on t [] s k w = refl
 driven-runs {A} said Promise Stands on t (k ∷ ks) s kept w = by (said t) refl w (driven-runs said Promise Stands on (k .told) ks)
   where
     by : (q : Asked (Prog A)) → said t ≡ q → AwaitedIn q (k .answer ∷ answersOf ks)
-        → (Stands (k .told) → Kept Promise (k .told) ks → AwaitedIn (said (k .told)) (answersOf ks) → driven said (k .told) ks ≡ runAsked (said (k .told)) (answersOf ks))
+        → (Stands (k .told) → AllKept Promise (k .told) ks → AwaitedIn (said (k .told)) (answersOf ks) → driven said (k .told) ks ≡ runAsked (said (k .told)) (answersOf ks))
         → andThen q (λ p. led p (driven said (k .told) ks)) ≡ runAsked q (k .answer ∷ answersOf ks)
     by (no n) e w h = refl
     by (yes p) e w h =
         let a = awaited-first p (k .answer) (answersOf ks) w in
         let n = on t (k .told) (k .answer) s (kept .0) (subst (λ q. AwaitedIn q (k .answer ∷ [])) (sym e) (a .0)) in
-        let tells : said (k .told) ≡ yes (after p (k .answer)) = n .0 ∙ ap (λ q. afterAsked q (k .answer)) e in
+        let tells : said (k .told) ≡ yes (leftAfter p (k .answer)) = n .0 ∙ ap (λ q. leftAskedAfter q (k .answer)) e in
         ap (led p) (h (n .1) (kept .1) (subst (λ q. AwaitedIn q (answersOf ks)) (sym tells) (a .1)) ∙ ap (λ q. runAsked q (answersOf ks)) tells)
         ∙ led-run p (k .answer) (answersOf ks)
 
 -- the access is answered, and so many answers fewer end the call
-asked-ends : {A : Type 0} (p : Prog A) (a : Answer) (n : ℕ) → Asks p → Ends p n → Awaited p (a ∷ []) → (m : ℕ) × (n ≡ suc m) × Ends (after p a) m
-unfolding Asks Ends Awaited after
+asked-ends : {A : Type 0} (p : Prog A) (a : Answer) (n : ℕ) → Asks p → Ends p n → Awaited p (a ∷ []) → (m : ℕ) × (n ≡ suc m) × Ends (leftAfter p a) m
+unfolding Asks Ends Awaited leftAfter
 asked-ends (ret v) a n k e w = absurd k
 asked-ends (ask x f) a zero k e w = absurd e
 asked-ends (ask x f) a (suc m) k e w = (m, refl, e a (w .0))
 asked-ends (note j p) a n k e w = asked-ends p a n k e w
 asked-ends (give b p) a n k e w = asked-ends p a n k e w
 
--- A call that ends within n answers takes at most n steps
+ends-now : {A : Type 0} (p : Prog A) → Ends p 0 → Asks p → ⊥
+unfolding Asks Ends
+ends-now (ret v) e k = absurd k
+ends-now (ask x f) e k = absurd e
+ends-now (note j p) e k = ends-now p e k
+ends-now (give b p) e k = ends-now p e k
+
+-- A call that ends within n answers takes at most n steps, and has ended after n
 pub steps-few : {A Told : Type 0} (said : Told → Asked (Prog A)) (Promise : Told → Answer → Told → Type 0) (Stands : Told → Type 0) → StepsOn said Promise Stands
-    → (t : Told) (ks : List (Step Told)) (n : ℕ) → Stands t → Kept Promise t ks → AwaitedIn (said t) (answersOf ks) → IfYes (λ p. Ends p n) (said t) → length ks ≤ n
-unfolding answersOf Kept AwaitedIn IfYes afterAsked
-steps-few said Promise Stands on t [] n s k w e = omega arith
+    → (t : Told) (ks : List (Exchange Told)) (n : ℕ) → Stands t → AllKept Promise t ks → AwaitedIn (said t) (answersOf ks) → IfYes (λ p. Ends p n) (said t) → Lasts said t ks n
+unfolding answersOf AllKept AwaitedIn IfYes leftAskedAfter lastTold
+steps-few {A} said Promise Stands on t [] n s k w e = record { few = omega arith; over = λ z. by (said t) (subst⁻¹ (λ m. IfYes (λ p. Ends p m) (said t)) z e) }
+  where
+    by : (q : Asked (Prog A)) → IfYes (λ p. Ends p 0) q → IfYes (λ p. Asks p → ⊥) q
+    by (no j) d = absurd d
+    by (yes p) d = ends-now p d
 steps-few {A} said Promise Stands on t (k ∷ ks) n s kept w e = by (said t) refl w e (steps-few said Promise Stands on (k .told) ks)
   where
     by : (q : Asked (Prog A)) → said t ≡ q → AwaitedIn q (k .answer ∷ answersOf ks) → IfYes (λ p. Ends p n) q
-        → ((m : ℕ) → Stands (k .told) → Kept Promise (k .told) ks → AwaitedIn (said (k .told)) (answersOf ks) → IfYes (λ p. Ends p m) (said (k .told)) → length ks ≤ m)
-        → suc (length ks) ≤ n
+        → ((m : ℕ) → Stands (k .told) → AllKept Promise (k .told) ks → AwaitedIn (said (k .told)) (answersOf ks) → IfYes (λ p. Ends p m) (said (k .told)) → Lasts said (k .told) ks m)
+        → Lasts said t (k ∷ ks) n
     by (no j) e w d h = absurd d
     by (yes p) e w d h =
         let a = awaited-first p (k .answer) (answersOf ks) w in
         let n′ = on t (k .told) (k .answer) s (kept .0) (subst (λ q. AwaitedIn q (k .answer ∷ [])) (sym e) (a .0)) in
-        let tells : said (k .told) ≡ yes (after p (k .answer)) = n′ .0 ∙ ap (λ q. afterAsked q (k .answer)) e in
+        let tells : said (k .told) ≡ yes (leftAfter p (k .answer)) = n′ .0 ∙ ap (λ q. leftAskedAfter q (k .answer)) e in
         let m = asked-ends p (k .answer) n (subst (IfYes Asks) e (n′ .2)) d (a .0) in
         let rest = h (m .0) (n′ .1) (kept .1) (subst (λ q. AwaitedIn q (answersOf ks)) (sym tells) (a .1)) (subst (IfYes (λ p. Ends p (m .0))) (sym tells) (m .2)) in
-        rw (m .1) (omega (arith, rest))
+        record { few = omega (arith, rest .few, m .1); over = λ z. rest .over (omega (arith, z, m .1)) }
 
 -- a refused opening has no run
-pub refused-runs : {A Told : Type 0} (said : Told → Asked (Prog A)) (t : Told) (ks : List (Step Told)) → Refuses (said t) → driven said t ks ≡ runAsked (said t) (answersOf ks)
+pub refused-runs : {A Told : Type 0} (said : Told → Asked (Prog A)) (t : Told) (ks : List (Exchange Told)) → Refuses (said t) → driven said t ks ≡ runAsked (said t) (answersOf ks)
 unfolding driven answersOf andThen runAsked Refuses
 refused-runs said t [] h = refl
 refused-runs {A} said t (k ∷ ks) h = by (said t) h
@@ -232,8 +243,8 @@ refused-runs {A} said t (k ∷ ks) h = by (said t) h
     by (no n) h = refl
     by (yes p) h = absurd h
 
--- ... and from an opening that keeps its promise the run of what it is to say
+-- from an opening that keeps its promise a call driven by its steps makes the run of what it is to say
 pub opened-runs : {A Told : Type 0} {o : Asked (Prog A)} (said : Told → Asked (Prog A)) (Promise : Told → Answer → Told → Type 0) (Stands : Told → Type 0) → StepsOn said Promise Stands
-    → (t : Told) (ks : List (Step Told)) → Keeps (said t ≡ o) (Stands t) → Kept Promise t ks → AwaitedIn o (answersOf ks) → driven said t ks ≡ runAsked (said t) (answersOf ks)
+    → (t : Told) (ks : List (Exchange Told)) → Keeps (said t ≡ o) (Stands t) → AllKept Promise t ks → AwaitedIn o (answersOf ks) → driven said t ks ≡ runAsked (said t) (answersOf ks)
 opened-runs said Promise Stands on t ks k kept w =
     driven-runs said Promise Stands on t ks (k .limits) kept (subst (λ q. AwaitedIn q (answersOf ks)) (sym (k .yields)) w)

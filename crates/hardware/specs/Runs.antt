@@ -1,5 +1,5 @@
 -- A call run over a list of answers.
-use Prim.Native.Nat.{ℕ, suc, zero}
+use Prim.Native.Nat.{ℕ, suc, zero, _≤_}
 use mathlib.Core.List.{List, [], _∷_}
 use lib.Dec.{T}
 use Rattle.hardware.specs.declared.Access.{Access}
@@ -7,6 +7,8 @@ use Rattle.hardware.specs.declared.Answer.{Answer}
 use Rattle.hardware.specs.declared.Meter.{Meter}
 use Rattle.hardware.specs.Asked.{Asked, no, yes, andThen, fits}
 use Rattle.hardware.specs.Prog.{Prog, ret, ask, note, give, Counted, attemptsAfter, metered}
+use lib.ListN.{length}
+use mathlib.Core.Path.{_≡_}
 
 -- how a run stands: it has ended, or waits for the answer to one more access
 pub data Status (A : Type 0) : Type 0 where
@@ -82,15 +84,15 @@ abbrev pub counted : {A : Type 0} → Meter → Run A → Run (Counted A)
 counted m r = record { accesses = r .accesses; bytes = r .bytes; status = countedStatus m (r .status) }
 
 -- what is left after the answer to the first access
-unfoldable pub after : {A : Type 0} → Prog A → Answer → Prog A
-after (ret v) a = ret v
-after (ask x f) a = f a
-after (note n p) a = after p a
-after (give b p) a = after p a
+unfoldable pub leftAfter : {A : Type 0} → Prog A → Answer → Prog A
+leftAfter (ret v) a = ret v
+leftAfter (ask x f) a = f a
+leftAfter (note n p) a = leftAfter p a
+leftAfter (give b p) a = leftAfter p a
 
-unfoldable pub afterAsked : {A : Type 0} → Asked (Prog A) → Answer → Asked (Prog A)
-afterAsked (no n) a = no n
-afterAsked (yes p) a = yes (after p a)
+unfoldable pub leftAskedAfter : {A : Type 0} → Asked (Prog A) → Answer → Asked (Prog A)
+leftAskedAfter (no n) a = no n
+leftAskedAfter (yes p) a = yes (leftAfter p a)
 
 -- an access is awaited
 unfoldable pub Asks : {A : Type 0} → Prog A → Type 0
@@ -99,24 +101,34 @@ Asks (ask x f) = Unit {0}
 Asks (note n p) = Asks p
 Asks (give b p) = Asks p
 
--- a fact of what an opening or a step says, where it did not refuse
+-- an opening or a step did not refuse, and P holds of what it says
 unfoldable pub IfYes : {A : Type 0} → (A → Type 0) → Asked A → Type 0
 IfYes P (no n) = ⊥
 IfYes P (yes a) = P a
 
 -- A step of a call as its host sees it: the answer that it was given, and what it then told
-pub record Step (Told : Type 0) : Type 0 where
+pub record Exchange (Told : Type 0) : Type 0 where
   pub answer : Answer
   pub told : Told
 
-unfoldable pub answersOf : {Told : Type 0} → List (Step Told) → List Answer
+unfoldable pub answersOf : {Told : Type 0} → List (Exchange Told) → List Answer
 answersOf [] = []
 answersOf (k ∷ ks) = k .answer ∷ answersOf ks
 
+-- what was told last
+unfoldable pub lastTold : {Told : Type 0} → Told → List (Exchange Told) → Told
+lastTold t [] = t
+lastTold t (k ∷ ks) = lastTold (k .told) ks
+
+-- there are at most n steps, and after n of them the call has ended
+pub record Lasts {A Told : Type 0} (said : Told → Asked (Prog A)) (t : Told) (ks : List (Exchange Told)) (n : ℕ) : Type 0 where
+  pub few : length ks ≤ n
+  pub over : length ks ≡ n → IfYes (λ p. Asks p → ⊥) (said (lastTold t ks))
+
 -- each step keeps its promise, of what was told before it and of what it tells itself
-unfoldable pub Kept : {Told : Type 0} → (Told → Answer → Told → Type 0) → Told → List (Step Told) → Type 0
-Kept Promise t [] = Unit {0}
-Kept Promise t (k ∷ ks) = Promise t (k .answer) (k .told) × Kept Promise (k .told) ks
+unfoldable pub AllKept : {Told : Type 0} → (Told → Answer → Told → Type 0) → Told → List (Exchange Told) → Type 0
+AllKept Promise t [] = Unit {0}
+AllKept Promise t (k ∷ ks) = Promise t (k .answer) (k .told) × AllKept Promise (k .told) ks
 
 -- What a host sees of p, told to it, and of the steps after it: the access is answered, the byte is handed out
 unfoldable pub led : {A : Type 0} → Prog A → Asked (Run A) → Asked (Run A)
@@ -126,7 +138,7 @@ led (note n p) rest = led p rest
 led (give b p) rest = andThen (led p rest) (λ r. yes (given b r))
 
 -- A call as its host drives it, from what was told first. said: what a telling says
-unfoldable pub driven : {A Told : Type 0} → (Told → Asked (Prog A)) → Told → List (Step Told) → Asked (Run A)
+unfoldable pub driven : {A Told : Type 0} → (Told → Asked (Prog A)) → Told → List (Exchange Told) → Asked (Run A)
 driven said t [] = runAsked (said t) []
 driven said t (k ∷ ks) = andThen (said t) (λ p. led p (driven said (k .told) ks))
 

@@ -56,12 +56,15 @@ unfolding start polling
 start-ends hicr =
     ends-try _ _ 1 (2 * POLLS) (write-ends _ _) (λ _. ends-try _ _ (2 * POLLS) 0 (poll-ends _ POLLS _) (λ last. completed-ends last))
 
+hicr-read-ends : (block : List ℕ) → Ends (hicrRead block) (1 + (length block + (1 + 2 * POLLS)))
+unfolding hicrRead enabled
+hicr-read-ends block =
+    ends-try _ _ 1 (length block + (1 + 2 * POLLS)) (read-ends _)
+    (λ hicr. ends-pick _ _ _ (length block + (1 + 2 * POLLS)) (ret-ends _ _) (words-ends 0 block _ (1 + 2 * POLLS) (start-ends hicr)))
+
 pub request-ends : (block : List ℕ) → Ends (request block) (REQUEST-STEPS (length block))
-unfolding request hicrRead enabled
-request-ends block =
-    ends-try _ _ 2 (1 + (length block + (1 + 2 * POLLS))) (unflushed-ends _ refl)
-    (λ _. ends-try _ _ 1 (length block + (1 + 2 * POLLS)) (read-ends _)
-    (λ hicr. ends-pick _ _ _ (length block + (1 + 2 * POLLS)) (ret-ends _ _) (words-ends 0 block _ (1 + 2 * POLLS) (start-ends hicr))))
+unfolding request
+request-ends block = ends-try _ _ 2 (1 + (length block + (1 + 2 * POLLS))) (unflushed-ends _ refl) (λ _. hicr-read-ends block)
 
 seen-ends : (again : List ℕ → Prog Left) (at : ℕ) (block : List ℕ) (m : ℕ) → ((l : List ℕ) → Ends (again l) m) → (r : R ℕ) → Ends (wordSeen again at block r) m
 unfolding wordSeen
@@ -146,12 +149,6 @@ commandAfter n (Releasing t s) = releaseBitsAfter t
 
 abbrev pub tokenAfter : Token → ℕ
 tokenAfter s = commandAfter 2 (s .command)
-
-hicr-read-ends : (block : List ℕ) → Ends (hicrRead block) (1 + (length block + (1 + 2 * POLLS)))
-unfolding hicrRead enabled
-hicr-read-ends block =
-    ends-try _ _ 1 (length block + (1 + 2 * POLLS)) (read-ends _)
-    (λ hicr. ends-pick _ _ _ (length block + (1 + 2 * POLLS)) (ret-ends _ _) (words-ends 0 block _ (1 + 2 * POLLS) (start-ends hicr)))
 
 drop-few : (n : ℕ) (l : List ℕ) → length (drop n l) ≤ length l
 unfolding drop

@@ -11,7 +11,7 @@ use Rattle.hardware.specs.declared.Answer.{Answer}
 use Rattle.hardware.specs.declared.Port.{Port}
 use Rattle.hardware.specs.Asked.{yes, andThen, question, openPort, fits, admitting, Asked, no}
 use Rattle.hardware.specs.Prog.{R, erase}
-use Rattle.hardware.specs.Runs.{run, runAsked, Awaited, ended, AwaitedIn, after, afterAsked, Step, answersOf, Kept, driven, Refuses, Asks, IfYes}
+use Rattle.hardware.specs.Runs.{run, runAsked, Awaited, ended, AwaitedIn, leftAfter, leftAskedAfter, Exchange, answersOf, AllKept, driven, Refuses, Asks, IfYes, Lasts}
 use Rattle.hardware.proofs.Laws.{runs-open, is-true, StepsOn, opened-runs, refused-runs, steps-few}
 use Rattle.hardware.proofs.Ends.{run-ends, ask-ends, ends-erase}
 use Rattle.hostif.specs.declared.command.Command.{Command}
@@ -55,8 +55,8 @@ standsAt t = standsCommand (t .told) (t .block) × (blockFits (t .block) ≡ tru
 
 block-on : (t : CommandTold) (b : List ℕ) (a : Answer) (u : CommandTold) (c : List ℕ) → standsCommand t b → blockFits b ≡ true → followsBlock t b a u c
     → AwaitedIn (asked (saidCommand t b)) (a ∷ [])
-    → (asked (saidCommand u c) ≡ afterAsked (asked (saidCommand t b)) a) × (standsCommand u c × (blockFits c ≡ true)) × IfYes Asks (asked (saidCommand t b))
-unfolding followsBlock saidCommand standsCommand asked AwaitedIn Awaited afterAsked after blockFits IfYes Asks
+    → (asked (saidCommand u c) ≡ leftAskedAfter (asked (saidCommand t b)) a) × (standsCommand u c × (blockFits c ≡ true)) × IfYes Asks (asked (saidCommand t b))
+unfolding followsBlock saidCommand standsCommand asked AwaitedIn Awaited leftAskedAfter leftAfter blockFits IfYes Asks
 block-on (CommandAsk y (CommandGoing port t)) b a u c h f k w =
     (ap asked (k .0 .yields ∙ command-accepts y port t b a h f (is-true (fits y a) (w .0))), (k .0 .limits, rw (k .1) f), tt)
 block-on (CommandAsk y CommandOver) b a u c h f k w = absurd h
@@ -82,7 +82,7 @@ command-refuses block (yes port) b e = rw e tt
 
 -- from the opening on, driven by steps that keep their promises, the block lent to each as the one before left it
 pub command-driven : (family device lan : ℕ) (block : List ℕ) (t : CommandTold) → Keeps (saidCommand t block ≡ openCommand family device lan block) (standsCommand t block)
-    → (ks : List (Step CommandAt)) → Kept followsCommand (record { told = t; block = block }) ks → AwaitedIn (asked (openCommand family device lan block)) (answersOf ks)
+    → (ks : List (Exchange CommandAt)) → AllKept followsCommand (record { told = t; block = block }) ks → AwaitedIn (asked (openCommand family device lan block)) (answersOf ks)
     → driven saidAt (record { told = t; block = block }) ks
     ≡ andThen (openPort family device lan) (λ port. question (blockFits block) 8 (yes (run (command port block) (answersOf ks))))
 unfolding openCommand
@@ -97,9 +97,9 @@ command-driven family device lan block t k ks kept w =
 
 -- from any state that passes question 10, whoever made it, the call takes at most so many steps more, with a block that only
 -- the steps alter
-pub command-lasts : (x : Access) (port : Port) (s : Command) (block : List ℕ) (ks : List (Step CommandAt)) → standsCommand (CommandAsk x (CommandGoing port s)) block → blockFits block ≡ true
-    → Kept followsCommand (record { told = CommandAsk x (CommandGoing port s); block = block }) ks
-    → AwaitedIn (saidAt (record { told = CommandAsk x (CommandGoing port s); block = block })) (answersOf ks) → length ks ≤ suc (commandAfter (length block) s)
+pub command-lasts : (x : Access) (port : Port) (s : Command) (block : List ℕ) (ks : List (Exchange CommandAt)) → standsCommand (CommandAsk x (CommandGoing port s)) block → blockFits block ≡ true
+    → AllKept followsCommand (record { told = CommandAsk x (CommandGoing port s); block = block }) ks
+    → AwaitedIn (saidAt (record { told = CommandAsk x (CommandGoing port s); block = block })) (answersOf ks) → Lasts saidAt (record { told = CommandAsk x (CommandGoing port s); block = block }) ks (suc (commandAfter (length block) s))
 unfolding saidCommand asked IfYes
 command-lasts x port s block ks h f k w =
     steps-few saidAt followsCommand standsAt command-on (record { told = CommandAsk x (CommandGoing port s); block = block }) ks (suc (commandAfter (length block) s)) (h, f) k w
@@ -120,20 +120,20 @@ unfolding standsToken stepToken admitting question
 token-accepts x port take t a h e = rw (h .1, ← h .0, e)
 
 token-on : StepsOn saidToken followsToken standsToken
-unfolding followsToken saidToken standsToken AwaitedIn Awaited afterAsked after IfYes Asks
+unfolding followsToken saidToken standsToken AwaitedIn Awaited leftAskedAfter leftAfter IfYes Asks
 token-on (TokenAsk y (TokenGoing port take t)) u a h k w = (k .yields ∙ token-accepts y port take t a h (is-true (fits y a) (w .0)), k .limits, tt)
 token-on (TokenAsk y TokenOver) u a h k w = absurd h
 token-on (TokenEnd b) u a h k w = absurd k
 token-on (TokenRefused q) u a h k w = absurd k
 
 -- from the opening on, driven by steps that keep their promises
-pub token-driven : (family device lan : ℕ) (take : Bool) (t : TokenTold) → Keeps (saidToken t ≡ openToken family device lan take) (standsToken t) → (ks : List (Step TokenTold)) → Kept followsToken t ks
+pub token-driven : (family device lan : ℕ) (take : Bool) (t : TokenTold) → Keeps (saidToken t ≡ openToken family device lan take) (standsToken t) → (ks : List (Exchange TokenTold)) → AllKept followsToken t ks
     → AwaitedIn (openToken family device lan take) (answersOf ks) → driven saidToken t ks ≡ andThen (openPort family device lan) (λ port. yes (run (token port take) (answersOf ks)))
 token-driven family device lan take t k ks kept w = opened-runs saidToken followsToken standsToken token-on t ks k kept w ∙ token-runs family device lan take t (k .yields) (answersOf ks)
 
 -- from any state that passes question 10, whoever made it, the call takes at most so many steps more
-pub token-lasts : (x : Access) (port : Port) (take : Bool) (s : Token) (ks : List (Step TokenTold)) → standsToken (TokenAsk x (TokenGoing port take s))
-    → Kept followsToken (TokenAsk x (TokenGoing port take s)) ks → AwaitedIn (saidToken (TokenAsk x (TokenGoing port take s))) (answersOf ks) → length ks ≤ suc (tokenAfter s)
+pub token-lasts : (x : Access) (port : Port) (take : Bool) (s : Token) (ks : List (Exchange TokenTold)) → standsToken (TokenAsk x (TokenGoing port take s))
+    → AllKept followsToken (TokenAsk x (TokenGoing port take s)) ks → AwaitedIn (saidToken (TokenAsk x (TokenGoing port take s))) (answersOf ks) → Lasts saidToken (TokenAsk x (TokenGoing port take s)) ks (suc (tokenAfter s))
 unfolding saidToken IfYes
 token-lasts x port take s ks h k w =
     steps-few saidToken followsToken standsToken token-on (TokenAsk x (TokenGoing port take s)) ks (suc (tokenAfter s)) h k w (ask-ends x _ (tokenAfter s) (λ a. ends-erase _ _ (token-rest-ends port take s a)))

@@ -1,7 +1,7 @@
--- Whole calls of the four transfers: for every port, device and number of attempts that are accepted, with lock or
--- without, and every list of answers the library's run is the Rust's, the count of the attempts in it beside the result,
--- and every list of answers of the awaited kinds that is long enough brings it to its end. A state that was handed out is
--- not refused at its next step.
+-- Whole calls of the four transfers and of `qsfp_setup`: for every port, device and number of attempts that are accepted,
+-- with lock or without, and every list of answers the library's run is the Rust's, the count of the attempts in it beside
+-- the result, and every list of answers of the awaited kinds that is long enough brings it to its end. A state that was
+-- handed out is not refused at its next step.
 use Prim.Native.Nat.{ℕ, _≤_, suc, _+_}
 use mathlib.Core.Path.{_≡_, refl, ap, _∙_}
 use mathlib.Core.Bool.{Bool, true, false}
@@ -15,7 +15,7 @@ use Rattle.hardware.specs.declared.Port.{Port}
 use Rattle.hardware.specs.Asked.{Asked, no, yes, andThen, question, openPort, fits, admitting}
 use Rattle.hardware.specs.Prog.{Prog, R, blank, tally, erase}
 use Rattle.hardware.specs.Change.{change, restUpdate}
-use Rattle.hardware.specs.Runs.{run, runAsked, Awaited, ended, meterIn, countedStatus, counted, AwaitedIn, after, afterAsked, Step, answersOf, Kept, driven, Asks, IfYes}
+use Rattle.hardware.specs.Runs.{run, runAsked, Awaited, ended, meterIn, countedStatus, counted, AwaitedIn, leftAfter, leftAskedAfter, Exchange, answersOf, AllKept, driven, Asks, IfYes, Lasts}
 use Rattle.hardware.proofs.Laws.{run-tally, is-true, StepsOn, opened-runs, steps-few}
 use Rattle.hardware.proofs.Ends.{run-ends, ask-ends, ends-erase, updateAfter, update-rest-ends, ends-tally, ends-more, ends-bind, ret-ends}
 use Rattle.i2c.specs.declared.How.{How}
@@ -88,14 +88,14 @@ unfolding standsTransfer stepTransfer admitting question
 transfer-accepts x port r how m s a h e = rw (h .1, ← h .0, e)
 
 transfer-on : StepsOn saidTransfer followsTransfer standsTransfer
-unfolding followsTransfer saidTransfer standsTransfer AwaitedIn Awaited afterAsked after IfYes Asks
+unfolding followsTransfer saidTransfer standsTransfer AwaitedIn Awaited leftAskedAfter leftAfter IfYes Asks
 transfer-on (Ask y (Going port r how m s)) u a h k w = (k .yields ∙ transfer-accepts y port r how m s a h (is-true (fits y a) (w .0)), k .limits, tt)
 transfer-on (Ask y Over) u a h k w = absurd h
 transfer-on (End v m) u a h k w = absurd k
 transfer-on (Refused q) u a h k w = absurd k
 
 -- from the opening on, driven by steps that keep their promises
-pub transfer-driven : (family device lan attempts : ℕ) (r : Request) (how : How) (t : TransferTold) → Keeps (saidTransfer t ≡ openTransfer family device lan r attempts how) (standsTransfer t) → (ks : List (Step TransferTold)) → Kept followsTransfer t ks
+pub transfer-driven : (family device lan attempts : ℕ) (r : Request) (how : How) (t : TransferTold) → Keeps (saidTransfer t ≡ openTransfer family device lan r attempts how) (standsTransfer t) → (ks : List (Exchange TransferTold)) → AllKept followsTransfer t ks
     → AwaitedIn (openTransfer family device lan r attempts how) (answersOf ks) → driven saidTransfer t ks ≡ andThen (openPort family device lan) (λ port.
     question (evenDevice r) 3 (question (leb attempts 255) 4
     (yes (counted (meterIn blank (transferred port r how (triesOf r attempts)) (answersOf ks)) (run (transferred port r how (triesOf r attempts)) (answersOf ks))))))
@@ -107,7 +107,7 @@ unfolding standsSetup stepSetup admitting question
 setup-accepts x s a h e = rw (← h, e)
 
 setup-on : StepsOn saidSetup followsSetup standsSetup
-unfolding followsSetup saidSetup standsSetup AwaitedIn Awaited afterAsked after IfYes Asks
+unfolding followsSetup saidSetup standsSetup AwaitedIn Awaited leftAskedAfter leftAfter IfYes Asks
 setup-on (SetupAsk y (SetupGoing s)) u a h k w = (k .yields ∙ setup-accepts y s a h (is-true (fits y a) (w .0)), k .limits, tt)
 setup-on (SetupAsk y SetupOver) u a h k w = absurd h
 setup-on (SetupEnd o) u a h k w = absurd k
@@ -117,19 +117,19 @@ pub setup-runs : (t : SetupTold) → saidSetup t ≡ yes (erase (change setupBus
 unfolding runAsked
 setup-runs t e l = ap (λ x. runAsked x l) e ∙ ap (λ f. yes (f l)) (run-erase (change setupBus))
 
-pub setup-driven : (t : SetupTold) → Keeps (saidSetup t ≡ yes (erase (change setupBus))) (standsSetup t) → (ks : List (Step SetupTold)) → Kept followsSetup t ks
+pub setup-driven : (t : SetupTold) → Keeps (saidSetup t ≡ yes (erase (change setupBus))) (standsSetup t) → (ks : List (Exchange SetupTold)) → AllKept followsSetup t ks
     → AwaitedIn (yes (erase (change setupBus))) (answersOf ks) → driven saidSetup t ks ≡ yes (run (change setupBus) (answersOf ks))
 setup-driven t k ks kept w = opened-runs saidSetup followsSetup standsSetup setup-on t ks k kept w ∙ setup-runs t (k .yields) (answersOf ks)
 
 -- from any state, whoever made it, the call takes at most so many steps more
-pub setup-lasts : (x : Access) (s : Update) (ks : List (Step SetupTold)) → standsSetup (SetupAsk x (SetupGoing s)) → Kept followsSetup (SetupAsk x (SetupGoing s)) ks
-    → AwaitedIn (saidSetup (SetupAsk x (SetupGoing s))) (answersOf ks) → length ks ≤ suc (updateAfter s)
+pub setup-lasts : (x : Access) (s : Update) (ks : List (Exchange SetupTold)) → standsSetup (SetupAsk x (SetupGoing s)) → AllKept followsSetup (SetupAsk x (SetupGoing s)) ks
+    → AwaitedIn (saidSetup (SetupAsk x (SetupGoing s))) (answersOf ks) → Lasts saidSetup (SetupAsk x (SetupGoing s)) ks (suc (updateAfter s))
 unfolding saidSetup IfYes
 setup-lasts x s ks h k w =
     steps-few saidSetup followsSetup standsSetup setup-on (SetupAsk x (SetupGoing s)) ks (suc (updateAfter s)) h k w (ask-ends x _ (updateAfter s) (λ a. ends-erase _ _ (update-rest-ends setupBus s a)))
 
-pub transfer-lasts : (x : Access) (port : Port) (r : Request) (how : How) (m : Meter) (s : Handshake) (ks : List (Step TransferTold)) → standsTransfer (Ask x (Going port r how m s))
-    → Kept followsTransfer (Ask x (Going port r how m s)) ks → AwaitedIn (saidTransfer (Ask x (Going port r how m s))) (answersOf ks) → length ks ≤ suc (handshakeAfter (port .family) r (how .lock) s)
+pub transfer-lasts : (x : Access) (port : Port) (r : Request) (how : How) (m : Meter) (s : Handshake) (ks : List (Exchange TransferTold)) → standsTransfer (Ask x (Going port r how m s))
+    → AllKept followsTransfer (Ask x (Going port r how m s)) ks → AwaitedIn (saidTransfer (Ask x (Going port r how m s))) (answersOf ks) → Lasts saidTransfer (Ask x (Going port r how m s)) ks (suc (handshakeAfter (port .family) r (how .lock) s))
 unfolding saidTransfer restCall givesValue IfYes
 transfer-lasts x port r how m s ks h k w =
     steps-few saidTransfer followsTransfer standsTransfer transfer-on (Ask x (Going port r how m s)) ks (suc (handshakeAfter (port .family) r (how .lock) s)) h k w

@@ -21,7 +21,7 @@ use hardware::change::Change;
 ghost use Prim.Native.Nat.{_+_, _<_, _≤_};
 ghost use mathlib.Core.Path.{_≡_};
 ghost use mathlib.Core.Bool.{true};
-ghost use Rattle.hardware.specs.Asked.{yes, validPort};
+ghost use Rattle.hardware.specs.Asked.{yes};
 ghost use Rattle.hardware.specs.Promise.{Keeps};
 ghost use Rattle.hardware.specs.Prog.{erase, followed, tally};
 ghost use Rattle.hardware.specs.Marks.{FULL};

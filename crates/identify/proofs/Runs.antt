@@ -12,7 +12,7 @@ use Rattle.hardware.specs.declared.Meter.{Meter}
 use Rattle.hardware.specs.declared.Port.{Port}
 use Rattle.hardware.specs.Asked.{yes, andThen, question, openPort, fits, admitting}
 use Rattle.hardware.specs.Prog.{Prog, R, Ok, Err, blank, tally}
-use Rattle.hardware.specs.Runs.{run, runAsked, Awaited, AwaitedIn, driven, ended, meterIn, counted, after, afterAsked, Step, answersOf, Kept, Asks, IfYes}
+use Rattle.hardware.specs.Runs.{run, runAsked, Awaited, AwaitedIn, driven, ended, meterIn, counted, leftAfter, leftAskedAfter, Exchange, answersOf, AllKept, Asks, IfYes, Lasts}
 use Rattle.hardware.proofs.Laws.{asked-runs, StepsOn, is-true, opened-runs, steps-few}
 use Rattle.hardware.proofs.Ends.{run-ends, ask-ends, ends-tally}
 use Rattle.i2c.specs.declared.once.Request.the-variants.{ReadByte}
@@ -29,7 +29,6 @@ use Rattle.sfp.specs.Qsfp.{qsfpTechnology, qsfpLength, qsfpConnector, qsfpClass
 use Rattle.sfp.specs.Steps.{IDENTIFY-STEPS}
 use Rattle.sfp.proofs.Ends.{identify-ends, QSFP-STEPS, qsfp-ends}
 use Rattle.identify.specs.declared.walk.Identify.{Identify}
-use Rattle.identify.specs.declared.calls.IdentifyCall.{IdentifyCall}
 use Rattle.identify.specs.declared.calls.IdentifyCall.the-variants.{Going, Over}
 use Rattle.identify.specs.declared.calls.IdentifyTold.{IdentifyTold}
 use Rattle.identify.specs.declared.calls.IdentifyTold.the-variants.{Ask, End, Refused}
@@ -64,18 +63,18 @@ unfolding standsIdentify stepIdentify admitting question
 identify-accepts x port q m s a h e = rw (h .1, ← h .0, e)
 
 identify-on : StepsOn saidIdentify followsIdentify standsIdentify
-unfolding followsIdentify saidIdentify standsIdentify AwaitedIn Awaited afterAsked after IfYes Asks
+unfolding followsIdentify saidIdentify standsIdentify AwaitedIn Awaited leftAskedAfter leftAfter IfYes Asks
 identify-on (Ask y (Going port q m s)) u a h k w = (k .yields ∙ identify-accepts y port q m s a h (is-true (fits y a) (w .0)), k .limits, tt)
 identify-on (Ask y Over) u a h k w = absurd h
 identify-on (End f m) u a h k w = absurd k
 identify-on (Refused q) u a h k w = absurd k
 
 -- from the opening on, driven by steps that keep their promises
-pub identify-driven : (family device lan : ℕ) (t : IdentifyTold) → Keeps (saidIdentify t ≡ openIdentify family device lan) (standsIdentify t) → (ks : List (Step IdentifyTold)) → Kept followsIdentify t ks
+pub identify-driven : (family device lan : ℕ) (t : IdentifyTold) → Keeps (saidIdentify t ≡ openIdentify family device lan) (standsIdentify t) → (ks : List (Exchange IdentifyTold)) → AllKept followsIdentify t ks
     → AwaitedIn (openIdentify family device lan) (answersOf ks) → driven saidIdentify t ks ≡ andThen (openPort family device lan) (λ port. yes (counted (meterIn blank (identify standard port) (answersOf ks)) (run (identify standard port) (answersOf ks))))
 identify-driven family device lan t k ks kept w = opened-runs saidIdentify followsIdentify standsIdentify identify-on t ks k kept w ∙ identify-runs family device lan t (k .yields) (answersOf ks)
 
-pub qsfp-driven : (family device lan : ℕ) (t : IdentifyTold) → Keeps (saidIdentify t ≡ openQsfp family device lan) (standsIdentify t) → (ks : List (Step IdentifyTold)) → Kept followsIdentify t ks
+pub qsfp-driven : (family device lan : ℕ) (t : IdentifyTold) → Keeps (saidIdentify t ≡ openQsfp family device lan) (standsIdentify t) → (ks : List (Exchange IdentifyTold)) → AllKept followsIdentify t ks
     → AwaitedIn (openQsfp family device lan) (answersOf ks) → driven saidIdentify t ks ≡ andThen (openPort family device lan) (λ port. yes (counted (meterIn blank (identifyQsfp standard port) (answersOf ks)) (run (identifyQsfp standard port) (answersOf ks))))
 qsfp-driven family device lan t k ks kept w = opened-runs saidIdentify followsIdentify standsIdentify identify-on t ks k kept w ∙ qsfp-runs family device lan t (k .yields) (answersOf ks)
 
@@ -129,8 +128,8 @@ qsfp-paired q port l =
     (pairs-ret false _)))
 
 -- from any state that passes question 10, whoever made it, the call takes at most so many steps more
-pub identify-lasts : (x : Access) (port : Port) (q : Sequence) (m : Meter) (s : Identify) (ks : List (Step IdentifyTold)) → standsIdentify (Ask x (Going port q m s))
-    → Kept followsIdentify (Ask x (Going port q m s)) ks → AwaitedIn (saidIdentify (Ask x (Going port q m s))) (answersOf ks) → length ks ≤ suc (identifyAfter (port .family) s)
+pub identify-lasts : (x : Access) (port : Port) (q : Sequence) (m : Meter) (s : Identify) (ks : List (Exchange IdentifyTold)) → standsIdentify (Ask x (Going port q m s))
+    → AllKept followsIdentify (Ask x (Going port q m s)) ks → AwaitedIn (saidIdentify (Ask x (Going port q m s))) (answersOf ks) → Lasts saidIdentify (Ask x (Going port q m s)) ks (suc (identifyAfter (port .family) s))
 unfolding saidIdentify IfYes
 identify-lasts x port q m s ks h k w =
     steps-few saidIdentify followsIdentify standsIdentify identify-on (Ask x (Going port q m s)) ks (suc (identifyAfter (port .family) s)) h k w

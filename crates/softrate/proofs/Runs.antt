@@ -12,7 +12,7 @@ use Rattle.hardware.specs.declared.Meter.{Meter}
 use Rattle.hardware.specs.declared.Port.{Port}
 use Rattle.hardware.specs.Asked.{yes, andThen, question, openPort, fits, admitting}
 use Rattle.hardware.specs.Prog.{Prog, R, Ok, Err, blank, tally}
-use Rattle.hardware.specs.Runs.{run, runAsked, Awaited, AwaitedIn, driven, ended, meterIn, counted, after, afterAsked, Step, answersOf, Kept, Asks, IfYes, Ends}
+use Rattle.hardware.specs.Runs.{run, runAsked, Awaited, AwaitedIn, driven, ended, meterIn, counted, leftAfter, leftAskedAfter, Exchange, answersOf, AllKept, Asks, IfYes, Ends, Lasts}
 use Rattle.hardware.proofs.Laws.{asked-runs, StepsOn, is-true, opened-runs, steps-few}
 use Rattle.hardware.proofs.Ends.{run-ends, ask-ends, ends-tally, ends-more, ends-bind, ret-ends}
 use Rattle.i2c.specs.declared.once.Request.the-variants.{ReadByte, WriteByte}
@@ -24,7 +24,6 @@ use Rattle.i2c.proofs.Paired.{transferred-pairs}
 use Rattle.sfp.specs.Rate.{DIAG, orNot, selected, rateByte, softRateSelect}
 use Rattle.sfp.proofs.Ends.{RATE-STEPS, rate-ends, BYTE-STEPS, WRITTEN-STEPS, not-ends, rate-byte-ends}
 use Rattle.softrate.specs.declared.walk.Rate.{Rate}
-use Rattle.softrate.specs.declared.calls.RateCall.{RateCall}
 use Rattle.softrate.specs.declared.calls.RateCall.the-variants.{Going, Over}
 use Rattle.softrate.specs.declared.calls.RateTold.{RateTold}
 use Rattle.softrate.specs.declared.calls.RateTold.the-variants.{Ask, End, Refused}
@@ -55,14 +54,14 @@ unfolding standsRate stepRate admitting question
 rate-accepts x port q ten m s a h e = rw (h .1, ← h .0, e)
 
 rate-on : StepsOn saidRate followsRate standsRate
-unfolding followsRate saidRate standsRate AwaitedIn Awaited afterAsked after IfYes Asks
+unfolding followsRate saidRate standsRate AwaitedIn Awaited leftAskedAfter leftAfter IfYes Asks
 rate-on (Ask y (Going port q ten m s)) u a h k w = (k .yields ∙ rate-accepts y port q ten m s a h (is-true (fits y a) (w .0)), k .limits, tt)
 rate-on (Ask y Over) u a h k w = absurd h
 rate-on (End f m) u a h k w = absurd k
 rate-on (Refused q) u a h k w = absurd k
 
 -- from the opening on, driven by steps that keep their promises
-pub rate-driven : (family device lan : ℕ) (ten : Bool) (t : RateTold) → Keeps (saidRate t ≡ openRate family device lan ten) (standsRate t) → (ks : List (Step RateTold)) → Kept followsRate t ks
+pub rate-driven : (family device lan : ℕ) (ten : Bool) (t : RateTold) → Keeps (saidRate t ≡ openRate family device lan ten) (standsRate t) → (ks : List (Exchange RateTold)) → AllKept followsRate t ks
     → AwaitedIn (openRate family device lan ten) (answersOf ks) → driven saidRate t ks ≡ andThen (openPort family device lan) (λ port. yes (counted (meterIn blank (softRateSelect standard port ten) (answersOf ks)) (run (softRateSelect standard port ten) (answersOf ks))))
 rate-driven family device lan ten t k ks kept w = opened-runs saidRate followsRate standsRate rate-on t ks k kept w ∙ rate-runs family device lan ten t (k .yields) (answersOf ks)
 
@@ -121,8 +120,8 @@ module _ (q : Sequence) (port : Port) (ten : Bool) where
       (s .request) a
 
 -- from any state that passes question 10, whoever made it, the call takes at most so many steps more
-pub rate-lasts : (x : Access) (port : Port) (q : Sequence) (ten : Bool) (m : Meter) (s : Rate) (ks : List (Step RateTold)) → standsRate (Ask x (Going port q ten m s))
-    → Kept followsRate (Ask x (Going port q ten m s)) ks → AwaitedIn (saidRate (Ask x (Going port q ten m s))) (answersOf ks) → length ks ≤ suc (rateAfter (port .family) ten s)
+pub rate-lasts : (x : Access) (port : Port) (q : Sequence) (ten : Bool) (m : Meter) (s : Rate) (ks : List (Exchange RateTold)) → standsRate (Ask x (Going port q ten m s))
+    → AllKept followsRate (Ask x (Going port q ten m s)) ks → AwaitedIn (saidRate (Ask x (Going port q ten m s))) (answersOf ks) → Lasts saidRate (Ask x (Going port q ten m s)) ks (suc (rateAfter (port .family) ten s))
 unfolding saidRate IfYes
 rate-lasts x port q ten m s ks h k w =
     steps-few saidRate followsRate standsRate rate-on (Ask x (Going port q ten m s)) ks (suc (rateAfter (port .family) ten s)) h k w

@@ -12,7 +12,7 @@ use Rattle.hardware.specs.Asked.{yes, andThen, openPort}
 use Rattle.hardware.specs.Prog.{Prog, ret, ask, note, give, R, Ok, Err, orErr, pick, _>>=_, blank}
 use Rattle.hardware.specs.Promise.{Keeps}
 use Rattle.hardware.specs.Registers.{raw}
-use Rattle.hardware.specs.Runs.{run, onAnswer, ended, meterIn, counted, AwaitedIn, Step, answersOf, Kept, driven}
+use Rattle.hardware.specs.Runs.{run, onAnswer, ended, meterIn, counted, AwaitedIn, Exchange, answersOf, AllKept, driven}
 use Rattle.bus.specs.declared.Layout.{Layout}
 use Rattle.bus.specs.declared.Taken.{Taken}
 use Rattle.bus.specs.declared.command.Command.{Command}
@@ -219,7 +219,7 @@ bytes-first (give b p) l m = let r = bytes-first p l m in (r .0, ap (λ t. b ∷
 -- the same of the library: what its host is told from the opening on is the run in which each byte goes out at once
 pub script-hands-out : (family device lan : ℕ) (s : List ℕ) (t : ScriptTold) → judged s ≡ 0
     → Keeps (saidScript t s ≡ openScript family device lan s) (standsScript t s)
-    → (ks : List (Step ScriptTold)) → Kept (followsScript s) t ks → AwaitedIn (openScript family device lan s) (answersOf ks)
+    → (ks : List (Exchange ScriptTold)) → AllKept (followsScript s) t ks → AwaitedIn (openScript family device lan s) (answersOf ks)
     → driven (λ t. saidScript t s) t ks
     ≡ andThen (openPort family device lan) (λ port. yes (counted (meterIn blank (script port s) (answersOf ks)) (run (scriptGiving port s) (answersOf ks))))
 script-hands-out family device lan s t h k ks kept w =

@@ -13,7 +13,7 @@ use Rattle.hardware.specs.declared.Answer.{Answer}
 use Rattle.hardware.specs.declared.Port.{Port}
 use Rattle.hardware.specs.Asked.{Asked, no, yes, andThen, question, openPort, fits, admitting}
 use Rattle.hardware.specs.Prog.{Prog, R, blank, tally, _>>=_}
-use Rattle.hardware.specs.Runs.{run, runAsked, Ends, Awaited, ended, transfersIn, meterIn, counted, AwaitedIn, after, afterAsked, Step, answersOf, Kept, driven, Refuses, Asks, IfYes}
+use Rattle.hardware.specs.Runs.{run, runAsked, Ends, Awaited, ended, transfersIn, meterIn, counted, AwaitedIn, leftAfter, leftAskedAfter, Exchange, answersOf, AllKept, driven, Refuses, Asks, IfYes, Lasts}
 use Rattle.hardware.proofs.Laws.{run-tally, is-true, StepsOn, opened-runs, refused-runs, steps-few}
 use Rattle.hardware.proofs.Ends.{ends-more, ends-bind, ret-ends, run-ends, ask-ends, ends-tally}
 use Rattle.bus.specs.declared.Taken.{Taken}
@@ -96,7 +96,7 @@ unfolding standsScript stepScript steppedScript admitting question
 script-read-accepts b x port t s a h j e = judged-yes s _ j ∙ (rw (h .1, ← h .0, e))
 
 script-on : (s : List ℕ) → judged s ≡ 0 → StepsOn (λ t. saidScript t s) (followsScript s) (λ t. standsScript t s)
-unfolding followsScript saidScript standsScript AwaitedIn Awaited afterAsked after IfYes Asks
+unfolding followsScript saidScript standsScript AwaitedIn Awaited leftAskedAfter leftAfter IfYes Asks
 script-on s j (Ask y (Going port t)) u a h k w = (k .yields ∙ script-accepts y port t s a h j (is-true (fits y a) (w .0)), k .limits, tt)
 script-on s j (Ask y Over) u a h k w = absurd h
 script-on s j (Read b y (Going port t)) u a h k w = (k .yields ∙ script-read-accepts b y port t s a h j (is-true (fits y a) (w .0)), k .limits, tt)
@@ -106,7 +106,7 @@ script-on s j (Refused q) u a h k w = absurd k
 
 -- from the opening on, driven by steps that keep their promises, the script lent at each; the bytes handed out are in the run
 pub script-driven : (family device lan : ℕ) (s : List ℕ) (t : ScriptTold) → Keeps (saidScript t s ≡ openScript family device lan s) (standsScript t s)
-    → (ks : List (Step ScriptTold)) → Kept (followsScript s) t ks → AwaitedIn (openScript family device lan s) (answersOf ks)
+    → (ks : List (Exchange ScriptTold)) → AllKept (followsScript s) t ks → AwaitedIn (openScript family device lan s) (answersOf ks)
     → driven (λ t. saidScript t s) t ks
     ≡ andThen (openPort family device lan) (λ port. judgedThen s (yes (counted (meterIn blank (script port s) (answersOf ks)) (run (script port s) (answersOf ks)))))
 unfolding openScript andThen judgedThen question Refuses
@@ -129,8 +129,8 @@ script-rest-ends port s t a h =
 
 -- from any state that passes question 10, whoever made it, the call takes at most so many steps more with any accepted script
 -- that is lent at each of them
-pub script-lasts : (x : Access) (port : Port) (s : List ℕ) (t : Attempt) (ks : List (Step ScriptTold)) → judged s ≡ 0 → standsScript (Ask x (Going port t)) s
-    → Kept (followsScript s) (Ask x (Going port t)) ks → AwaitedIn (saidScript (Ask x (Going port t)) s) (answersOf ks) → length ks ≤ suc (attemptAfter t)
+pub script-lasts : (x : Access) (port : Port) (s : List ℕ) (t : Attempt) (ks : List (Exchange ScriptTold)) → judged s ≡ 0 → standsScript (Ask x (Going port t)) s
+    → AllKept (followsScript s) (Ask x (Going port t)) ks → AwaitedIn (saidScript (Ask x (Going port t)) s) (answersOf ks) → Lasts (λ u. saidScript u s) (Ask x (Going port t)) ks (suc (attemptAfter t))
 unfolding saidScript IfYes
 script-lasts x port s t ks j h k w =
     steps-few (λ u. saidScript u s) (followsScript s) (λ u. standsScript u s) (script-on s j) (Ask x (Going port t)) ks (suc (attemptAfter t)) h k w

@@ -1,4 +1,5 @@
 pub mod Ends
 pub mod Laws
+pub mod Spares
 pub mod MuxFails
 pub mod Runs

@@ -1,33 +1,38 @@
 -- An acquire whose write to the mux register fails reports the failure with its bits still taken, whatever was answered
--- before. The mux register is ESDP; a mask without TOKEN takes nothing but bits of SW_FW_SYNC.
-use Prim.Native.Nat.{ℕ, suc, zero}
+-- before. The mux register is ESDP. It is written when the mux is switched, behind the bits; with TOKEN also when it is switched back, where
+-- the token was asked for and did not come.
+use Prim.Native.Nat.{ℕ, _+_, suc, zero}
 use mathlib.Core.Path.{_≡_, refl, ap, _∙_, sym, subst}
 use mathlib.Core.Bool.{Bool, true, false, false≢true}
 use mathlib.Core.List.{List, [], _∷_, _++_, append-nil, append-assoc}
+use mathlib.Core.Logic.{_⊎_, inl, inr}
 use native.Mathlib.Omega.{arith}
 use lib.Bits.{bitOr}
 use lib.Dec.{eqb}
 use Rattle.hardware.specs.declared.Access.{Access}
-use Rattle.hardware.specs.declared.Access.the-variants.{Read, Write, Wait}
+use Rattle.hardware.specs.declared.Access.the-variants.{Read, Write}
 use Rattle.hardware.specs.declared.Answer.{Answer}
 use Rattle.hardware.specs.declared.Answer.the-variants.{Value, Done, Failed}
-use Rattle.hardware.specs.Failures.{Io, Removed}
+use Rattle.hardware.specs.Failures.{Failure, Io, Removed}
 use Rattle.hardware.specs.declared.Family.{Family}
-use Rattle.hardware.specs.declared.Family.the-variants.{X552, X553}
+use Rattle.hardware.specs.declared.Family.the-variants.{X552}
 use Rattle.hardware.specs.declared.Port.{Port}
+use Rattle.hardware.specs.declared.change.Bits.{Bits}
+use Rattle.hardware.specs.declared.change.Bits.the-variants.{Set, Clear}
 use Rattle.hardware.specs.declared.change.Change.{Change}
-use Rattle.hardware.specs.declared.poll.Watch.{Watch}
 use Rattle.hardware.specs.Asked.{is}
 use Rattle.hardware.specs.Prog.{Prog, ret, ask, note, give, R, Ok, Err, orErr, _>>=_, _>>?_, pick}
-use Rattle.hardware.specs.Registers.{ESDP, noneOf, checked, written, flushed, flush}
+use Rattle.hardware.specs.Registers.{ESDP, noneOf, checked, raw, written, flushed, flush}
 use Rattle.hardware.specs.Change.{changed, settled, stored, change}
 use Rattle.hardware.specs.Poll.{polled, poll}
 use Rattle.hardware.specs.Runs.{Status, run, onAnswer, ended, waiting}
-use Rattle.sync.specs.Regs.{TRIES, I2C, TOKEN, tries, swsm, swFwSync, bits, bitsX540, mux, setMux, backSwsm, clearSync, smbiWatch, regsmpWatch}
-use Rattle.sync.specs.Lock.{swesmbi, swesmbiSeen, lapsed, swesmbiDone, regsmpDone, second, smbiDone, lock, unlock}
-use Rattle.sync.specs.Resource.{muxed, taken, free, syncSeen, against, acquireTries, acquireBits}
-use Rattle.hostif.specs.Acquire.{hwOf, acquiredAll, acquire}
+use Rattle.sync.specs.Regs.{I2C, TOKEN, tries, swFwSync, bits, bitsX540, mux, setMux, backSwsm, clearSync, smbiWatch, regsmpWatch, releaseUs}
+use Rattle.sync.specs.Lock.{regsmpDone, second, smbiDone, lock, unlock}
+use Rattle.sync.specs.Resource.{muxed, taken, free, syncSeen, against, acquireTries, acquireBits, settle, cleared, clearBits, clearing, unmuxed, releaseBits}
+use Rattle.hostif.specs.Hostif.{header, lenOf, statusOf, wordsOf, words, completed, polling, start, enabled, hicrRead, request, fill, headSeen, respond, both, closed, released, requested, acquired, command, tokenSecond, tokenBlock, tokenStatus, tokened, token}
+use Rattle.hostif.specs.Acquire.{TOKEN-TRIES, hwOf, withBits, acquiredAll, notGranted, givenBack, tokenSeen, acquireToken, acquire}
 use Rattle.hostif.proofs.Plain.{acquire-plain}
+use Rattle.acquire.proofs.Spares.{toMux, Spares, spares-one, sync-spared, lock-spares, unlock-spares, unmuxed-spares, token-spares, alone-spares}
 
 abbrev pub History : Type 0
 History = List (Access × Answer)
@@ -50,118 +55,38 @@ pub record StillTaken (family : Family) (mask : ℕ) (h : History) : Type 0 wher
   pub unlocked : (run (unlock family) unlocking) .status ≡ ended (Ok tt)
   pub exchange : h ≡ before ++ ((Write (swFwSync family) (bitOr sync (bits family mask .sw)), Done) ∷ (exchanged (unlock family) unlocking ++ ((Read ESDP, Value esdp) ∷ [])))
 
--- an acquire of a mask, run over l, awaits the write of v to ESDP: a failure ends it there
-pub record MuxFails (port : Port) (mask v : ℕ) (l : List Answer) : Type 0 where
+-- The bits are taken, and the mux is switched where the port has one, by calls that succeeded
+pub record Took (port : Port) (mask : ℕ) (h : History) : Type 0 where
+  pub before : History
+  pub sync : ℕ
+  pub unlocking : List Answer
+  pub switching : List Answer
+  pub unlocked : (run (unlock (port .family)) unlocking) .status ≡ ended (Ok tt)
+  pub switched : (run (muxed port mask true) switching) .status ≡ ended (Ok tt)
+  pub exchange : h ≡ before ++ ((Write (swFwSync (port .family)) (bitOr sync (bits (port .family) mask .sw)), Done) ∷ (exchanged (unlock (port .family)) unlocking ++ exchanged (muxed port mask true) switching))
+
+-- They are taken, behind that the token was asked for and did not come, ESDP was read, and that is all
+pub record StillHeld (port : Port) (mask : ℕ) (h : History) : Type 0 where
+  pub first : History
+  pub took : Took port mask first
+  pub asking : List Answer
+  pub answer : R Bool
+  pub esdp : ℕ
+  pub answered : (run (token port true) asking) .status ≡ ended answer
+  pub denied : answer ≡ Ok true → ⊥
+  pub exchange : h ≡ first ++ (exchanged (token port true) asking ++ ((Read ESDP, Value esdp) ∷ []))
+
+-- an acquire of a mask, run over l, awaits the write of v to ESDP: a failure ends it there. Taken: what was exchanged before
+pub record MuxFails (Taken : History → Type 0) (port : Port) (mask v : ℕ) (l : List Answer) : Type 0 where
   pub result : (run (acquire port mask) (l ++ Failed ∷ [])) .status ≡ ended (Err Io)
   pub accesses : (run (acquire port mask) (l ++ Failed ∷ [])) .accesses ≡ (run (acquire port mask) l) .accesses ++ Write ESDP v ∷ []
-  pub taken : StillTaken (port .family) (hwOf mask) (exchanged (acquire port mask) l)
+  pub taken : Taken (exchanged (acquire port mask) l)
 
-abbrev toMux : Access → Bool
-toMux (Read r) = false
-toMux (Write r v) = eqb r ESDP
-toMux (Wait n) = false
+busy : _≡_ {A = R Bool} (Ok false) (Ok true) → ⊥
+busy e = false≢true cc
 
--- calls that do not write to ESDP
-
-unfoldable Spares : {A : Type 0} → Prog A → Type 0
-Spares (ret v) = Unit {0}
-Spares (ask x f) = (toMux x ≡ false) × ((a : Answer) → Spares (f a))
-Spares (note n p) = Spares p
-Spares (give b p) = Spares p
-
-spares-bind : {A B : Type 0} (p : Prog A) (k : A → Prog B) → Spares p → ((a : A) → Spares (k a)) → Spares (p >>= k)
-unfolding Spares _>>=_
-spares-bind (ret a) k e d = d a
-spares-bind (ask x f) k e d = (e .0, λ a. spares-bind (f a) k (e .1 a) d)
-spares-bind (note n p) k e d = spares-bind p k e d
-spares-bind (give b p) k e d = spares-bind p k e d
-
-spares-or : {A B : Type 0} (k : A → Prog (R B)) (r : R A) → ((a : A) → Spares (k a)) → Spares (orErr k r)
-unfolding Spares orErr
-spares-or k (Ok a) d = d a
-spares-or k (Err e) d = tt
-
-spares-try : {A B : Type 0} (p : Prog (R A)) (k : A → Prog (R B)) → Spares p → ((a : A) → Spares (k a)) → Spares (p >>? k)
-spares-try p k e d = spares-bind p (orErr k) e (λ r. spares-or k r d)
-
-spares-pick : {A : Type 0} (b : Bool) (p q : Prog A) → Spares p → Spares q → Spares (pick b p q)
-unfolding pick
-spares-pick true p q e d = e
-spares-pick false p q e d = d
-
-spares-ret : {A : Type 0} (v : A) → Spares (ret v)
-unfolding Spares
-spares-ret v = tt
-
-spares-ask : {A : Type 0} (x : Access) (f : Answer → Prog A) → toMux x ≡ false → ((a : Answer) → Spares (f a)) → Spares (ask x f)
-unfolding Spares
-spares-ask x f e d = (e, d)
-
--- one access and the end
-spares-one : {A : Type 0} (x : Access) (f : Answer → A) → toMux x ≡ false → Spares (ask x (λ a. ret (f a)))
-spares-one x f e = spares-ask x _ e (λ a. spares-ret _)
-
-settled-spares : (b : Bool) → Spares (settled b)
-unfolding settled
-settled-spares true = spares-one _ _ refl
-settled-spares false = spares-ret _
-
-change-spares : (c : Change) → eqb (c .register) ESDP ≡ false → Spares (change c)
-unfolding change stored
-change-spares c e =
-    spares-try _ _ (spares-one _ _ refl) (λ v. spares-try _ _ (spares-one _ _ e) (λ _. settled-spares _))
-
-poll-spares : (w : Watch) (n last : ℕ) → Spares (poll w n last)
-unfolding poll polled
-poll-spares w zero last = spares-ret _
-poll-spares w (suc n) last =
-    spares-try _ _ (spares-one _ _ refl)
-    (λ v. spares-pick _ _ _ (spares-ret _) (spares-try _ _ (spares-one _ _ refl) (λ _. poll-spares w n v)))
-
-swesmbi-spares : (n : ℕ) → Spares (swesmbi n)
-unfolding swesmbi swesmbiSeen
-swesmbi-spares zero = spares-ret _
-swesmbi-spares (suc n) =
-    spares-try _ _ (change-spares _ refl)
-    (λ _. spares-try _ _ (spares-one _ _ refl) (λ v. spares-pick _ _ _ (spares-ask _ _ refl (λ _. swesmbi-spares n)) (spares-ret _)))
-
-swsm-spared : (f : Family) → eqb (swsm f) ESDP ≡ false
-unfolding swsm pick
-swsm-spared f = by (is f X553)
-  where
-    by : (b : Bool) → eqb (pick b 0x15f70 0x10140) ESDP ≡ false
-    by true = refl
-    by false = refl
-
-sync-spared : (f : Family) → eqb (swFwSync f) ESDP ≡ false
-unfolding swFwSync pick
-sync-spared f = by (is f X553)
-  where
-    by : (b : Bool) → eqb (pick b 0x15f78 0x10160) ESDP ≡ false
-    by true = refl
-    by false = refl
-
-back-spares : (f : Family) → Spares (change (backSwsm f))
-unfolding backSwsm
-back-spares f = change-spares _ (swsm-spared f)
-
-lapsed-spares : (f : Family) (held : ℕ) → Spares (lapsed f held)
-unfolding lapsed Spares
-lapsed-spares f held = spares-try _ _ (back-spares f) (λ _. tt)
-
-second-spares : (f : Family) → Spares (second f)
-unfolding second swesmbiDone regsmpDone
-second-spares f =
-    spares-pick _ _ _ (spares-try _ _ (swesmbi-spares TRIES) (λ got. spares-pick _ _ _ (spares-ret _) (lapsed-spares f _)))
-    (spares-try _ _ (poll-spares _ TRIES 0) (λ v. spares-pick _ _ _ (spares-ret _) (lapsed-spares f _)))
-
-lock-spares : (f : Family) → Spares (lock f)
-unfolding lock smbiDone Spares
-lock-spares f = spares-try _ _ (poll-spares _ TRIES 0) (λ v. spares-pick _ _ _ (second-spares f) tt)
-
-unlock-spares : (f : Family) → Spares (unlock f)
-unfolding unlock clearSync
-unlock-spares f = spares-pick _ _ _ (back-spares f) (spares-try _ _ (change-spares _ (sync-spared f)) (λ _. back-spares f))
+failed : (f : Failure) → _≡_ {A = R Bool} (Err f) (Ok true) → ⊥
+failed f e = let z : _≡_ {A = ℕ} 0 1 = cc in omega arith
 
 waiting-same : {A : Type 0} {x y : Access} → _≡_ {A = Status A} (waiting x) (waiting y) → x ≡ y
 waiting-same e = cc
@@ -169,58 +94,80 @@ waiting-same e = cc
 ended-not : {A : Type 0} {v : A} {x : Access} → ended v ≡ waiting x → ⊥
 ended-not e = let z : _≡_ {A = ℕ} 0 1 = cc in omega arith
 
--- h happened before. Where a write to ESDP is reached, the history is Good, and its failure ends the call with Io
+-- what is left behind says nothing of the end
+abbrev Any : {A : Type 0} → History → R A → Type 0
+Any h r = Unit {0}
+
+-- h happened before. Where a write to ESDP is reached, the history is Good, and its failure ends the call with Io; at an end it is as Post says
+unfoldable Leads : {A : Type 0} → (History → Type 0) → (History → R A → Type 0) → History → Prog (R A) → Type 0
+Leads Good Post h (ret v) = Post h v
+Leads Good Post h (ask x f) = (toMux x ≡ true → Good h × (f Failed ≡ ret (Err Io))) × ((a : Answer) → Leads Good Post (h ++ (x, a) ∷ []) (f a))
+Leads Good Post h (note n p) = Leads Good Post h p
+Leads Good Post h (give b p) = Leads Good Post h p
+
+leads-more : {A : Type 0} (Good Good′ : History → Type 0) (Post Post′ : History → R A → Type 0) → ((g : History) → Good g → Good′ g) → ((g : History) (r : R A) → Post g r → Post′ g r)
+    → (h : History) (p : Prog (R A)) → Leads Good Post h p → Leads Good′ Post′ h p
+unfolding Leads
+leads-more Good Good′ Post Post′ good post h (ret v) e = post h v e
+leads-more Good Good′ Post Post′ good post h (ask x f) e = (λ t. (good h (e .0 t .0), e .0 t .1), λ a. leads-more Good Good′ Post Post′ good post _ (f a) (e .1 a))
+leads-more Good Good′ Post Post′ good post h (note n p) e = leads-more Good Good′ Post Post′ good post h p e
+leads-more Good Good′ Post Post′ good post h (give b p) e = leads-more Good Good′ Post Post′ good post h p e
+
+-- the history at an end is what p was run over, behind h
+abbrev Ran : {A : Type 0} → History → Prog (R A) → History → R A → Type 0
+Ran h p g r = (l : List Answer) × ((run p l) .status ≡ ended r) × (g ≡ h ++ exchanged p l)
+
+leads-ran : {A : Type 0} (Good : History → Type 0) (h : History) (p : Prog (R A)) → Leads Good Any h p → Leads Good (Ran h p) h p
+unfolding Leads exchanged run onAnswer
+leads-ran Good h (ret v) e = ([], refl, sym (append-nil h))
+leads-ran Good h (ask x f) e = (
+  e .0,
+  λ a. leads-more Good Good (Ran (h ++ (x, a) ∷ []) (f a)) (Ran h (ask x f)) (λ g t. t) (λ g r t. (a ∷ t .0, t .1, t .2 ∙ append-assoc h ((x, a) ∷ []) (exchanged (f a) (t .0)))) _ (f a) (leads-ran Good (h ++ (x, a) ∷ []) (f a) (e .1 a)),
+)
+leads-ran Good h (note n p) e = leads-ran Good h p e
+leads-ran Good h (give b p) e = leads-ran Good h p e
+
 module _ (Good : History → Type 0) where
-  unfoldable Leads : {A : Type 0} → History → Prog (R A) → Type 0
-  Leads h (ret v) = Unit {0}
-  Leads h (ask x f) = (toMux x ≡ true → Good h × (f Failed ≡ ret (Err Io))) × ((a : Answer) → Leads (h ++ (x, a) ∷ []) (f a))
-  Leads h (note n p) = Leads h p
-  Leads h (give b p) = Leads h p
-
   -- a call that does not write to ESDP, and then k
-  leads-bind : {A B : Type 0} (h : History) (p : Prog A) (k : A → Prog (R B)) → Spares p
-      → ((u : List Answer) (v : A) → (run p u) .status ≡ ended v → Leads (h ++ exchanged p u) (k v)) → Leads h (p >>= k)
+  leads-bind : {A B : Type 0} (Post : History → R B → Type 0) (h : History) (p : Prog A) (k : A → Prog (R B)) → Spares p
+      → ((u : List Answer) (v : A) → (run p u) .status ≡ ended v → Leads Good Post (h ++ exchanged p u) (k v)) → Leads Good Post h (p >>= k)
   unfolding Leads Spares exchanged run onAnswer _>>=_
-  leads-bind h (ret a) k s d = subst (λ t. Leads t (k a)) (append-nil h) (d [] a refl)
-  leads-bind h (ask x f) k s d = (
+  leads-bind Post h (ret a) k s d = subst (λ t. Leads Good Post t (k a)) (append-nil h) (d [] a refl)
+  leads-bind Post h (ask x f) k s d = (
     λ e. absurd (false≢true (sym (s .0) ∙ e)),
-    λ a. leads-bind (h ++ (x, a) ∷ []) (f a) k (s .1 a)
-        (λ u v e. subst (λ t. Leads t (k v)) (sym (append-assoc h ((x, a) ∷ []) (exchanged (f a) u))) (d (a ∷ u) v e)),
+    λ a. leads-bind Post (h ++ (x, a) ∷ []) (f a) k (s .1 a)
+        (λ u v e. subst (λ t. Leads Good Post t (k v)) (sym (append-assoc h ((x, a) ∷ []) (exchanged (f a) u))) (d (a ∷ u) v e)),
   )
-  leads-bind h (note n p) k s d = leads-bind h p k s d
-  leads-bind h (give b p) k s d = leads-bind h p k s d
+  leads-bind Post h (note n p) k s d = leads-bind Post h p k s d
+  leads-bind Post h (give b p) k s d = leads-bind Post h p k s d
 
-  leads-or : {A B : Type 0} (h : History) (k : A → Prog (R B)) (r : R A) → ((a : A) → Leads h (k a)) → Leads h (orErr k r)
-  unfolding Leads orErr
-  leads-or h k (Ok a) d = d a
-  leads-or h k (Err e) d = tt
+  leads-spared : {A : Type 0} (h : History) (p : Prog (R A)) → Spares p → Leads Good Any h p
+  unfolding Leads Spares
+  leads-spared h (ret v) s = tt
+  leads-spared h (ask x f) s = (λ e. absurd (false≢true (sym (s .0) ∙ e)), λ a. leads-spared _ (f a) (s .1 a))
+  leads-spared h (note n p) s = leads-spared h p s
+  leads-spared h (give b p) s = leads-spared h p s
 
-  leads-try : {A B : Type 0} (h : History) (p : Prog (R A)) (k : A → Prog (R B)) → Spares p → ((g : History) (a : A) → Leads g (k a)) → Leads h (p >>? k)
-  leads-try h p k s d = leads-bind h p (orErr k) s (λ u r e. leads-or _ k r (d _))
+  -- one that may write to it, and then k where it succeeded
+  leads-then : {A B : Type 0} (Post : History → R A → Type 0) (h : History) (p : Prog (R A)) (k : A → Prog (R B)) → Leads Good Post h p
+      → ((g : History) (a : A) → Post g (Ok a) → Leads Good Any g (k a)) → Leads Good Any h (p >>? k)
+  unfolding Leads orErr _>>=_
+  leads-then Post h (ret (Ok a)) k e d = d h a e
+  leads-then Post h (ret (Err error)) k e d = tt
+  leads-then Post h (ask x f) k e d = (
+    λ t. (e .0 t .0, ap (λ p. p >>= orErr k) (e .0 t .1)),
+    λ a. leads-then Post _ (f a) k (e .1 a) d,
+  )
+  leads-then Post h (note n p) k e d = leads-then Post h p k e d
+  leads-then Post h (give b p) k e d = leads-then Post h p k e d
 
-  leads-pick : {A : Type 0} (h : History) (b : Bool) (p q : Prog (R A)) → Leads h p → Leads h q → Leads h (pick b p q)
+  leads-pick : {A : Type 0} (Post : History → R A → Type 0) (h : History) (b : Bool) (p q : Prog (R A)) → Leads Good Post h p → Leads Good Post h q → Leads Good Post h (pick b p q)
   unfolding pick
-  leads-pick h true p q e d = e
-  leads-pick h false p q e d = d
-
-  leads-ret : {A : Type 0} (h : History) (v : R A) → Leads h (ret v)
-  unfolding Leads
-  leads-ret h v = tt
-
-  -- that it succeeded is noted
-  leads-noted : (h : History) (p : Prog (R (Unit {0}))) → Leads h p → Leads h (p >>? λ _. acquiredAll)
-  unfolding Leads acquiredAll orErr _>>=_
-  leads-noted h (ret (Ok u)) e = tt
-  leads-noted h (ret (Err error)) e = tt
-  leads-noted h (ask x f) e = (
-    λ t. (e .0 t .0, ap (λ p. p >>= orErr (λ _. acquiredAll)) (e .0 t .1)),
-    λ a. leads-noted _ (f a) (e .1 a),
-  )
-  leads-noted h (note n p) e = leads-noted h p e
-  leads-noted h (give b p) e = leads-noted h p e
+  leads-pick Post h true p q e d = e
+  leads-pick Post h false p q e d = d
 
   -- and so of a run that awaits such a write
-  awaits : {A : Type 0} (h : History) (p : Prog (R A)) (l : List Answer) (v : ℕ) → Leads h p → (run p l) .status ≡ waiting (Write ESDP v)
+  awaits : {A : Type 0} (h : History) (p : Prog (R A)) (l : List Answer) (v : ℕ) → Leads Good Any h p → (run p l) .status ≡ waiting (Write ESDP v)
       → Good (h ++ exchanged p l)
       × ((run p (l ++ Failed ∷ [])) .status ≡ ended (Err Io))
       × ((run p (l ++ Failed ∷ [])) .accesses ≡ (run p l) .accesses ++ Write ESDP v ∷ [])
@@ -239,82 +186,196 @@ module _ (Good : History → Type 0) where
   awaits h (note n p) l v e w = awaits h p l v e w
   awaits h (give b p) l v e w = awaits h p l v e w
 
--- `acquire_bits`
-module _ (port : Port) (mask : ℕ) where
-  abbrev Good : History → Type 0
-  Good = StillTaken (port .family) mask
+  -- the mux, switched by changing some bits of ESDP
+  abbrev esdpChange : Bits → Change
+  esdpChange b = record { register = ESDP; bits = b; flushed = true }
 
-  flush-leads : (h : History) → Leads Good h flush
+  flush-leads : (h : History) → Leads Good Any h flush
   unfolding Leads
   flush-leads h = (λ e. absurd (false≢true e), λ a. tt)
 
   -- ESDP was read: it is written
-  stored-leads : (h : History) (esdp : ℕ) → Good h → Leads Good h (stored (setMux true) esdp)
-  unfolding Leads stored setMux settled written orErr _>>=_
-  stored-leads h esdp good = (λ _. (good, refl), λ a. leads-or Good _ (λ _. flush) (written a) (λ _. flush-leads _))
-
-  read-leads : (h : History) → ((esdp : ℕ) → Good (h ++ (Read ESDP, Value esdp) ∷ [])) → Leads Good h (change (setMux true))
-  unfolding Leads change setMux checked orErr pick _>>=_
-  read-leads h good = (λ e. absurd (false≢true e), by)
+  stored-leads : (b : Bits) (h : History) (esdp : ℕ) → Good h → Leads Good Any h (stored (esdpChange b) esdp)
+  unfolding Leads stored settled written orErr _>>=_
+  stored-leads b h esdp good = (λ _. (good, refl), by)
     where
-      sees : (esdp : ℕ) (removed : Bool) → Leads Good (h ++ (Read ESDP, Value esdp) ∷ []) (orErr (stored (setMux true)) (pick removed (Err Removed) (Ok esdp)))
-      sees esdp true = tt
-      sees esdp false = stored-leads _ esdp (good esdp)
+      by : (a : Answer) → Leads Good Any (h ++ (Write ESDP (changed b esdp), a) ∷ []) (orErr (λ _. flush) (written a))
+      by (Value v) = tt
+      by Done = flush-leads _
+      by Failed = tt
 
-      by : (a : Answer) → Leads Good (h ++ (Read ESDP, a) ∷ []) (orErr (stored (setMux true)) (checked a))
+  read-leads : (b : Bits) (h : History) → ((esdp : ℕ) → Good (h ++ (Read ESDP, Value esdp) ∷ [])) → Leads Good Any h (change (esdpChange b))
+  unfolding Leads change checked orErr pick _>>=_
+  read-leads b h good = (λ e. absurd (false≢true e), by)
+    where
+      sees : (esdp : ℕ) (removed : Bool) → Leads Good Any (h ++ (Read ESDP, Value esdp) ∷ []) (orErr (stored (esdpChange b)) (pick removed (Err Removed) (Ok esdp)))
+      sees esdp true = tt
+      sees esdp false = stored-leads b _ esdp (good esdp)
+
+      by : (a : Answer) → Leads Good Any (h ++ (Read ESDP, a) ∷ []) (orErr (stored (esdpChange b)) (checked a))
       by (Value esdp) = sees esdp (eqb esdp 0xFFFFFFFF)
       by Done = tt
       by Failed = tt
 
+  mux-leads : (port : Port) (mask : ℕ) (on : Bool) (h : History) → ((esdp : ℕ) → Good (h ++ (Read ESDP, Value esdp) ∷ [])) → Leads Good Any h (muxed port mask on)
+  unfolding muxed setMux Leads
+  mux-leads port mask true h good = leads-pick Any h (mux port mask) _ _ (read-leads (Set 2) h good) tt
+  mux-leads port mask false h good = leads-pick Any h (mux port mask) _ _ (read-leads (Clear 2) h good) tt
+
+module _ (port : Port) (mask : ℕ) where
+  -- `acquire_bits`
+  abbrev Good : History → Type 0
+  Good = StillTaken (port .family) mask
+
+  unfoldable Ends : History → R (Unit {0}) → Type 0
+  Ends h (Ok u) = Took port mask h
+  Ends h (Err e) = Unit {0}
+
   abbrev bitsWritten : ℕ → Answer → Access × Answer
   bitsWritten sync a = (Write (swFwSync (port .family)) (bitOr sync (bits (port .family) mask .sw)), a)
 
-  free-leads : (h : History) (sync : ℕ) → Leads Good h (free port mask sync)
-  unfolding Leads free taken muxed written orErr _>>=_
+  -- SW_FW_SYNC is written with the bits, and the register semaphore is given back
+  abbrev given : History → ℕ → List Answer → History
+  given h sync u = (h ++ bitsWritten sync Done ∷ []) ++ exchanged (unlock (port .family)) u
+
+  -- the register semaphore, and then a failure that was met before
+  fails-leads : {A : Type 0} (p : Prog (R A)) (k : A → Prog (R (Unit {0}))) → Spares p → ((g : History) (a : A) → Leads Good Ends g (k a)) → (h : History) → Leads Good Ends h (p >>? k)
+  unfolding Leads Ends orErr
+  fails-leads p k s d h = leads-bind Good Ends h p (orErr k) s by
+    where
+      by : (u : List Answer) (r : R _) → (run p u) .status ≡ ended r → Leads Good Ends (h ++ exchanged p u) (orErr k r)
+      by u (Ok a) e = d _ a
+      by u (Err error) e = tt
+
+  free-leads : (h : History) (sync : ℕ) → Leads Good Ends h (free port mask sync)
+  unfolding Leads Ends free taken written orErr _>>=_
   free-leads h sync = (λ e. absurd (false≢true (sym (sync-spared (port .family)) ∙ e)), by)
     where
+      switched : (u : List Answer) → (run (unlock (port .family)) u) .status ≡ ended (Ok tt) → (g : History) (r : R (Unit {0}))
+          → Ran (given h sync u) (muxed port mask true) g r → Ends g r
+      switched u o g (Ok t) ran =
+          record { before = h; sync = sync; unlocking = u; switching = ran .0; unlocked = o; switched = ran .1; exchange = ran .2 ∙ simp append-assoc }
+      switched u o g (Err e) ran = tt
+
       unlocked : (u : List Answer) (r : R (Unit {0})) → (run (unlock (port .family)) u) .status ≡ ended r
-          → Leads Good ((h ++ bitsWritten sync Done ∷ []) ++ exchanged (unlock (port .family)) u) (orErr (λ _. muxed port mask true) r)
+          → Leads Good Ends (given h sync u) (orErr (λ _. muxed port mask true) r)
       unlocked u (Err e) o = tt
       unlocked u (Ok t) o =
-          leads-pick Good _ (mux port mask) _ _
-          (read-leads _ (λ esdp. record { before = h; sync = sync; unlocking = u; esdp = esdp; unlocked = o; exchange = simp append-assoc }))
-          tt
+          leads-more Good Good (Ran (given h sync u) (muxed port mask true)) Ends (λ g t. t) (switched u o) (given h sync u) (muxed port mask true)
+          (leads-ran Good (given h sync u) (muxed port mask true)
+          (mux-leads Good port mask true (given h sync u) (λ esdp. record { before = h; sync = sync; unlocking = u; esdp = esdp; unlocked = o; exchange = simp append-assoc })))
 
-      by : (a : Answer) → Leads Good (h ++ bitsWritten sync a ∷ []) (unlock (port .family) >>? λ _. orErr (λ _. muxed port mask true) (written a))
-      by (Value v) = leads-try Good _ _ _ (unlock-spares (port .family)) (λ g t. tt)
-      by Done = leads-bind Good _ (unlock (port .family)) _ (unlock-spares (port .family)) unlocked
-      by Failed = leads-try Good _ _ _ (unlock-spares (port .family)) (λ g t. tt)
+      by : (a : Answer) → Leads Good Ends (h ++ bitsWritten sync a ∷ []) (unlock (port .family) >>? λ _. orErr (λ _. muxed port mask true) (written a))
+      by (Value v) = fails-leads _ _ (unlock-spares (port .family)) (λ g t. tt) _
+      by Done = leads-bind Good Ends _ (unlock (port .family)) _ (unlock-spares (port .family)) unlocked
+      by Failed = fails-leads _ _ (unlock-spares (port .family)) (λ g t. tt) _
 
-  seen-leads : (again : ℕ → Prog (R (Unit {0}))) → ((h : History) (held : ℕ) → Leads Good h (again held)) → (h : History) (r : R ℕ)
-      → Leads Good h (syncSeen port mask again r)
-  unfolding syncSeen
-  seen-leads again d h (Err e) = leads-try Good _ _ _ (unlock-spares (port .family)) (λ g t. leads-ret Good _ _)
+  seen-leads : (again : ℕ → Prog (R (Unit {0}))) → ((h : History) (held : ℕ) → Leads Good Ends h (again held)) → (h : History) (r : R ℕ)
+      → Leads Good Ends h (syncSeen port mask again r)
+  unfolding syncSeen Leads Ends
+  seen-leads again d h (Err e) = fails-leads _ _ (unlock-spares (port .family)) (λ g t. tt) h
   seen-leads again d h (Ok sync) =
-      leads-pick Good _ _ _ _ (free-leads h sync)
-      (leads-try Good _ _ _ (unlock-spares (port .family)) (λ g t. leads-try Good _ _ _ (spares-one _ _ refl) (λ i t. d _ _)))
+      leads-pick Good Ends _ _ _ _ (free-leads h sync)
+      (fails-leads _ _ (unlock-spares (port .family)) (λ g t. fails-leads _ _ (spares-one _ _ refl) (λ i t. d _ _) _) h)
 
-  tries-leads : (n held : ℕ) (h : History) → Leads Good h (acquireTries port mask n held)
-  unfolding acquireTries Leads
+  tries-leads : (n held : ℕ) (h : History) → Leads Good Ends h (acquireTries port mask n held)
+  unfolding acquireTries Leads Ends
   tries-leads zero held h = tt
   tries-leads (suc n) held h =
-      leads-try Good _ _ _ (lock-spares (port .family))
-      (λ g t. leads-bind Good _ _ _ (spares-one _ _ refl) (λ u r e. seen-leads _ (λ i held. tries-leads n held i) _ r))
+      fails-leads _ _ (lock-spares (port .family))
+      (λ g t. leads-bind Good Ends _ _ _ (spares-one _ _ refl) (λ u r e. seen-leads _ (λ i held. tries-leads n held i) _ r)) h
 
-acquire-leads : (port : Port) (mask : ℕ) → noneOf mask TOKEN ≡ true → Leads (StillTaken (port .family) (hwOf mask)) [] (acquire port mask)
-unfolding Leads acquireBits
+  bits-leads : (h : History) → Leads Good Ends h (acquireBits port mask)
+  unfolding acquireBits
+  bits-leads h = tries-leads (tries (port .family)) 0 h
+
+  -- with the token
+  abbrev pub Held : History → Type 0
+  Held h = StillTaken (port .family) mask h ⊎ StillHeld port mask h
+
+  back-leads : (h : History) (again : Answer → Prog (R (Unit {0}))) (g : R Bool) → ((i : History) (a : Answer) → Leads Held Any i (again a))
+      → ((esdp : ℕ) → Held (h ++ (Read ESDP, Value esdp) ∷ [])) → Leads Held Any h (releaseBits port mask >>? λ _. notGranted again g)
+  unfolding releaseBits notGranted Leads
+  back-leads h again g d good =
+      leads-then Held Any h (releaseBits port mask) _ (leads-then Held Any h (muxed port mask false) _ (mux-leads Held port mask false h good) (λ i t _. leads-spared Held i _ (unmuxed-spares port mask)))
+      (λ i t _. by i g)
+    where
+      by : (i : History) (g : R Bool) → Leads Held Any i (notGranted again g)
+      by i (Err e) = tt
+      by i (Ok b) = (λ e. absurd (false≢true e), λ a. d _ a)
+
+  -- a mask with bits of SW_FW_SYNC
+  module _ (some : eqb mask 0 ≡ false) where
+    told-leads : (h : History) (again : Answer → Prog (R (Unit {0}))) → Took port mask h → ((i : History) (a : Answer) → Leads Held Any i (again a))
+        → (u : List Answer) (r : R Bool) → (run (token port true) u) .status ≡ ended r → Leads Held Any (h ++ exchanged (token port true) u) (tokenSeen port mask again r)
+    unfolding tokenSeen givenBack withBits acquiredAll pick Leads
+    told-leads h again took d u r e = by r e
+      where
+        held : (r : R Bool) → (run (token port true) u) .status ≡ ended r → (r ≡ Ok true → ⊥) → (esdp : ℕ) → Held ((h ++ exchanged (token port true) u) ++ (Read ESDP, Value esdp) ∷ [])
+        held r e n esdp = inr (record { first = h; took = took; asking = u; answer = r; esdp = esdp; answered = e; denied = n; exchange = append-assoc h (exchanged (token port true) u) _ })
+
+        by : (r : R Bool) → (run (token port true) u) .status ≡ ended r → Leads Held Any (h ++ exchanged (token port true) u) (tokenSeen port mask again r)
+        by (Ok true) e = tt
+        by (Ok false) e = rw some (back-leads _ again (Ok false) d (held _ e busy))
+        by (Err error) e = rw some (back-leads _ again (Err error) d (held _ e (failed error)))
+
+    token-leads : (n : ℕ) (h : History) → Leads Held Any h (acquireToken port mask n)
+    unfolding acquireToken withBits pick Leads Ends
+    token-leads zero h = tt
+    token-leads (suc n) h =
+        rw some
+        (leads-then Held Ends h (acquireBits port mask) _ (leads-more Good Held Ends Ends (λ g t. inl t) (λ g r t. t) h (acquireBits port mask) (bits-leads h))
+        (λ g t took. leads-bind Held Any g (token port true) _ (token-spares port true) (told-leads g _ took (λ i a. token-leads n i))))
+
+  acquire-token-leads : (n : ℕ) (h : History) → Leads Held Any h (acquireToken port mask n)
+  acquire-token-leads n h = by (eqb mask 0) refl
+    where
+      by : (b : Bool) → eqb mask 0 ≡ b → Leads Held Any h (acquireToken port mask n)
+      by true e = leads-spared Held h _ (alone-spares port mask e n)
+      by false e = token-leads e n h
+
+acquire-leads : (port : Port) (mask : ℕ) → noneOf mask TOKEN ≡ true → Leads (StillTaken (port .family) (hwOf mask)) Any [] (acquire port mask)
+unfolding Leads acquiredAll
 acquire-leads port mask plain =
-    rw (acquire-plain port mask plain) (leads-noted _ [] (acquireBits port (hwOf mask)) (tries-leads port (hwOf mask) (tries (port .family)) 0 []))
+    rw (acquire-plain port mask plain) (leads-then _ (Ends port (hwOf mask)) [] (acquireBits port (hwOf mask)) _ (bits-leads port (hwOf mask) []) (λ g u t. tt))
+
+acquire-any-leads : (port : Port) (mask : ℕ) → Leads (Held port (hwOf mask)) Any [] (acquire port mask)
+unfolding acquire pick Leads
+acquire-any-leads port mask = by (noneOf mask TOKEN) refl
+  where
+    by : (b : Bool) → noneOf mask TOKEN ≡ b → Leads (Held port (hwOf mask)) Any [] (acquire port mask)
+    by true e = leads-more (StillTaken (port .family) (hwOf mask)) (Held port (hwOf mask)) Any Any (λ g t. inl t) (λ g r t. t) [] (acquire port mask) (acquire-leads port mask e)
+    by false e = rw e (acquire-token-leads port (hwOf mask) TOKEN-TRIES [])
+
+fails : (port : Port) (mask v : ℕ) (l : List Answer) (Taken : History → Type 0) → Leads Taken Any [] (acquire port mask)
+    → (run (acquire port mask) l) .status ≡ waiting (Write ESDP v) → MuxFails Taken port mask v l
+fails port mask v l Taken leads w =
+    let facts = awaits Taken [] (acquire port mask) l v leads w in
+    record { result = facts .1; accesses = facts .2; taken = facts .0 }
 
 -- Whatever was answered: where the write to ESDP is awaited, a failure ends the call with Io, and the bits are still taken
-pub mux-write-fails : (port : Port) (mask v : ℕ) (l : List Answer) → noneOf mask TOKEN ≡ true
-    → (run (acquire port mask) l) .status ≡ waiting (Write ESDP v) → MuxFails port mask v l
-mux-write-fails port mask v l plain w =
-    let facts = awaits _ [] (acquire port mask) l v (acquire-leads port mask plain) w in
-    record { result = facts .1; accesses = facts .2; taken = facts .0 }
+pub mux-write-fails : (port : Port) (mask v : ℕ) (l : List Answer) → (run (acquire port mask) l) .status ≡ waiting (Write ESDP v)
+    → MuxFails (Held port (hwOf mask)) port mask v l
+mux-write-fails port mask v l w = fails port mask v l _ (acquire-any-leads port mask) w
+
+-- without TOKEN it is the write behind the bits
+pub plain-mux-write-fails : (port : Port) (mask v : ℕ) (l : List Answer) → noneOf mask TOKEN ≡ true
+    → (run (acquire port mask) l) .status ≡ waiting (Write ESDP v) → MuxFails (StillTaken (port .family) (hwOf mask)) port mask v l
+plain-mux-write-fails port mask v l plain w = fails port mask v l _ (acquire-leads port mask plain) w
+
+-- the register semaphore, the bits of SW_FW_SYNC free and taken, the semaphore given back
+abbrev takenThen : List Answer → List Answer
+takenThen l = Value 0 ∷ Value 0 ∷ Value 0 ∷ Done ∷ Value 0 ∷ Done ∷ Value 0 ∷ Done ∷ Value 0 ∷ l
 
 -- it is reached: port 1 of an X552, and reads of 0
 pub mux-reached : (device : ℕ) → (run (acquire (record { family = X552; device = device; lan = 1 }) I2C)
-    (Value 0 ∷ Value 0 ∷ Value 0 ∷ Done ∷ Value 0 ∷ Done ∷ Value 0 ∷ Done ∷ Value 0 ∷ Value 0 ∷ [])) .status ≡ waiting (Write ESDP 2)
+    (takenThen (Value 0 ∷ []))) .status ≡ waiting (Write ESDP 2)
 unfolding acquire hwOf acquireBits acquireTries lock smbiDone second regsmpDone smbiWatch regsmpWatch poll polled syncSeen against free taken muxed mux unlock backSwsm clearSync setMux change stored changed settled checked written flushed bits bitsX540 is noneOf orErr pick _>>=_ run onAnswer
 mux-reached device = refl
+
+-- and so is the one that switches it back: the bits, with the write behind them; the token's command, to which the firmware says that it is
+-- busy; ESDP
+pub mux-back-reached : (device : ℕ) → (run (acquire (record { family = X552; device = device; lan = 1 }) (I2C + TOKEN))
+    (takenThen (Value 0 ∷ Done ∷ Value 0 ∷ takenThen (Value 0 ∷ Done ∷ Value 1 ∷ Done ∷ Done ∷ Done ∷ Value 4 ∷ Value 0x800000 ∷ Value 0 ∷ Value 0 ∷ Value 0 ∷ Done ∷ Value 0 ∷ Done ∷ Value 0 ∷ Done ∷ Value 0 ∷ Done ∷ Value 2 ∷ [])))) .status ≡ waiting (Write ESDP 0)
+unfolding acquire hwOf acquireToken withBits tokenSeen givenBack token tokened tokenStatus tokenBlock tokenSecond header command acquired request hicrRead enabled words start polling completed requested respond headSeen lenOf statusOf wordsOf fill released closed both acquireBits acquireTries releaseBits unmuxed clearing clearBits cleared settle releaseUs lock smbiDone second regsmpDone smbiWatch regsmpWatch poll polled syncSeen against free taken muxed mux unlock backSwsm clearSync setMux change stored changed settled checked raw written flushed bits bitsX540 is noneOf orErr pick _>>=_ run onAnswer
+mux-back-reached device = refl

@@ -12,6 +12,7 @@ use Rattle.hardware.proofs.Ends.{ends-more, ends-bind, ends-pick, ends-erase, r
 use Rattle.bus.specs.declared.Layout.{Layout}
 use Rattle.bus.specs.declared.Taken.{Taken}
 use Rattle.bus.specs.Bus.{Bus, done, fail, none, orHeld, flushing, put, get, wait, sclSeen, sclTries, sclHigh, sclLow, sdaSeen, sdaFree, sda, releaseSda, look, lookSeen, start, close, stop, outBit, sample, sampleSeen, inBit, shifted, inBits, inByte, bitOf, outBits, ackSeen, ackTries, send, pulses, orQuiet, quieted, quiet, clear, clearFree, clearAgain, clearStop}
+use Rattle.bus.specs.Steps.{PUT-STEPS, GET-STEPS, WAIT-STEPS, SCL-TRY-STEPS, SCL-HIGH-STEPS, SCL-LOW-STEPS, SDA-LOW-STEPS, SDA-STEPS, RELEASE-SDA-STEPS, START-STEPS, STOP-STEPS, PULSE-STEPS, OUT-BIT-STEPS, IN-BIT-STEPS, IN-BYTE-STEPS, ACK-STEPS, SEND-STEPS, FREE-STEPS, CLEAR-STEPS, CALL-STEPS}
 use Rattle.hardware.specs.declared.Answer.{Answer}
 use Rattle.bus.specs.declared.line.Call.{Call}
 use Rattle.bus.specs.declared.line.Call.the-variants.{Look, Sda, Release, Up, Down, Wait as Pausing, Sample, Ack, Close}
@@ -32,75 +33,6 @@ use Rattle.bus.specs.Clear.{restPart, restClear}
 -- n accesses bring a program to its end, whatever control word it is given
 abbrev pub EndsBus : Bus → ℕ → Type 0
 EndsBus k n = (ctl : ℕ) → Ends (k ctl) n
-
--- a write and a flush
-abbrev pub PUT-STEPS : ℕ
-PUT-STEPS = 2
-
-abbrev pub GET-STEPS : ℕ
-GET-STEPS = 1
-
-abbrev pub WAIT-STEPS : ℕ
-WAIT-STEPS = 1
-
--- a try of SCL: a word is put, a wait and a read
-abbrev pub SCL-TRY-STEPS : ℕ
-SCL-TRY-STEPS = PUT-STEPS + WAIT-STEPS + GET-STEPS
-
--- 500 tries at most
-abbrev pub SCL-HIGH-STEPS : ℕ
-SCL-HIGH-STEPS = 500 * SCL-TRY-STEPS
-
-abbrev pub SCL-LOW-STEPS : ℕ
-SCL-LOW-STEPS = PUT-STEPS + WAIT-STEPS
-
--- SDA pulled low
-abbrev pub SDA-LOW-STEPS : ℕ
-SDA-LOW-STEPS = PUT-STEPS + WAIT-STEPS
-
--- SDA released and looked at; the second word is put on the X552 and X553 only
-abbrev pub SDA-STEPS : ℕ
-SDA-STEPS = PUT-STEPS + WAIT-STEPS + (PUT-STEPS + GET-STEPS)
-
-abbrev pub RELEASE-SDA-STEPS : ℕ
-RELEASE-SDA-STEPS = PUT-STEPS + WAIT-STEPS
-
-abbrev pub START-STEPS : ℕ
-START-STEPS = GET-STEPS + SDA-STEPS + SCL-HIGH-STEPS + WAIT-STEPS + SDA-LOW-STEPS + WAIT-STEPS + SCL-LOW-STEPS + WAIT-STEPS
-
--- the last word is put on the X552 and X553 only
-abbrev pub STOP-STEPS : ℕ
-STOP-STEPS = SDA-LOW-STEPS + SCL-HIGH-STEPS + WAIT-STEPS + SDA-STEPS + WAIT-STEPS + PUT-STEPS
-
--- SCL high, a wait, SCL low and a wait
-abbrev pub PULSE-STEPS : ℕ
-PULSE-STEPS = SCL-HIGH-STEPS + WAIT-STEPS + SCL-LOW-STEPS + WAIT-STEPS
-
-abbrev pub OUT-BIT-STEPS : ℕ
-OUT-BIT-STEPS = SDA-STEPS + PULSE-STEPS
-
--- a pulse with SDA released and read while SCL is high
-abbrev pub IN-BIT-STEPS : ℕ
-IN-BIT-STEPS = RELEASE-SDA-STEPS + SCL-HIGH-STEPS + WAIT-STEPS + GET-STEPS + SCL-LOW-STEPS + WAIT-STEPS
-
-abbrev pub IN-BYTE-STEPS : ℕ
-IN-BYTE-STEPS = 8 * IN-BIT-STEPS
-
--- ten samples at most, each a read and a wait
-abbrev pub ACK-STEPS : ℕ
-ACK-STEPS = 10 * (GET-STEPS + WAIT-STEPS)
-
--- eight bits, SDA released, and the acknowledgement
-abbrev pub SEND-STEPS : ℕ
-SEND-STEPS = 8 * OUT-BIT-STEPS + (RELEASE-SDA-STEPS + SCL-HIGH-STEPS + WAIT-STEPS + ACK-STEPS + SCL-LOW-STEPS + WAIT-STEPS)
-
--- SDA released and nine pulses
-abbrev pub FREE-STEPS : ℕ
-FREE-STEPS = RELEASE-SDA-STEPS + 9 * PULSE-STEPS
-
--- a start, the pulses, a start and a stop
-abbrev pub CLEAR-STEPS : ℕ
-CLEAR-STEPS = START-STEPS + FREE-STEPS + START-STEPS + STOP-STEPS
 
 pub scl-high-steps : SCL-HIGH-STEPS ≡ 2000
 scl-high-steps = refl
@@ -402,9 +334,9 @@ lineAfter (Settle g) = reachAfter g
 lineAfter Check = 0
 lineAfter (Rise left) = left * SCL-TRY-STEPS
 
--- no line call takes more than that of SCL; left: the calls after this one
+-- left: the calls after this one
 abbrev pub jobAfter : Job → ℕ
-jobAfter s = lineAfter (s .state .line) + s .left * SCL-HIGH-STEPS
+jobAfter s = lineAfter (s .state .line) + s .left * CALL-STEPS
 
 abbrev pub partAfter : Part → ℕ
 partAfter First = FREE-STEPS + (START-STEPS + STOP-STEPS)
@@ -440,7 +372,7 @@ settled-ends l (Raised left) k n e =
 settled-ends l Closed k n e = bus-more _ n (settleAfter Closed + n) e (omega arith)
 
 -- k is what comes after the call
-at-rest-ends : (l : Layout) (ctl bits : ℕ) (s : Line) (a : Answer) (k : ℕ → Bus) (n : ℕ) → ((b : ℕ) → EndsBus (k b) n)
+pub at-rest-ends : (l : Layout) (ctl bits : ℕ) (s : Line) (a : Answer) (k : ℕ → Bus) (n : ℕ) → ((b : ℕ) → EndsBus (k b) n)
     → Ends (restAt l ctl bits s a k) (lineAfter s + n)
 unfolding restAt lookSeen sampleSeen sensed ackSeen sclSeen
 at-rest-ends l ctl bits Looking a k n e = ends-more _ n (0 + n) (held-ends _ n (λ v c. e bits _) ctl (raw a)) (omega arith)
@@ -460,17 +392,17 @@ at-rest-ends l ctl bits Check a k n e = ends-more _ n (0 + n) (held-ends _ n (sd
 at-rest-ends l ctl bits (Rise left) a k n e =
     held-ends _ (left * SCL-TRY-STEPS + n) (λ v. either-ends _ _ _ _ (scl-tries-ends l left (k bits) n (e bits)) (bus-more (k bits) n (left * SCL-TRY-STEPS + n) (e bits) (omega arith))) ctl (raw a)
 
-called-ends : (l : Layout) (c : Call) (bits : ℕ) (k : ℕ → Bus) (n : ℕ) → ((b : ℕ) → EndsBus (k b) n) → EndsBus (called l c bits k) (SCL-HIGH-STEPS + n)
+pub called-ends : (l : Layout) (c : Call) (bits : ℕ) (k : ℕ → Bus) (n : ℕ) → ((b : ℕ) → EndsBus (k b) n) → EndsBus (called l c bits k) (CALL-STEPS + n)
 unfolding called sensed
-called-ends l Look bits k n e = bus-more _ _ (SCL-HIGH-STEPS + n) (look-ends l (k bits) n (e bits)) (omega arith)
-called-ends l (Sda high) bits k n e = bus-more _ _ (SCL-HIGH-STEPS + n) (sda-ends l high (k bits) n (e bits)) (omega arith)
-called-ends l Release bits k n e = bus-more _ _ (SCL-HIGH-STEPS + n) (release-sda-ends l (k bits) n (e bits)) (omega arith)
+called-ends l Look bits k n e = bus-more _ _ (CALL-STEPS + n) (look-ends l (k bits) n (e bits)) (omega arith)
+called-ends l (Sda high) bits k n e = bus-more _ _ (CALL-STEPS + n) (sda-ends l high (k bits) n (e bits)) (omega arith)
+called-ends l Release bits k n e = bus-more _ _ (CALL-STEPS + n) (release-sda-ends l (k bits) n (e bits)) (omega arith)
 called-ends l Up bits k n e = scl-high-ends l (k bits) n (e bits)
-called-ends l Down bits k n e = bus-more _ _ (SCL-HIGH-STEPS + n) (scl-low-ends l (k bits) n (e bits)) (omega arith)
-called-ends l (Pausing us) bits k n e = bus-more _ _ (SCL-HIGH-STEPS + n) (wait-ends us (k bits) n (e bits)) (omega arith)
-called-ends l Sample bits k n e = bus-more _ _ (SCL-HIGH-STEPS + n) (sample-ends l _ n (λ b. e _)) (omega arith)
-called-ends l Ack bits k n e = bus-more _ _ (SCL-HIGH-STEPS + n) (ack-tries-ends l 10 _ n (λ b. e _)) (omega arith)
-called-ends l Close bits k n e = bus-more _ _ (SCL-HIGH-STEPS + n) (close-ends l (k bits) n (e bits)) (omega arith)
+called-ends l Down bits k n e = bus-more _ _ (CALL-STEPS + n) (scl-low-ends l (k bits) n (e bits)) (omega arith)
+called-ends l (Pausing us) bits k n e = bus-more _ _ (CALL-STEPS + n) (wait-ends us (k bits) n (e bits)) (omega arith)
+called-ends l Sample bits k n e = bus-more _ _ (CALL-STEPS + n) (sample-ends l _ n (λ b. e _)) (omega arith)
+called-ends l Ack bits k n e = bus-more _ _ (CALL-STEPS + n) (ack-tries-ends l 10 _ n (λ b. e _)) (omega arith)
+called-ends l Close bits k n e = bus-more _ _ (CALL-STEPS + n) (close-ends l (k bits) n (e bits)) (omega arith)
 
 finished-ends : (device : ℕ) (c : Command) (k : ℕ → Bus) (n : ℕ) → ((b : ℕ) → EndsBus (k b) n) → (bits : ℕ) → EndsBus (finished device c k bits) n
 unfolding finished
@@ -481,19 +413,19 @@ finished-ends device Stop k n e bits = e bits
 finished-ends device FreeLines k n e bits = e bits
 
 calls-left-ends : (l : Layout) (device : ℕ) (c : Command) (left : ℕ) (k : ℕ → Bus) (n : ℕ) → ((b : ℕ) → EndsBus (k b) n) → (bits : ℕ)
-    → EndsBus (callsLeft l device c left k bits) (left * SCL-HIGH-STEPS + n)
+    → EndsBus (callsLeft l device c left k bits) (left * CALL-STEPS + n)
 unfolding callsLeft
-calls-left-ends l device c zero k n e bits = bus-more _ n (zero * SCL-HIGH-STEPS + n) (finished-ends device c k n e bits) (omega arith)
+calls-left-ends l device c zero k n e bits = bus-more _ n (zero * CALL-STEPS + n) (finished-ends device c k n e bits) (omega arith)
 calls-left-ends l device c (suc left) k n e bits =
-    bus-more _ (SCL-HIGH-STEPS + (left * SCL-HIGH-STEPS + n)) (suc left * SCL-HIGH-STEPS + n) (called-ends l _ bits _ (left * SCL-HIGH-STEPS + n) (calls-left-ends l device c left k n e)) (omega arith)
+    bus-more _ (CALL-STEPS + (left * CALL-STEPS + n)) (suc left * CALL-STEPS + n) (called-ends l _ bits _ (left * CALL-STEPS + n) (calls-left-ends l device c left k n e)) (omega arith)
 
 -- whatever command the script has at the position
 pub job-rest-ends : (l : Layout) (device : ℕ) (c : Command) (s : Job) (a : Answer) (k : ℕ → Bus) (n : ℕ) → ((b : ℕ) → EndsBus (k b) n)
     → Ends (restJob l device c s a k) (jobAfter s + n)
 unfolding restJob restLine
 job-rest-ends l device c s a k n e =
-    ends-more _ (lineAfter (s .state .line) + (s .left * SCL-HIGH-STEPS + n)) (jobAfter s + n)
-    (at-rest-ends l (s .state .ctl) (s .state .bits) (s .state .line) a _ (s .left * SCL-HIGH-STEPS + n) (calls-left-ends l device c (s .left) k n e))
+    ends-more _ (lineAfter (s .state .line) + (s .left * CALL-STEPS + n)) (jobAfter s + n)
+    (at-rest-ends l (s .state .ctl) (s .state .bits) (s .state .line) a _ (s .left * CALL-STEPS + n) (calls-left-ends l device c (s .left) k n e))
     (omega arith)
 
 part-rest-ends : (l : Layout) (p : Part) (j : Job) (a : Answer) → Ends (restPart l p j a) (jobAfter j + partAfter p)

@@ -1,5 +1,8 @@
 pub mod Layout
 pub mod Bus
+pub mod Accesses
 pub mod Line
 pub mod Command
 pub mod Clear
+pub mod Steps
+pub mod Within

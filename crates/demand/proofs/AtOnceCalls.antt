@@ -1,6 +1,6 @@
 -- With the answers of `atOnce`, and any of I2CCTL, no lock and no grant of a transfer or of an identification runs out.
 use Prim.Native.Nat.{ℕ, suc, zero}
-use mathlib.Core.Path.{_≡_, refl, subst}
+use mathlib.Core.Path.{_≡_, refl}
 use mathlib.Core.Bool.{Bool, true, false}
 use Rattle.hardware.specs.declared.Port.{Port}
 use Rattle.hardware.specs.declared.change.Change.{Change}
@@ -8,20 +8,13 @@ use Rattle.hardware.specs.Prog.{Prog, ret, Attempt, R, Ok, Err, _>>=_, pick}
 use Rattle.hardware.specs.Registers.{ESDP, noneOf}
 use Rattle.hardware.specs.Change.{change}
 use Rattle.hostif.specs.Acquire.{acquire, release}
-use Rattle.bus.specs.declared.Layout.{Layout}
 use Rattle.bus.specs.declared.Taken.{Taken}
 use Rattle.bus.specs.Layout.{layoutOf}
-use Rattle.bus.specs.Bus.{none}
-use Rattle.bus.proofs.Noteless.{NotelessBus}
-use Rattle.script.specs.Script.{commands}
 use Rattle.i2c.specs.declared.How.{How}
-use Rattle.transfer.specs.Transfer.{keeping}
 use Rattle.transfer.specs.Attempt.{attempt}
-use Rattle.transfer.proofs.Noteless.{transfer-noteless, attempting-noteless}
 use Rattle.i2c.specs.declared.once.Request.{Request}
 use Rattle.i2c.specs.declared.once.Request.the-variants.{ReadByte, WriteByte, ReadCombined, WriteCombined}
-use Rattle.i2c.specs.I2c.{standard, locked, mask, deviceOf, scriptOf, body, once, whenLock, readJudged, readTries, writeTries, givenUp, writes, retried, askBus, giveBus, granting, granted, givenBus, onGrant, withBus, handshaken, givesValue, transferred}
-use Rattle.i2c.proofs.Laws.{body-is}
+use Rattle.i2c.specs.I2c.{standard, locked, mask, once, whenLock, readJudged, readTries, writeTries, givenUp, writes, retried, askBus, giveBus, granting, granted, givenBus, onGrant, withBus, handshaken, givesValue, transferred}
 use Rattle.sfp.specs.declared.Identity.{Identity}
 use Rattle.sfp.specs.declared.Codes.{Codes}
 use Rattle.sfp.specs.Identify.{EEPROM, orAbsent, byte, identifierOf, reachOf, bx10gOf, kindBy, classify, recorded, known, identified, identify}
@@ -29,14 +22,12 @@ use Rattle.demand.specs.Fine.{AtOnce}
 use Rattle.bench.specs.AtOnce.{atOnceAt, atOnce}
 use Rattle.demand.proofs.Locks.{aside}
 use Rattle.i2c.proofs.Masks.{mask-plain}
-use Rattle.demand.proofs.AtOnce.{at-once-then, at-once-try, at-once-pick, at-once-ret, at-once-note, noteless-at-once, delay-at-once, read-at-once, change-at-once, acquire-at-once, release-at-once}
+use Rattle.i2c.proofs.OnBus.{once-on-bus}
+use Rattle.demand.proofs.AtOnce.{at-once-then, at-once-try, at-once-pick, at-once-ret, at-once-note, on-bus-at-once, delay-at-once, read-at-once, change-at-once, acquire-at-once, release-at-once}
 
 -- nothing is asked of the result
 abbrev pub AtOnces : {A : Type 0} → Port → Prog A → Type 0
 AtOnces port p = AtOnce (layoutOf (port .family)) atOnce p (λ _. Unit {0})
-
-body-noteless : (l : Layout) (r : Request) → NotelessBus (body l r)
-body-noteless l r = subst NotelessBus (body-is l r) (transfer-noteless keeping l (deviceOf r) (commands (scriptOf r)) none)
 
 module _ (port : Port) where
   -- ESDP: a bit is set or cleared
@@ -59,7 +50,7 @@ module _ (port : Port) where
   unfolding once attempt
   once-at-once r how =
       at-once-note _ _ Attempt _ _
-      (noteless-at-once _ _ _ _ (attempting-noteless (how .sequence) (layoutOf (port .family)) (deviceOf r) _ (body-noteless (layoutOf (port .family)) r)) (λ _. tt))
+      (on-bus-at-once _ _ _ _ (once-on-bus port r how) (λ _. tt))
 
   locked-at-once : (on : Bool) (k : Prog (R Taken)) → AtOnces port k → AtOnces port (whenLock on (acquire port (mask port)) k)
   unfolding whenLock

@@ -1,7 +1,7 @@
 -- Whole calls of `command` and `token`: for every port and block that is accepted and every list of answers the
 -- library's run is the Rust's, and every list of answers of the awaited kinds that is long enough brings it to its end.
 -- A state that was handed out is not refused at its next step.
-use Prim.Native.Nat.{ℕ, _≤_, suc}
+use Prim.Native.Nat.{ℕ, _≤_, suc, zero}
 use mathlib.Core.Path.{_≡_, ap, _∙_, subst, sym, refl}
 use mathlib.Core.Bool.{Bool, true, false}
 use mathlib.Core.List.{List, [], _∷_}
@@ -12,7 +12,7 @@ use Rattle.hardware.specs.declared.Port.{Port}
 use Rattle.hardware.specs.Asked.{yes, andThen, question, openPort, fits, admitting, Asked, no}
 use Rattle.hardware.specs.Prog.{R, erase}
 use Rattle.hardware.specs.Runs.{run, runAsked, Awaited, ended, AwaitedIn, leftAfter, leftAskedAfter, Exchange, answersOf, AllKept, driven, Refuses, Asks, IfYes, Lasts}
-use Rattle.hardware.proofs.Laws.{runs-open, is-true, StepsOn, opened-runs, refused-runs, steps-few}
+use Rattle.hardware.proofs.Laws.{runs-open, is-true, StepsOn, opened-runs, refused-runs, steps-few, falls-few}
 use Rattle.hardware.proofs.Ends.{run-ends, ask-ends, ends-erase}
 use Rattle.hostif.specs.declared.command.Command.{Command}
 use Rattle.hostif.specs.declared.token.Token.{Token}
@@ -23,8 +23,9 @@ use Rattle.hostif.specs.declared.calls.TokenCall.the-variants.{Going as 
 use Rattle.hostif.specs.declared.calls.TokenTold.{TokenTold}
 use Rattle.hostif.specs.declared.calls.TokenTold.the-variants.{Ask as TokenAsk, End as TokenEnd, Refused as TokenRefused}
 use Rattle.hostif.specs.Hostif.{Left, command, restCommand, token, restToken}
-use Rattle.hostif.specs.Calls.{goes, lent, blockFits, openCommand, stepped, stepCommand, saidCommand, standsCommand, openToken, stepToken, saidToken, standsToken, followsToken, CommandAt, asked, saidAt, followsCommand, followsBlock}
+use Rattle.hostif.specs.Calls.{goes, lent, blockFits, openCommand, stepped, stepCommand, saidCommand, standsCommand, openToken, stepToken, saidToken, standsToken, followsToken, CommandAt, asked, saidAt, followsCommand, followsBlock, CallWithin, ToldWithin, Accepted, followsOwn, followsLent}
 use Rattle.hostif.proofs.Ends.{COMMAND-STEPS, command-ends, TOKEN-STEPS, token-ends, tokenAfter, token-rest-ends, commandAfter, command-rest-ends}
+use Rattle.hostif.proofs.Within.{command-some, command-within}
 use Rattle.hardware.specs.Promise.{Keeps}
 use Rattle.hardware.proofs.Prog.{run-erase}
 
@@ -104,6 +105,34 @@ unfolding saidCommand asked IfYes
 command-lasts x port s block ks h f k w =
     steps-few saidAt followsCommand standsAt command-on (record { told = CommandAsk x (CommandGoing port s); block = block }) ks (suc (commandAfter (length block) s)) (h, f) k w
     (ask-ends x _ (commandAfter (length block) s) (λ a. ends-erase _ _ (command-rest-ends port s block a)))
+
+-- Whatever block is lent to each step, the number of a state falls at every one that is accepted
+abbrev withinAt : CommandAt → ℕ → Type 0
+withinAt t n = Accepted (t .told) × ToldWithin (t .told) n
+
+own-falls : (t : CommandTold) (a : Answer) (u : CommandTold) (c : List ℕ) (n : ℕ) → ToldWithin t n → followsOwn t a u c → (m : ℕ) × (n ≡ suc m) × (Accepted u × ToldWithin u m)
+unfolding followsOwn ToldWithin CallWithin
+own-falls (CommandAsk x (CommandGoing port s)) a u c zero w k = absurd (command-some port s w)
+own-falls (CommandAsk x (CommandGoing port s)) a u c (suc m) w k = (m, refl, (k .0, k .1 .1 .within m w))
+own-falls (CommandAsk x CommandOver) a u c n w k = absurd w
+own-falls (CommandEnd b) a u c n w k = absurd k
+own-falls (CommandRefused q) a u c n w k = absurd k
+
+own-ends : (t : CommandTold) (b : List ℕ) → Accepted t → ToldWithin t 0 → IfYes (λ p. Asks p → ⊥) (asked (saidCommand t b))
+unfolding Accepted ToldWithin CallWithin saidCommand asked IfYes Asks
+own-ends (CommandAsk x (CommandGoing port s)) b g w = absurd (command-some port s w)
+own-ends (CommandAsk x CommandOver) b g w = absurd w
+own-ends (CommandEnd v) b g w = λ z. z
+own-ends (CommandRefused q) b g w = absurd g
+
+-- so from any state, whoever made it, the call takes at most so many accepted steps more, and has ended after as many
+pub command-lasts-lent : (x : Access) (port : Port) (s : Command) (block : List ℕ) (ks : List (Exchange CommandAt))
+    → AllKept followsLent (record { told = CommandAsk x (CommandGoing port s); block = block }) ks
+    → Lasts saidAt (record { told = CommandAsk x (CommandGoing port s); block = block }) ks (suc (commandAfter 64 s))
+unfolding Accepted ToldWithin CallWithin
+command-lasts-lent x port s block ks k =
+    falls-few saidAt followsLent withinAt (λ t u a n k w. own-falls (t .told) a (u .told) (u .block) n (w .1) k) (λ t w. own-ends (t .told) (t .block) (w .0) (w .1))
+    (record { told = CommandAsk x (CommandGoing port s); block = block }) ks (suc (commandAfter 64 s)) (tt, command-within port s) k
 
 pub token-runs : (family device lan : ℕ) (take : Bool) (r : TokenTold) → saidToken r ≡ openToken family device lan take → (l : List Answer)
     → runAsked (saidToken r) l ≡ andThen (openPort family device lan) (λ port. yes (run (token port take) l))

@@ -1,5 +1,5 @@
 -- What the public calls of `command` and `token` yield: a refusal by its number, or what is left of the call.
-use Prim.Native.Nat.{ℕ}
+use Prim.Native.Nat.{ℕ, suc}
 use mathlib.Core.Path.{_≡_}
 use mathlib.Core.Bool.{Bool, true, false}
 use mathlib.Core.List.{List}
@@ -22,7 +22,8 @@ use Rattle.hostif.specs.declared.calls.TokenCall.the-variants.{Going as 
 use Rattle.hostif.specs.declared.calls.TokenTold.{TokenTold}
 use Rattle.hostif.specs.declared.calls.TokenTold.the-variants.{Ask as TokenAsk, End as TokenEnd, Refused as TokenRefused}
 use Rattle.hostif.specs.Hostif.{Left, command, accessCommand, restCommand, validCommand, token, accessToken, restToken, validToken}
-use Rattle.hardware.specs.Promise.{Keeps}
+use Rattle.hostif.specs.Within.{CommandWithin}
+use Rattle.hardware.specs.Promise.{Keeps, Bounds}
 
 -- a call with a lent block: refused with a number, the block as it is now, or gone on with
 pub data Lent : Type 0 where
@@ -90,6 +91,33 @@ followsBlock (CommandRefused q) b a u c = ⊥
 
 abbrev pub followsCommand : CommandAt → Answer → CommandAt → Type 0
 followsCommand t a u = followsBlock (t .told) (t .block) a (u .told) (u .block)
+
+-- n accesses are enough from a call's state, whatever block is lent to each step
+unfoldable pub CallWithin : CommandCall → ℕ → Type 0
+CallWithin (CommandGoing port t) n = CommandWithin port t n
+CallWithin CommandOver n = ⊥
+
+unfoldable pub ToldWithin : CommandTold → ℕ → Type 0
+ToldWithin (CommandAsk x s) n = CallWithin s n
+ToldWithin (CommandEnd b) n = Unit {0}
+ToldWithin (CommandRefused q) n = Unit {0}
+
+-- the step was not refused
+unfoldable pub Accepted : CommandTold → Type 0
+Accepted (CommandAsk x s) = Unit {0}
+Accepted (CommandEnd b) = Unit {0}
+Accepted (CommandRefused q) = ⊥
+
+-- what an accepted step told, u, with the block c, follows what was told before it, as the step promises, where it was lent a block b of its
+-- own: accepted, so that b has 1 to 64 words and the state passes question 10 with it
+unfoldable pub followsOwn : CommandTold → Answer → CommandTold → List ℕ → Type 0
+followsOwn (CommandAsk x s) a u c =
+    Accepted u × ((b : List ℕ) × Bounds (saidCommand u c ≡ stepCommand s b a) (standsCommand u c) ((m : ℕ) → CallWithin s (suc m) → ToldWithin u m))
+followsOwn (CommandEnd v) a u c = ⊥
+followsOwn (CommandRefused q) a u c = ⊥
+
+abbrev pub followsLent : CommandAt → Answer → CommandAt → Type 0
+followsLent t a u = followsOwn (t .told) a (u .told) (u .block)
 
 -- `token`: 1 and 2
 unfoldable pub openToken : ℕ → ℕ → ℕ → Bool → Asked (Prog (R Bool))

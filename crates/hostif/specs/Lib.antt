@@ -1,4 +1,5 @@
 pub mod Hostif
+pub mod Within
 pub mod Acquire
 pub mod Locked
 pub mod Calls

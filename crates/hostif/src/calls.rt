@@ -11,16 +11,17 @@ use hardware::Flag;
 use hardware::Opening;
 use hardware::Port;
 use hardware::Refusal;
-ghost use Prim.Native.Nat.{ℕ, _≤_};
+ghost use Prim.Native.Nat.{ℕ, suc, _≤_};
 ghost use mathlib.Core.Path.{_≡_};
 ghost use mathlib.Core.Bool.{true};
 ghost use mathlib.Core.List.{List};
 ghost use lib.ListN.{length};
-ghost use Rattle.hardware.specs.Asked.{yes, validPort};
-ghost use Rattle.hardware.specs.Promise.{Keeps};
+ghost use Rattle.hardware.specs.Asked.{fits as fitsAnswer, yes, validPort};
+ghost use Rattle.hardware.specs.Promise.{Keeps, Bounds};
 ghost use Rattle.hardware.specs.Prog.{erase};
-ghost use Rattle.hostif.specs.Hostif.{commandNext, restCommand, validCommand, validCommandNext, tokenNext, validTokenNext};
-ghost use Rattle.hostif.specs.Calls.{goes, lent, blockFits, openCommand, validCommandCall, stepped, stepCommand, saidCommand, standsCommand, openToken, validTokenCall, stepToken, saidToken, standsToken};
+ghost use Rattle.hostif.specs.Hostif.{commandNext, accessCommand, restCommand, validCommand, validCommandNext, tokenNext, validTokenNext};
+ghost use Rattle.hostif.specs.Within.{CommandWithin, CommandNextWithin};
+ghost use Rattle.hostif.specs.Calls.{CallWithin, ToldWithin, goes, lent, blockFits, openCommand, validCommandCall, stepped, stepCommand, saidCommand, standsCommand, openToken, validTokenCall, stepToken, saidToken, standsToken};
 
 pub enum CommandCall {
     Going(Port, Command),
@@ -55,7 +56,7 @@ fn fits(n: usize) -> bool
 }
 
 fn command_told(port: Port, block: &[u32], n: CommandNext) -> CommandTold
-    ensures { λ r. ⌜ Keeps (saidCommand r (now (block .entry)) ≡ goes (commandNext port n (now (block .entry)))) (validPort port ≡ true → validCommandNext port (length (now (block .entry))) n ≡ true → standsCommand r (now (block .entry))) ⌝ }
+    ensures { λ r. ⌜ Bounds (saidCommand r (now (block .entry)) ≡ goes (commandNext port n (now (block .entry)))) (validPort port ≡ true → validCommandNext port (length (now (block .entry))) n ≡ true → standsCommand r (now (block .entry))) ((m : ℕ) → CommandNextWithin port n m → ToldWithin r m) ⌝ }
 {
     match n {
         CommandNext::Going(t) => CommandTold::Ask(
@@ -82,7 +83,7 @@ pub fn command_open(family: u32, device: u16, lan: u32, block: &[u32]) -> Comman
 
 fn go(port: Port, t: Command, block: &mut [u32], a: Answer) -> CommandTold
     requires { ⌜ length (now block) ≤ 64 ⌝ }
-    ensures { λ r. ⌜ Keeps (saidCommand r (now (block .exit)) ≡ goes (erase (restCommand port t (now (block .entry)) a))) (validPort port ≡ true → validCommand port (length (now (block .entry))) t ≡ true → standsCommand r (now (block .exit))) ⌝ }
+    ensures { λ r. ⌜ Bounds (saidCommand r (now (block .exit)) ≡ goes (erase (restCommand port t (now (block .entry)) a))) (validPort port ≡ true → validCommand port (length (now (block .entry))) t ≡ true → standsCommand r (now (block .exit))) ((m : ℕ) → fitsAnswer (accessCommand port t (now (block .entry))) a ≡ true → CommandWithin port t (suc m) → ToldWithin r m) ⌝ }
 {
     let n = crate::command::step(port, t, block, a);
     command_told(port, block, n)
@@ -99,7 +100,7 @@ fn valid_command(port: Port, n: usize, t: Command) -> bool
 
 fn command_on(port: Port, t: Command, block: &mut [u32], a: Answer) -> CommandTold
     requires { ⌜ length (now block) ≤ 64 ⌝ }
-    ensures { λ r. ⌜ Keeps (saidCommand r (now (block .exit)) ≡ lent (now (block .entry)) (stepped (CommandCall.Going port t) (now (block .entry)) a)) (standsCommand r (now (block .exit))) ⌝ }
+    ensures { λ r. ⌜ Bounds (saidCommand r (now (block .exit)) ≡ lent (now (block .entry)) (stepped (CommandCall.Going port t) (now (block .entry)) a)) (standsCommand r (now (block .exit))) ((m : ℕ) → CommandWithin port t (suc m) → ToldWithin r m) ⌝ }
 {
     let valid = valid_command(port, block.len(), t);
     match hardware::admit(valid, crate::command::access(port, t, block), a) {
@@ -109,7 +110,7 @@ fn command_on(port: Port, t: Command, block: &mut [u32], a: Answer) -> CommandTo
 }
 
 pub fn command_step(s: CommandCall, block: &mut [u32], a: Answer) -> CommandTold
-    ensures { λ r. ⌜ Keeps (saidCommand r (now (block .exit)) ≡ stepCommand s (now (block .entry)) a) (standsCommand r (now (block .exit))) ⌝ }
+    ensures { λ r. ⌜ Bounds (saidCommand r (now (block .exit)) ≡ stepCommand s (now (block .entry)) a) (standsCommand r (now (block .exit))) ((m : ℕ) → CallWithin s (suc m) → ToldWithin r m) ⌝ }
 {
     if fits(block.len()) {
         return match s {

@@ -15,16 +15,20 @@ use sync::acquire_bits::AcquireBitsNext;
 use sync::regs::SW_MNG;
 use sync::release_bits::ReleaseBits;
 use sync::release_bits::ReleaseBitsNext;
-ghost use Prim.Native.Nat.{ℕ, _≤_};
+ghost use Prim.Native.Nat.{ℕ, suc, _≤_};
 ghost use mathlib.Core.Path.{_≡_};
 ghost use mathlib.Core.Bool.{true};
 ghost use mathlib.Core.List.{List};
 ghost use lib.ListN.{length};
+ghost use Rattle.hardware.specs.Asked.{fits};
 ghost use Rattle.hardware.specs.Prog.{erase, followed};
 ghost use Rattle.hardware.specs.Registers.{word, outcome, byte};
+ghost use Rattle.hardware.specs.Runs.{Ends};
+ghost use Rattle.hardware.specs.Promise.{Bounds};
 ghost use Rattle.sync.specs.Regs.{SW-MNG};
-ghost use Rattle.sync.specs.Resource.{acquireBitsNext, validAcquireBitsNext, releaseBitsNext, validReleaseBitsNext};
+ghost use Rattle.sync.specs.Resource.{acquireBitsNext, validAcquireBitsNext, releaseBits, releaseBitsNext, validReleaseBitsNext};
 ghost use Rattle.hostif.specs.Hostif.{both, closed, requestNext, validRequestNext, responseNext, validResponseNext, released, requested, acquired, command, accessCommand, restCommand, commandNext, validCommand, validCommandNext};
+ghost use Rattle.hostif.specs.Within.{Then, RequestNextWithin, ResponseNextWithin, RespondWithin, AcquiredWithin, CommandWithin, CommandNextWithin};
 
 // Releasing: with how the command closed.
 pub enum Command {
@@ -53,8 +57,7 @@ fn outcome_of(s: Byte, o: Outcome) -> Byte
 }
 
 fn releasing(port: Port, s: Byte, n: ReleaseBitsNext) -> CommandNext
-    ensures { λ r. ⌜ ((l : List ℕ) → commandNext port r l ≡ followed (releaseBitsNext port SW-MNG n) (closed (byte s) l)) ⌝ }
-    ensures { λ r. ⌜ ((m : ℕ) → validReleaseBitsNext n ≡ true → validCommandNext port m r ≡ true) ⌝ }
+    ensures { λ r. ⌜ Bounds ((l : List ℕ) → commandNext port r l ≡ followed (releaseBitsNext port SW-MNG n) (closed (byte s) l)) ((m : ℕ) → validReleaseBitsNext n ≡ true → validCommandNext port m r ≡ true) ((m : ℕ) → Ends (releaseBitsNext port SW-MNG n) m → CommandNextWithin port r m) ⌝ }
 {
     match n {
         ReleaseBitsNext::Going(t) => CommandNext::Going(Command::Releasing(t, s)),
@@ -63,15 +66,13 @@ fn releasing(port: Port, s: Byte, n: ReleaseBitsNext) -> CommandNext
 }
 
 fn release(port: Port, s: Byte) -> CommandNext
-    ensures { λ r. ⌜ ((l : List ℕ) → commandNext port r l ≡ erase (released port (record { status = byte s; block = l }))) ⌝ }
-    ensures { λ r. ⌜ ((m : ℕ) → validCommandNext port m r ≡ true) ⌝ }
+    ensures { λ r. ⌜ Bounds ((l : List ℕ) → commandNext port r l ≡ erase (released port (record { status = byte s; block = l }))) ((m : ℕ) → validCommandNext port m r ≡ true) ((m : ℕ) → Ends (releaseBits port SW-MNG) m → CommandNextWithin port r m) ⌝ }
 {
     releasing(port, s, sync::release_bits::open(port, SW_MNG))
 }
 
 fn responding(port: Port, n: ResponseNext) -> CommandNext
-    ensures { λ r. ⌜ ((l : List ℕ) → commandNext port r l ≡ followed (responseNext n l) (released port)) ⌝ }
-    ensures { λ r. ⌜ ((m : ℕ) → validResponseNext m n ≡ true → validCommandNext port m r ≡ true) ⌝ }
+    ensures { λ r. ⌜ Bounds ((l : List ℕ) → commandNext port r l ≡ followed (responseNext n l) (released port)) ((m : ℕ) → validResponseNext m n ≡ true → validCommandNext port m r ≡ true) ((m : ℕ) → Then (ResponseNextWithin n) (Ends (releaseBits port SW-MNG)) m → CommandNextWithin port r m) ⌝ }
 {
     match n {
         ResponseNext::Going(t) => CommandNext::Going(Command::Responding(t)),
@@ -80,8 +81,7 @@ fn responding(port: Port, n: ResponseNext) -> CommandNext
 }
 
 fn request_done(port: Port, w: Word) -> CommandNext
-    ensures { λ r. ⌜ ((l : List ℕ) → commandNext port r l ≡ erase (requested port l (word w))) ⌝ }
-    ensures { λ r. ⌜ ((m : ℕ) → validCommandNext port m r ≡ true) ⌝ }
+    ensures { λ r. ⌜ Bounds ((l : List ℕ) → commandNext port r l ≡ erase (requested port l (word w))) ((m : ℕ) → validCommandNext port m r ≡ true) ((m : ℕ) → RespondWithin port m → CommandNextWithin port r m) ⌝ }
 {
     match w {
         Word::Ok(last) => CommandNext::Going(Command::Responding(Response::Head(last))),
@@ -90,8 +90,7 @@ fn request_done(port: Port, w: Word) -> CommandNext
 }
 
 fn requesting(port: Port, n: RequestNext) -> CommandNext
-    ensures { λ r. ⌜ ((l : List ℕ) → commandNext port r l ≡ followed (requestNext n l) (requested port l)) ⌝ }
-    ensures { λ r. ⌜ ((m : ℕ) → validRequestNext m n ≡ true → validCommandNext port m r ≡ true) ⌝ }
+    ensures { λ r. ⌜ Bounds ((l : List ℕ) → commandNext port r l ≡ followed (requestNext n l) (requested port l)) ((m : ℕ) → validRequestNext m n ≡ true → validCommandNext port m r ≡ true) ((m : ℕ) → Then (RequestNextWithin n) (RespondWithin port) m → CommandNextWithin port r m) ⌝ }
 {
     match n {
         RequestNext::Going(t) => CommandNext::Going(Command::Requesting(t)),
@@ -100,8 +99,7 @@ fn requesting(port: Port, n: RequestNext) -> CommandNext
 }
 
 fn acquiring(port: Port, n: AcquireBitsNext) -> CommandNext
-    ensures { λ r. ⌜ ((l : List ℕ) → commandNext port r l ≡ followed (acquireBitsNext port SW-MNG n) (acquired port l)) ⌝ }
-    ensures { λ r. ⌜ ((m : ℕ) → validAcquireBitsNext (port .family) n ≡ true → validCommandNext port m r ≡ true) ⌝ }
+    ensures { λ r. ⌜ Bounds ((l : List ℕ) → commandNext port r l ≡ followed (acquireBitsNext port SW-MNG n) (acquired port l)) ((m : ℕ) → validAcquireBitsNext (port .family) n ≡ true → validCommandNext port m r ≡ true) ((m : ℕ) → Then (Ends (acquireBitsNext port SW-MNG n)) (AcquiredWithin port) m → CommandNextWithin port r m) ⌝ }
 {
     match n {
         AcquireBitsNext::Going(t) => CommandNext::Going(Command::Acquiring(t)),
@@ -136,8 +134,7 @@ pub(crate) fn access(port: Port, s: Command, block: &[u32]) -> Access
 
 pub(crate) fn step(port: Port, s: Command, block: &mut [u32], a: Answer) -> CommandNext
     requires { ⌜ length (now block) ≤ 64 ⌝ }
-    ensures { λ r. ⌜ commandNext port r (now (block .exit)) ≡ erase (restCommand port s (now (block .entry)) a) ⌝ }
-    ensures { λ r. ⌜ (validCommand port (length (now (block .entry))) s ≡ true → validCommandNext port (length (now (block .entry))) r ≡ true) ⌝ }
+    ensures { λ r. ⌜ Bounds (commandNext port r (now (block .exit)) ≡ erase (restCommand port s (now (block .entry)) a)) (validCommand port (length (now (block .entry))) s ≡ true → validCommandNext port (length (now (block .entry))) r ≡ true) ((m : ℕ) → fits (accessCommand port s (now (block .entry))) a ≡ true → CommandWithin port s (suc m) → CommandNextWithin port r m) ⌝ }
 {
     match s {
         Command::Acquiring(t) => acquiring(port, sync::acquire_bits::step(port, SW_MNG, t, a)),

@@ -18,7 +18,8 @@ use Rattle.hostif.specs.Acquire.{hwOf, withBits, acquiredAll, acquire, giveBits
 use Rattle.bus.specs.declared.Layout.{Layout}
 use Rattle.bus.specs.declared.Taken.{Taken}
 use Rattle.bus.specs.Layout.{layoutOf}
-use Rattle.bus.proofs.Ends.{EndsBus, bus-more, done-ends, START-STEPS, SEND-STEPS, IN-BYTE-STEPS, OUT-BIT-STEPS, STOP-STEPS, start-ends, send-ends, in-byte-ends, out-bit-ends, stop-ends}
+use Rattle.bus.specs.Steps.{START-STEPS, SEND-STEPS, IN-BYTE-STEPS, OUT-BIT-STEPS, STOP-STEPS}
+use Rattle.bus.proofs.Ends.{EndsBus, bus-more, done-ends, start-ends, send-ends, in-byte-ends, out-bit-ends, stop-ends}
 use Rattle.transfer.proofs.Ends.{ATTEMPT-STEPS, attempt-ends, attemptAfter, attempt-rest-ends}
 use Rattle.i2c.specs.declared.How.{How}
 use Rattle.i2c.specs.declared.once.Request.{Request}

@@ -34,7 +34,7 @@ mask-bits : (port : Port) → hwOf (mask port) ≡ mask port
 unfolding hwOf
 mask-bits port = of-masks (λ m. hwOf m ≡ m) port refl refl refl
 
-mask-some : (port : Port) → eqb (hwOf (mask port)) 0 ≡ false
+pub mask-some : (port : Port) → eqb (hwOf (mask port)) 0 ≡ false
 unfolding hwOf
 mask-some port = of-masks (λ m. eqb (hwOf m) 0 ≡ false) port refl refl refl
 

@@ -2,7 +2,7 @@
 -- port, the request, the lock or none, the number of attempts and the answers. `Pairs` of the calls that they are made of
 -- serves the calls that are made of them.
 use Prim.Native.Nat.{ℕ, suc, zero}
-use mathlib.Core.Path.{_≡_, refl, subst}
+use mathlib.Core.Path.{_≡_, refl}
 use mathlib.Core.Bool.{Bool, true, false}
 use mathlib.Core.List.{List}
 use Rattle.hardware.specs.declared.Answer.{Answer}
@@ -12,22 +12,16 @@ use Rattle.hardware.specs.Runs.{run, ended}
 use Rattle.sync.specs.Regs.{SW-MNG}
 use Rattle.hostif.specs.Hostif.{Left, closed, released, requested, acquired, command, tokenBlock, tokened, token}
 use Rattle.hostif.specs.Acquire.{TOKEN-TRIES, hwOf, withBits, acquiredAll, notGranted, givenBack, tokenSeen, acquireToken, acquire, giveBits, tokenGiven, release}
-use Rattle.bus.specs.declared.Layout.{Layout}
 use Rattle.bus.specs.declared.Taken.{Taken}
-use Rattle.bus.specs.Layout.{layoutOf}
 use Rattle.bus.specs.Bus.{none}
-use Rattle.bus.proofs.Noteless.{NotelessBus}
-use Rattle.script.specs.Script.{commands}
-use Rattle.transfer.specs.Transfer.{keeping}
 use Rattle.transfer.specs.Attempt.{attempt}
-use Rattle.transfer.proofs.Noteless.{transfer-noteless, attempting-noteless}
 use Rattle.i2c.specs.declared.How.{How}
 use Rattle.i2c.specs.declared.once.Request.{Request}
 use Rattle.i2c.specs.declared.once.Request.the-variants.{ReadByte, WriteByte, ReadCombined, WriteCombined}
-use Rattle.i2c.specs.I2c.{mask, deviceOf, scriptOf, body, givesValue, once, whenLock, readJudged, readTries, writeTries, givenUp, writes, retried, granting, granted, givenBus, onGrant, withBus, handshaken, transferred}
+use Rattle.i2c.specs.I2c.{mask, givesValue, once, whenLock, readJudged, readTries, writeTries, givenUp, writes, retried, givenBus, onGrant, withBus, handshaken, transferred}
 use Rattle.i2c.specs.Paired.{free, held, holdAfter, notesIn, Paired}
-use Rattle.i2c.proofs.Laws.{body-is}
-use Rattle.i2c.proofs.Quiet.{Quiet, quiet-noteless, quiet-pick, quiet-ret, quiet-lapsed, quiet-try, read-quiet, delay-quiet, change-quiet, acquire-bits-quiet, release-bits-quiet, request-quiet, respond-quiet}
+use Rattle.i2c.proofs.OnBus.{once-on-bus}
+use Rattle.i2c.proofs.Quiet.{granted-quiet, Quiet, on-bus-quiet, quiet-pick, quiet-ret, delay-quiet, change-quiet, acquire-bits-quiet, release-bits-quiet, request-quiet, respond-quiet}
 use Rattle.i2c.proofs.Pairs.{Pairs, holdOf, pairs-holds, pairs-bind, pairs-then, pairs-or, pairs-try, pairs-pick, pairs-ret, pairs-attempt, pairs-acquires, pairs-acquired, pairs-released, pairs-quiet, pairs-paired}
 
 -- a firmware command takes its own lock and gives it back
@@ -138,14 +132,11 @@ release-noted port mask l v e = pairs-holds true _ (λ _. false) l (release-pair
 
 -- an attempt leaves the lock as it was
 
-pub body-noteless : (l : Layout) (r : Request) → NotelessBus (body l r)
-body-noteless l r = subst NotelessBus (body-is l r) (transfer-noteless keeping l (deviceOf r) (commands (scriptOf r)) none)
-
 pub once-pairs : (h : Bool) (port : Port) (r : Request) (how : How) → Pairs h (once port r how) (λ _. h)
 unfolding once attempt
 once-pairs h port r how =
     pairs-attempt h _ _
-    (pairs-quiet h _ (quiet-noteless _ (attempting-noteless (how .sequence) (layoutOf (port .family)) (deviceOf r) _ (body-noteless (layoutOf (port .family)) r))))
+    (pairs-quiet h _ (on-bus-quiet _ _ (once-on-bus port r how)))
 
 -- the lock, where it is wanted, is held in k and free at the end
 
@@ -195,12 +186,6 @@ writes-pairs port r how =
 pub retried-pairs : (port : Port) (r : Request) (how : How) (n : ℕ) → Pairs false (retried port r how n) (λ _. false)
 unfolding retried
 retried-pairs port r how n = pairs-pick false _ _ _ _ (writes-pairs port r how) (read-tries-pairs port r how n)
-
-pub granted-quiet : (n : ℕ) → Quiet (granted n)
-unfolding granted granting
-granted-quiet zero = quiet-lapsed _ (quiet-ret _)
-granted-quiet (suc n) =
-    quiet-try _ _ (read-quiet _) (λ v. quiet-pick _ _ _ (quiet-try _ _ (delay-quiet _) (λ _. granted-quiet n)) (quiet-ret _))
 
 with-bus-pairs : (port : Port) (device : ℕ) (f : Prog (R Taken)) → Pairs false f (λ _. false) → Pairs false (withBus port device f) (λ _. false)
 unfolding withBus onGrant givenBus

@@ -3,3 +3,4 @@ pub mod Retry
 pub mod Handshake
 pub mod Calls
 pub mod Paired
+pub mod Shown

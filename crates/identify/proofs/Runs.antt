@@ -1,9 +1,9 @@
 -- Whole calls of `identify` and `identify_qsfp`: for every port that is accepted and every list of answers the library's
 -- run is the Rust's, the count of the attempts in it beside the result. A state that was handed out is not refused at its
--- next step. Each successful acquire gets one release call.
-use Prim.Native.Nat.{ℕ, _≤_, suc, zero}
-use mathlib.Core.Path.{_≡_, ap, _∙_}
-use mathlib.Core.Bool.{Bool, true, false}
+-- next step. Each successful acquire gets one release call, and the accesses show the attempts.
+use Prim.Native.Nat.{ℕ, _≤_, suc}
+use mathlib.Core.Path.{_≡_, refl, ap, _∙_}
+use mathlib.Core.Bool.{true, false}
 use mathlib.Core.List.{List}
 use lib.ListN.{length}
 use Rattle.hardware.specs.declared.Access.{Access}
@@ -11,21 +11,22 @@ use Rattle.hardware.specs.declared.Answer.{Answer}
 use Rattle.hardware.specs.declared.Meter.{Meter}
 use Rattle.hardware.specs.declared.Port.{Port}
 use Rattle.hardware.specs.Asked.{yes, andThen, question, openPort, fits, admitting}
-use Rattle.hardware.specs.Prog.{Prog, R, Ok, Err, blank, tally}
-use Rattle.hardware.specs.Runs.{run, runAsked, Awaited, AwaitedIn, driven, ended, meterIn, counted, leftAfter, leftAskedAfter, Exchange, answersOf, AllKept, Asks, IfYes, Lasts}
+use Rattle.hardware.specs.Prog.{Prog, R, blank, tally}
+use Rattle.hardware.specs.Runs.{run, runAsked, Awaited, AwaitedIn, driven, ended, transfersIn, meterIn, counted, leftAfter, leftAskedAfter, Exchange, answersOf, AllKept, Asks, IfYes, Lasts}
 use Rattle.hardware.proofs.Laws.{asked-runs, StepsOn, is-true, opened-runs, steps-few}
 use Rattle.hardware.proofs.Ends.{run-ends, ask-ends, ends-tally}
 use Rattle.i2c.specs.declared.once.Request.the-variants.{ReadByte}
+use Rattle.bus.specs.Layout.{layoutOf}
 use Rattle.transfer.specs.declared.attempt.Sequence.{Sequence}
-use Rattle.i2c.specs.I2c.{standard, locked}
+use Rattle.i2c.specs.I2c.{standard, locked, isWrite}
 use Rattle.i2c.specs.Paired.{Paired}
-use Rattle.i2c.proofs.Pairs.{Pairs, pairs-then, pairs-pick, pairs-ret, pairs-paired}
+use Rattle.i2c.specs.Shown.{shown, asked}
+use Rattle.i2c.proofs.Shown.{fresh, Shows, shows-count, shows-then, shows-ret, read-shows}
+use Rattle.i2c.proofs.Pairs.{Pairs, pairs-then, pairs-ret, pairs-paired}
 use Rattle.i2c.proofs.Paired.{transferred-pairs}
-use Rattle.sfp.specs.declared.Codes.{Codes}
-use Rattle.sfp.specs.declared.Kind.{Kind}
 use Rattle.sfp.specs.declared.Identity.{Identity}
-use Rattle.sfp.specs.Identify.{EEPROM, orAbsent, byte, identifierOf, reachOf, bx10gOf, kindBy, classify, known, identified, identify}
-use Rattle.sfp.specs.Qsfp.{qsfpTechnology, qsfpLength, qsfpConnector, qsfpClassify, qsfpKnown, qsfpIdentified, identifyQsfp}
+use Rattle.sfp.specs.Identify.{EEPROM, identify}
+use Rattle.sfp.specs.Qsfp.{identifyQsfp}
 use Rattle.sfp.specs.Steps.{IDENTIFY-STEPS}
 use Rattle.sfp.proofs.Ends.{identify-ends, QSFP-STEPS, qsfp-ends}
 use Rattle.identify.specs.declared.walk.Identify.{Identify}
@@ -35,6 +36,7 @@ use Rattle.identify.specs.declared.calls.IdentifyTold.the-variants.{Ask,
 use Rattle.identify.specs.Walk.{restIdentify}
 use Rattle.identify.specs.Calls.{openIdentify, openQsfp, stepIdentify, saidIdentify, standsIdentify, followsIdentify}
 use Rattle.hardware.specs.Promise.{Keeps}
+use Rattle.identify.proofs.Spreads.{Spreads, identify-holds, qsfp-holds}
 use Rattle.identify.proofs.Ends.{identifyAfter, identify-rest-ends}
 
 pub identify-runs : (family device lan : ℕ) (t : IdentifyTold) → saidIdentify t ≡ openIdentify family device lan → (l : List Answer)
@@ -78,54 +80,44 @@ pub qsfp-driven : (family device lan : ℕ) (t : IdentifyTold) → Keeps (saidId
     → AwaitedIn (openQsfp family device lan) (answersOf ks) → driven saidIdentify t ks ≡ andThen (openPort family device lan) (λ port. yes (counted (meterIn blank (identifyQsfp standard port) (answersOf ks)) (run (identifyQsfp standard port) (answersOf ks))))
 qsfp-driven family device lan t k ks kept w = opened-runs saidIdentify followsIdentify standsIdentify identify-on t ks k kept w ∙ qsfp-runs family device lan t (k .yields) (answersOf ks)
 
--- a requested byte keeps the rule of the locks, and so does what follows it
-absent-pairs : (k : ℕ → Prog (R Identity)) (r : R ℕ) → ((v : ℕ) → Pairs false (k v) (λ _. false)) → Pairs false (orAbsent k r) (λ _. false)
-unfolding orAbsent
-absent-pairs k (Ok v) e = e v
-absent-pairs k (Err error) e = pairs-pick false _ _ _ _ (pairs-ret false _) (pairs-ret false _)
-
-byte-pairs : (q : Sequence) (port : Port) (offset tries : ℕ) (k : ℕ → Prog (R Identity)) → ((v : ℕ) → Pairs false (k v) (λ _. false)) → Pairs false (byte q port offset tries k) (λ _. false)
-unfolding byte
-byte-pairs q port offset tries k e = pairs-then false _ _ _ (transferred-pairs port (ReadByte EEPROM offset) (locked q) tries) (λ r. absent-pairs k r e)
-
-kind-pairs : (q : Sequence) (port : Port) (c : Codes) (bx : Bool) (k : Kind → Prog (R Identity)) → ((kind : Kind) → Pairs false (k kind) (λ _. false)) → Pairs false (kindBy q port c bx k) (λ _. false)
-unfolding kindBy
-kind-pairs q port c bx k e = pairs-pick false _ _ _ _ (e _) (pairs-pick false _ _ _ _ (byte-pairs q port 60 _ _ (λ v. e _)) (e _))
-
-bx-pairs : (q : Sequence) (port : Port) (c : Codes) (k : Bool → Prog (R Identity)) → ((b : Bool) → Pairs false (k b) (λ _. false)) → Pairs false (bx10gOf q port c k) (λ _. false)
-unfolding bx10gOf reachOf
-bx-pairs q port c k e =
-    pairs-pick false _ _ _ _
-    (byte-pairs q port 12 _ _ (λ rate. pairs-pick false _ _ _ _ (byte-pairs q port 14 _ _ (λ km. byte-pairs q port 15 _ _ (λ hm. e _))) (e _)))
-    (e _)
-
-known-pairs : (q : Sequence) (port : Port) (identifier : ℕ) → Pairs false (known q port identifier) (λ _. false)
-unfolding known classify
-known-pairs q port identifier =
-    byte-pairs q port 6 _ _ (λ g1. byte-pairs q port 3 _ _ (λ g10. byte-pairs q port 8 _ _ (λ cable.
-    bx-pairs q port _ _ (λ bx. kind-pairs q port _ bx _ (λ kind. pairs-ret false _)))))
-
-identifier-pairs : (q : Sequence) (port : Port) (left identifier : ℕ) (k : ℕ → Prog (R Identity)) → ((v : ℕ) → Pairs false (k v) (λ _. false))
-    → Pairs false (identifierOf q port left identifier k) (λ _. false)
-unfolding identifierOf
-identifier-pairs q port zero identifier k e = e identifier
-identifier-pairs q port (suc left) identifier k e = byte-pairs q port 0 11 _ (λ v. pairs-pick false _ _ _ _ (e v) (identifier-pairs q port left v k e))
-
 -- each successful acquire gets one release call before the next acquire or the end, for every list of answers
+
+abbrev Keeping : Prog (R Identity) → Type 0
+Keeping p = Pairs false p (λ _. false)
+
+pairs-spreads : (q : Sequence) (port : Port) → Spreads q port Keeping
+pairs-spreads q port =
+    record {
+      ends = λ v. pairs-ret false v;
+      requests = λ offset tries k e. pairs-then false _ k _ (transferred-pairs port (ReadByte EEPROM offset) (locked q) tries) e;
+    }
+
 pub identify-paired : (q : Sequence) (port : Port) (l : List Answer) → Paired (identify q port) l
-unfolding identify identified
-identify-paired q port l =
-    pairs-paired _ l (identifier-pairs q port 5 0 _ (λ v. pairs-pick false _ _ _ _ (known-pairs q port v) (pairs-ret false _)))
+identify-paired q port l = pairs-paired _ l (identify-holds q port Keeping (pairs-spreads q port))
 
 pub qsfp-paired : (q : Sequence) (port : Port) (l : List Answer) → Paired (identifyQsfp q port) l
-unfolding identifyQsfp qsfpIdentified qsfpKnown qsfpClassify qsfpConnector qsfpLength qsfpTechnology
-qsfp-paired q port l =
-    pairs-paired _ l
-    (byte-pairs q port 0 11 _ (λ v. pairs-pick false _ _ _ _
-    (byte-pairs q port 0x83 _ _ (λ g10. byte-pairs q port 0x86 _ _ (λ g1. pairs-pick false _ _ _ _ (pairs-ret false _) (pairs-pick false _ _ _ _ (pairs-ret false _) (pairs-pick false _ _ _ _ (pairs-ret false _)
-    (byte-pairs q port 0x82 _ _ (λ a. pairs-pick false _ _ _ _ (byte-pairs q port 0x92 _ _ (λ b. pairs-pick false _ _ _ _
-    (byte-pairs q port 0x93 _ _ (λ c. pairs-pick false _ _ _ _ (pairs-ret false _) (pairs-ret false _))) (pairs-ret false _))) (pairs-ret false _))))))))
-    (pairs-ret false _)))
+qsfp-paired q port l = pairs-paired _ l (qsfp-holds q port Keeping (pairs-spreads q port))
+
+-- the accesses that a run asks for show the attempts that it begins
+
+abbrev Showing : Port → Prog (R Identity) → Type 0
+Showing port p = Shows (layoutOf (port .family)) fresh p fresh
+
+shows-spreads : (q : Sequence) (port : Port) → Spreads q port (Showing port)
+unfolding isWrite
+shows-spreads q port =
+    record {
+      ends = λ v. shows-ret _ v;
+      requests = λ offset tries k e. shows-then _ fresh _ k (read-shows port (ReadByte EEPROM offset) q tries refl) e;
+    }
+
+pub identify-shown : (q : Sequence) (port : Port) (l : List Answer)
+    → shown (layoutOf (port .family)) (asked (run (identify q port) l)) ≡ transfersIn (identify q port) l
+identify-shown q port l = shows-count _ _ l (identify-holds q port (Showing port) (shows-spreads q port))
+
+pub qsfp-shown : (q : Sequence) (port : Port) (l : List Answer)
+    → shown (layoutOf (port .family)) (asked (run (identifyQsfp q port) l)) ≡ transfersIn (identifyQsfp q port) l
+qsfp-shown q port l = shows-count _ _ l (qsfp-holds q port (Showing port) (shows-spreads q port))
 
 -- from any state that passes question 10, whoever made it, the call takes at most so many steps more
 pub identify-lasts : (x : Access) (port : Port) (q : Sequence) (m : Meter) (s : Identify) (ks : List (Exchange IdentifyTold)) → standsIdentify (Ask x (Going port q m s))

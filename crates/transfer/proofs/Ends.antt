@@ -14,7 +14,8 @@ use Rattle.bus.specs.declared.Taken.{Taken}
 use Rattle.bus.specs.declared.command.Command.{Command}
 use Rattle.bus.specs.declared.command.Command.the-variants.{Start, Send, Read, Stop, Free}
 use Rattle.bus.specs.Bus.{Bus, none}
-use Rattle.bus.proofs.Ends.{EndsBus, bus-more, done-ends, SEND-STEPS, CLEAR-STEPS, start-ends, send-ends, in-byte-ends, out-bit-ends, stop-ends, free-ends, clear-ends, jobAfter, clearAfter, job-rest-ends, clear-rest-ends}
+use Rattle.bus.specs.Steps.{SEND-STEPS, CLEAR-STEPS}
+use Rattle.bus.proofs.Ends.{EndsBus, bus-more, done-ends, start-ends, send-ends, in-byte-ends, out-bit-ends, stop-ends, free-ends, clear-ends, jobAfter, clearAfter, job-rest-ends, clear-rest-ends}
 use Rattle.transfer.specs.declared.attempt.Sequence.{Sequence}
 use Rattle.transfer.specs.declared.attempt.Sequence.the-variants.{Pulses}
 use Rattle.transfer.specs.Transfer.{Mode, handing, keeping, tells, did, tookBy, handed, transfer, ranOn, restTransfer}
@@ -74,7 +75,7 @@ transfer-ends m l device (c ∷ cs) t =
     (command-ends l device c _ (COMMAND-STEPS * length cs) (λ b. handed-ends m c b _ _ (transfer-ends m l device cs (tookBy c t b))))
     (omega arith)
 
-clearing-ends : (q : Sequence) (l : Layout) → EndsBus (clearing q l) CLEAR-STEPS
+pub clearing-ends : (q : Sequence) (l : Layout) → EndsBus (clearing q l) CLEAR-STEPS
 unfolding clearing
 clearing-ends Pulses l = clear-ends l
 
@@ -137,7 +138,7 @@ attemptAfter New = COMMAND-STEPS * 64 + CLEAR-STEPS
 attemptAfter (Moving t) = transferAfter t + CLEAR-STEPS
 attemptAfter (Clearing c) = clearAfter c
 
-next-beyond : (s : List ℕ) (at : ℕ) → at ≤ nextAt s at
+pub next-beyond : (s : List ℕ) (at : ℕ) → at ≤ nextAt s at
 unfolding nextAt
 next-beyond s at = omega arith
 

@@ -1,7 +1,8 @@
 -- Whole calls of a script: for every port and script that is accepted and every list of answers the library's run is the
 -- Rust's, with the count of transfers, and every list of answers of the awaited kinds that is long enough brings it to its
--- end. A state that was handed out is not refused at its next step.
-use Prim.Native.Nat.{ℕ, _+_, _*_, _≤_, suc}
+-- end. A state that was handed out is not refused at its next step. From any state the call ends, whatever accepted script is
+-- lent at each step.
+use Prim.Native.Nat.{ℕ, _+_, _*_, _≤_, suc, zero}
 use mathlib.Core.Path.{_≡_, refl, ap, _∙_, subst, sym}
 use mathlib.Core.Bool.{Bool, true, false}
 use mathlib.Core.List.{List}
@@ -14,10 +15,11 @@ use Rattle.hardware.specs.declared.Port.{Port}
 use Rattle.hardware.specs.Asked.{Asked, no, yes, andThen, question, openPort, fits, admitting}
 use Rattle.hardware.specs.Prog.{Prog, R, blank, tally, _>>=_}
 use Rattle.hardware.specs.Runs.{run, runAsked, Ends, Awaited, ended, transfersIn, meterIn, counted, AwaitedIn, leftAfter, leftAskedAfter, Exchange, answersOf, AllKept, driven, Refuses, Asks, IfYes, Lasts}
-use Rattle.hardware.proofs.Laws.{run-tally, is-true, StepsOn, opened-runs, refused-runs, steps-few}
+use Rattle.hardware.proofs.Laws.{run-tally, is-true, StepsOn, opened-runs, refused-runs, steps-few, falls-few}
 use Rattle.hardware.proofs.Ends.{ends-more, ends-bind, ret-ends, run-ends, ask-ends, ends-tally}
+use Rattle.bus.specs.declared.Layout.{Layout}
 use Rattle.bus.specs.declared.Taken.{Taken}
-use Rattle.bus.proofs.Noteless.{Noteless, ret-noteless, bind-noteless, transfers-none}
+use Rattle.bus.proofs.OnBus.{OnBus, ret-on-bus, bind-on-bus, transfers-none}
 use Rattle.script.specs.Script.{commands, device, judged}
 use Rattle.script.proofs.Laws.{accepted, fits-length, commands-length}
 use Rattle.bus.specs.Bus.{none}
@@ -29,16 +31,18 @@ use Rattle.transfer.specs.declared.calls.ScriptTold.{ScriptTold}
 use Rattle.transfer.specs.declared.calls.ScriptTold.the-variants.{Ask, Read, End, Refused}
 use Rattle.transfer.specs.Transfer.{handing}
 use Rattle.transfer.specs.Attempt.{attempt}
-use Rattle.transfer.specs.Calls.{dropped, script, restScript, judgedThen, openScript, steppedScript, stepScript, saidScript, standsScript, single, followsScript}
+use Rattle.transfer.specs.Calls.{dropped, script, restScript, judgedThen, openScript, steppedScript, stepScript, saidScript, standsScript, single, followsScript, Lent, saidLent, followsLent}
+use Rattle.transfer.specs.Within.{AttemptWithin, CallWithin, ScriptWithin}
 use Rattle.transfer.proofs.Laws.{judged-yes}
 use Rattle.transfer.proofs.Ends.{COMMAND-STEPS, ATTEMPT-STEPS, attempt-steps, commands-ends, attemptAfter, attempt-rest-ends}
-use Rattle.transfer.proofs.Noteless.{transfer-noteless, attempting-noteless}
+use Rattle.transfer.proofs.Within.{attempt-some, attemptLeft, attempt-within}
+use Rattle.transfer.proofs.OnBus.{transfer-on-bus, attempting-on-bus}
 use Rattle.hardware.specs.Promise.{Keeps}
 use borrow.Author.Tests.{eqb-true}
 
-dropped-noteless : (r : R Taken) → Noteless (dropped r)
+dropped-on-bus : (l : Layout) (r : R Taken) → OnBus l (dropped r)
 unfolding dropped
-dropped-noteless r = ret-noteless _
+dropped-on-bus l r = ret-on-bus l _
 
 -- a call that is opened is run over the answers
 run-question : {A : Type 0} (b : Bool) (n : ℕ) (p : Prog A) (l : List Answer) → runAsked (question b n (yes p)) l ≡ question b n (yes (run p l))
@@ -61,7 +65,8 @@ script-runs family device lan s r e l = ap (λ x. runAsked x l) e ∙ run-opened
 pub script-count : (port : Port) (s : List ℕ) (l : List Answer) → transfersIn (script port s) l ≡ 1
 unfolding script attempt _>>=_ transfersIn
 script-count port s l =
-    ap suc (transfers-none _ l (bind-noteless _ dropped (attempting-noteless Pulses (layoutOf (port .family)) (device s) _ (transfer-noteless handing (layoutOf (port .family)) (device s) (commands s) none)) dropped-noteless))
+    let on = layoutOf (port .family) in
+    ap suc (transfers-none on _ l (bind-on-bus on _ dropped (attempting-on-bus on Pulses (device s) _ (transfer-on-bus on handing (device s) (commands s) none)) (dropped-on-bus on)))
 
 -- a script has at most 64 commands
 abbrev pub SCRIPT-STEPS : ℕ
@@ -135,3 +140,59 @@ unfolding saidScript IfYes
 script-lasts x port s t ks j h k w =
     steps-few (λ u. saidScript u s) (followsScript s) (λ u. standsScript u s) (script-on s j) (Ask x (Going port t)) ks (suc (attemptAfter t)) h k w
     (ask-ends x _ (attemptAfter t) (λ a. ends-tally single _ _ (script-rest-ends port s t a j)))
+
+-- what one script leads on from, any does
+said-any : (u : ScriptTold) (s z : List ℕ) → IfYes (λ p. Unit {0}) (saidScript u s) → IfYes (λ p. Unit {0}) (saidScript u z)
+unfolding saidScript IfYes
+said-any (Ask x (Going port t)) s z h = tt
+said-any (Ask x Over) s z h = h
+said-any (Read b x (Going port t)) s z h = tt
+said-any (Read b x Over) s z h = h
+said-any (End o m) s z h = tt
+said-any (Refused q) s z h = h
+
+record LentWithin (t : Lent) (n : ℕ) : Type 0 where
+  pub left : ScriptWithin (t .told) n
+  pub unrefused : IfYes (λ p. Unit {0}) (saidLent t)
+
+-- an accepted step takes one access, whichever script it is lent
+lent-falls : (t u : Lent) (a : Answer) (n : ℕ) → followsLent t a u → LentWithin t n → (m : ℕ) × (n ≡ suc m) × LentWithin u m
+unfolding followsLent followsScript saidLent saidScript ScriptWithin CallWithin IfYes
+lent-falls t u a n k w = by (t .told) (k .0) (w .left) (w .unrefused)
+  where
+    on : (port : Port) (c : Attempt) (n : ℕ) → ((m : ℕ) → AttemptWithin (layoutOf (port .family)) c (suc m) → ScriptWithin (u .told) m)
+        → AttemptWithin (layoutOf (port .family)) c n → (m : ℕ) × (n ≡ suc m) × LentWithin u m
+    on port c zero f w = absurd (omega (arith, attempt-some (layoutOf (port .family)) c 0 w))
+    on port c (suc m) f w = (m, refl, record { left = f m w; unrefused = said-any (u .told) (t .script) (u .script) (k .1) })
+
+    by : (v : ScriptTold) → followsScript (t .script) v a (u .told) → ScriptWithin v n → IfYes (λ p. Unit {0}) (saidScript v (t .script))
+        → (m : ℕ) × (n ≡ suc m) × LentWithin u m
+    by (Ask x (Going port c)) k w y = on port c n (k .within) w
+    by (Ask x Over) k w y = absurd y
+    by (Read b x (Going port c)) k w y = on port c n (k .within) w
+    by (Read b x Over) k w y = absurd y
+    by (End o m) k w y = absurd k
+    by (Refused q) k w y = absurd k
+
+lent-over : (t : Lent) → LentWithin t 0 → IfYes (λ p. Asks p → ⊥) (saidLent t)
+unfolding saidLent saidScript ScriptWithin CallWithin IfYes Asks
+lent-over t w = by (t .told) (w .left) (w .unrefused)
+  where
+    none : (port : Port) (c : Attempt) → AttemptWithin (layoutOf (port .family)) c 0 → ⊥
+    none port c w = omega (arith, attempt-some (layoutOf (port .family)) c 0 w)
+
+    by : (v : ScriptTold) → ScriptWithin v 0 → IfYes (λ p. Unit {0}) (saidScript v (t .script)) → IfYes (λ p. Asks p → ⊥) (saidScript v (t .script))
+    by (Ask x (Going port c)) w y = absurd (none port c w)
+    by (Ask x Over) w y = absurd y
+    by (Read b x (Going port c)) w y = absurd (none port c w)
+    by (Read b x Over) w y = absurd y
+    by (End o m) w y = λ k. k
+    by (Refused q) w y = absurd y
+
+-- from any state, whoever made it, the call takes at most so many accepted steps more, each lent an accepted script of its own,
+-- and has ended after as many: the number of the state falls at each
+pub script-lasts-lent : (x : Access) (port : Port) (s : List ℕ) (t : Attempt) (ks : List (Exchange Lent))
+    → AllKept followsLent (record { told = Ask x (Going port t); script = s }) ks → Lasts saidLent (record { told = Ask x (Going port t); script = s }) ks (attemptLeft t)
+unfolding saidLent saidScript ScriptWithin CallWithin IfYes
+script-lasts-lent x port s t ks kept =
+    falls-few saidLent followsLent LentWithin lent-falls lent-over _ ks (attemptLeft t) (record { left = attempt-within (layoutOf (port .family)) t; unrefused = tt }) kept

@@ -1,6 +1,6 @@
 -- What the call of a script yields: a refusal by its number, or what is left of the call. Its result has the meter beside
 -- it.
-use Prim.Native.Nat.{ℕ}
+use Prim.Native.Nat.{ℕ, suc}
 use mathlib.Core.Path.{_≡_}
 use mathlib.Core.Bool.{Bool, true, false}
 use mathlib.Core.List.{List}
@@ -24,7 +24,9 @@ use Rattle.transfer.specs.declared.calls.ScriptTold.{ScriptTold}
 use Rattle.transfer.specs.declared.calls.ScriptTold.the-variants.{Ask, Read, End, Refused}
 use Rattle.transfer.specs.Transfer.{handing, transfer}
 use Rattle.transfer.specs.Attempt.{attempt, accessAttempt, restAttempt, validAttempt}
-use Rattle.hardware.specs.Promise.{Keeps}
+use Rattle.transfer.specs.Within.{CallWithin, ScriptWithin}
+use Rattle.hardware.specs.Promise.{Bounds}
+use Rattle.hardware.specs.Runs.{IfYes}
 
 -- the result of a script has no bytes, they were handed out
 unfoldable pub without : R Taken → R (Unit {0})
@@ -88,7 +90,19 @@ standsScript (Refused q) s = Unit {0}
 
 -- what a step told, u, follows what was told before it, t, where s is lent: as the step promises
 unfoldable pub followsScript : List ℕ → ScriptTold → Answer → ScriptTold → Type 0
-followsScript s (Ask x c) a u = Keeps (saidScript u s ≡ stepScript c s a) (standsScript u s)
-followsScript s (Read b x c) a u = Keeps (saidScript u s ≡ stepScript c s a) (standsScript u s)
+followsScript s (Ask x c) a u = Bounds (saidScript u s ≡ stepScript c s a) (standsScript u s) ((n : ℕ) → CallWithin c (suc n) → ScriptWithin u n)
+followsScript s (Read b x c) a u = Bounds (saidScript u s ≡ stepScript c s a) (standsScript u s) ((n : ℕ) → CallWithin c (suc n) → ScriptWithin u n)
 followsScript s (End o m) a u = ⊥
 followsScript s (Refused q) a u = ⊥
+
+-- what was told, and the script that is lent to the step after it
+pub record Lent : Type 0 where
+  pub told : ScriptTold
+  pub script : List ℕ
+
+unfoldable pub saidLent : Lent → Asked (Prog (Counted (R (Unit {0}))))
+saidLent t = saidScript (t .told) (t .script)
+
+-- a step that is lent a script of its own follows, and is accepted
+unfoldable pub followsLent : Lent → Answer → Lent → Type 0
+followsLent t a u = followsScript (t .script) (t .told) a (u .told) × IfYes (λ p. Unit {0}) (saidScript (u .told) (t .script))

@@ -1,4 +1,5 @@
 pub mod Transfer
 pub mod Attempt
+pub mod Within
 pub mod Calls
 pub mod Bytes

@@ -14,12 +14,13 @@ use hardware::Outcome;
 use hardware::Port;
 use hardware::Refusal;
 use script::cursor::Judged;
-ghost use Prim.Native.Nat.{ℕ};
+ghost use Prim.Native.Nat.{ℕ, _≤_, suc};
 ghost use mathlib.Core.Path.{_≡_};
 ghost use mathlib.Core.Bool.{true};
 ghost use mathlib.Core.List.{List};
+ghost use lib.ListN.{length};
 ghost use Rattle.hardware.specs.Asked.{yes, validPort};
-ghost use Rattle.hardware.specs.Promise.{Keeps};
+ghost use Rattle.hardware.specs.Promise.{Keeps, Bounds};
 ghost use Rattle.hardware.specs.Prog.{tally, followed};
 ghost use Rattle.hardware.specs.Registers.{outcome};
 ghost use Rattle.bus.specs.Layout.{layoutOf};
@@ -28,6 +29,7 @@ ghost use Rattle.transfer.specs.declared.attempt.Sequence.the-variants.{
 ghost use Rattle.transfer.specs.Transfer.{handing};
 ghost use Rattle.transfer.specs.Attempt.{got, attemptNext, validAttemptNext};
 ghost use Rattle.transfer.specs.Calls.{without, dropped, single, openScript, validScript, steppedScript, stepScript, saidScript, standsScript};
+ghost use Rattle.transfer.specs.Within.{AttemptNextWithin, CallWithin, ScriptWithin};
 
 pub enum ScriptCall {
     Going(Port, Attempt),
@@ -52,7 +54,7 @@ fn outcome_of(g: Got) -> Outcome
 }
 
 fn told(port: Port, n: AttemptNext) -> ScriptTold
-    ensures { λ r. ⌜ Keeps ((s : List ℕ) → saidScript r s ≡ yes (tally single (followed (attemptNext handing Pulses (layoutOf (port .family)) (device s) s n) dropped))) ((s : List ℕ) → validPort port ≡ true → validAttemptNext (layoutOf (port .family)) s n ≡ true → standsScript r s) ⌝ }
+    ensures { λ r. ⌜ Bounds ((s : List ℕ) → saidScript r s ≡ yes (tally single (followed (attemptNext handing Pulses (layoutOf (port .family)) (device s) s n) dropped))) ((s : List ℕ) → validPort port ≡ true → validAttemptNext (layoutOf (port .family)) s n ≡ true → standsScript r s) ((m : ℕ) → AttemptNextWithin (layoutOf (port .family)) n m → ScriptWithin r m) ⌝ }
 {
     let family = port.family;
     let l = bus::layout_of(family);
@@ -93,7 +95,7 @@ fn valid(port: Port, script: &[u8], t: Attempt) -> bool
 }
 
 fn script_on(port: Port, t: Attempt, script: &[u8], a: Answer) -> ScriptTold
-    ensures { λ r. ⌜ Keeps (saidScript r (now (script .entry)) ≡ steppedScript (ScriptCall.Going port t) (now (script .entry)) a) (onCommand (now (script .entry)) 0 ≡ true → standsScript r (now (script .entry))) ⌝ }
+    ensures { λ r. ⌜ Bounds (saidScript r (now (script .entry)) ≡ steppedScript (ScriptCall.Going port t) (now (script .entry)) a) (onCommand (now (script .entry)) 0 ≡ true → standsScript r (now (script .entry))) ((n : ℕ) → length (now (script .entry)) ≤ 64 → CallWithin (ScriptCall.Going port t) (suc n) → ScriptWithin r n) ⌝ }
 {
     let family = port.family;
     let l = bus::layout_of(family);
@@ -110,7 +112,7 @@ fn script_on(port: Port, t: Attempt, script: &[u8], a: Answer) -> ScriptTold
 }
 
 pub fn script_step(s: ScriptCall, script: &[u8], a: Answer) -> ScriptTold
-    ensures { λ r. ⌜ Keeps (saidScript r (now (script .entry)) ≡ stepScript s (now (script .entry)) a) (standsScript r (now (script .entry))) ⌝ }
+    ensures { λ r. ⌜ Bounds (saidScript r (now (script .entry)) ≡ stepScript s (now (script .entry)) a) (standsScript r (now (script .entry))) ((n : ℕ) → CallWithin s (suc n) → ScriptWithin r n) ⌝ }
 {
     match script::cursor::judge(script) {
         Judged::Accepted => match s {

@@ -8,15 +8,20 @@ use hardware::Access;
 use hardware::Answer;
 use hardware::Byte;
 use hardware::Outcome;
-ghost use Prim.Native.Nat.{ℕ, _<_};
+ghost use Prim.Native.Nat.{ℕ, _+_, _<_, _≤_, suc};
 ghost use mathlib.Core.Path.{_≡_};
 ghost use mathlib.Core.Bool.{true};
 ghost use lib.ListN.{length, drop};
+ghost use Rattle.hardware.specs.Asked.{fits};
 ghost use Rattle.hardware.specs.Prog.{erase};
+ghost use Rattle.hardware.specs.Promise.{Bounds};
 ghost use mathlib.Core.List.{List};
 ghost use Rattle.bus.specs.Command.{jobNext, validJobNext};
+ghost use Rattle.bus.specs.Steps.{CLEAR-STEPS, JOB-STEPS};
+ghost use Rattle.bus.specs.Within.{JobNextWithin};
 ghost use Rattle.script.specs.Script.{commands, commandAt, onCommand};
 ghost use Rattle.transfer.specs.Transfer.{Mode, isRead, tookBy, tells, transfer, ranOn, accessTransfer, restTransfer, transferNext, validTransfer, validTransferNext};
+ghost use Rattle.transfer.specs.Within.{behind, TransferWithin, TransferNextWithin};
 
 // at: the position of the command in the script.
 pub struct Transfer {
@@ -59,8 +64,7 @@ fn took(c: Command, t: Taken, b: u8) -> Taken
 
 // What is left of a script from a position on.
 pub fn from(l: Layout, script: &[u8], at: usize, taken: Taken, ctl: u32) -> TransferNext
-    ensures { λ r. ⌜ ((m : Mode) (device : ℕ) → transferNext m l device (now (script .entry)) r ≡ erase (transfer m l device (commands (drop at (now (script .entry)))) taken ctl)) ⌝ }
-    ensures { λ r. ⌜ ((at < length (now (script .entry)) → onCommand (now (script .entry)) at ≡ true) → validTransferNext l (now (script .entry)) r ≡ true) ⌝ }
+    ensures { λ r. ⌜ Bounds ((m : Mode) (device : ℕ) → transferNext m l device (now (script .entry)) r ≡ erase (transfer m l device (commands (drop at (now (script .entry)))) taken ctl)) ((at < length (now (script .entry)) → onCommand (now (script .entry)) at ≡ true) → validTransferNext l (now (script .entry)) r ≡ true) ((n : ℕ) → CLEAR-STEPS ≤ n → (at < length (now (script .entry)) → JOB-STEPS + behind at ≤ n) → TransferNextWithin l r n) ⌝ }
 {
     if at < script.len() {
         let here = script::reader::at(script, at);
@@ -76,8 +80,7 @@ pub fn from(l: Layout, script: &[u8], at: usize, taken: Taken, ctl: u32) -> Tran
 
 // A byte was read; it is handed out with the access that follows.
 fn told(b: u8, n: TransferNext) -> TransferNext
-    ensures { λ r. ⌜ ((m : Mode) (l : Layout) (device : ℕ) (s : List ℕ) → transferNext m l device s r ≡ tells m b (transferNext m l device s n)) ⌝ }
-    ensures { λ r. ⌜ ((l : Layout) (s : List ℕ) → validTransferNext l s n ≡ true → validTransferNext l s r ≡ true) ⌝ }
+    ensures { λ r. ⌜ Bounds ((m : Mode) (l : Layout) (device : ℕ) (s : List ℕ) → transferNext m l device s r ≡ tells m b (transferNext m l device s n)) ((l : Layout) (s : List ℕ) → validTransferNext l s n ≡ true → validTransferNext l s r ≡ true) ((l : Layout) (m : ℕ) → TransferNextWithin l n m → TransferNextWithin l r m) ⌝ }
 {
     match n {
         TransferNext::Going(t) => TransferNext::Read(b, t),
@@ -88,8 +91,7 @@ fn told(b: u8, n: TransferNext) -> TransferNext
 
 // The command at a position is done, with the byte that was heard.
 fn after(l: Layout, script: &[u8], at: usize, taken: Taken, b: u8, ctl: u32) -> TransferNext
-    ensures { λ r. ⌜ ((m : Mode) (device : ℕ) → transferNext m l device (now (script .entry)) r ≡ erase (ranOn m l device (now (script .entry)) at taken b ctl)) ⌝ }
-    ensures { λ r. ⌜ (onCommand (now (script .entry)) at ≡ true → validTransferNext l (now (script .entry)) r ≡ true) ⌝ }
+    ensures { λ r. ⌜ Bounds ((m : Mode) (device : ℕ) → transferNext m l device (now (script .entry)) r ≡ erase (ranOn m l device (now (script .entry)) at taken b ctl)) (onCommand (now (script .entry)) at ≡ true → validTransferNext l (now (script .entry)) r ≡ true) ((n : ℕ) → length (now (script .entry)) ≤ 64 → behind at ≤ n → TransferNextWithin l r n) ⌝ }
 {
     let here = script::reader::at(script, at);
     let c = here.command;
@@ -102,8 +104,7 @@ fn after(l: Layout, script: &[u8], at: usize, taken: Taken, b: u8, ctl: u32) -> 
 }
 
 fn jobbed(l: Layout, device: u8, script: &[u8], at: usize, taken: Taken, n: JobNext) -> TransferNext
-    ensures { λ r. ⌜ ((m : Mode) → transferNext m l device (now (script .entry)) r ≡ jobNext l device (commandAt (now (script .entry)) at) n (ranOn m l device (now (script .entry)) at taken)) ⌝ }
-    ensures { λ r. ⌜ (onCommand (now (script .entry)) at ≡ true → validJobNext l (commandAt (now (script .entry)) at) n ≡ true → validTransferNext l (now (script .entry)) r ≡ true) ⌝ }
+    ensures { λ r. ⌜ Bounds ((m : Mode) → transferNext m l device (now (script .entry)) r ≡ jobNext l device (commandAt (now (script .entry)) at) n (ranOn m l device (now (script .entry)) at taken)) (onCommand (now (script .entry)) at ≡ true → validJobNext l (commandAt (now (script .entry)) at) n ≡ true → validTransferNext l (now (script .entry)) r ≡ true) ((p m : ℕ) → length (now (script .entry)) ≤ 64 → JobNextWithin l n p → p + behind at ≤ m → TransferNextWithin l r m) ⌝ }
 {
     match n {
         JobNext::Going(job) => TransferNext::Going(Transfer { at, taken, job }),
@@ -122,8 +123,7 @@ pub fn access(l: Layout, s: Transfer) -> Access
 }
 
 pub fn step(l: Layout, device: u8, script: &[u8], s: Transfer, a: Answer) -> TransferNext
-    ensures { λ r. ⌜ ((m : Mode) → transferNext m l device (now (script .entry)) r ≡ erase (restTransfer m l device (now (script .entry)) s a)) ⌝ }
-    ensures { λ r. ⌜ (validTransfer l (now (script .entry)) s ≡ true → validTransferNext l (now (script .entry)) r ≡ true) ⌝ }
+    ensures { λ r. ⌜ Bounds ((m : Mode) → transferNext m l device (now (script .entry)) r ≡ erase (restTransfer m l device (now (script .entry)) s a)) (validTransfer l (now (script .entry)) s ≡ true → validTransferNext l (now (script .entry)) r ≡ true) ((n : ℕ) → length (now (script .entry)) ≤ 64 → fits (accessTransfer l s) a ≡ true → TransferWithin l s (suc n) → TransferNextWithin l r n) ⌝ }
 {
     let at = s.at;
     let taken = s.taken;

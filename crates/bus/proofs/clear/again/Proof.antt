@@ -17,7 +17,7 @@ started-requires c κs = search needs
 
 returns : tie.Need-returns
 unfolding clearAgain quiet validJobNext
-returns c = (over _ _ (c .started .ensures .0) (c .before .«open» .ensures .0 0 (λ _. done none) ∙ ap (λ p. erase (p (c .before .before .args .ctl))) (job-start (c .before .before .args .l) 0 (λ _. done none))), c .started .ensures .1 (c .before .«open» .ensures .1))
+returns c = (over _ _ (c .started .ensures .0) (c .before .«open» .ensures .yields 0 (λ _. done none) ∙ ap (λ p. erase (p (c .before .before .args .ctl))) (job-start (c .before .before .args .l) 0 (λ _. done none))), c .started .ensures .1 (c .before .«open» .ensures .limits))
 
 pub again-spec : {M : Type 1} → statement M
 again-spec = tie.close (tie.spec open-requires started-requires returns)

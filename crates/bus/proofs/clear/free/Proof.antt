@@ -16,7 +16,7 @@ freed-requires c κs = search needs
 
 returns : tie.Need-returns
 unfolding clearFree validJobNext
-returns c = (c .freed .ensures .0 ∙ c .before .«open» .ensures .0 0 (λ _. clearAgain (c .before .before .args .l)) ∙ ap (λ p. erase (p (c .before .before .args .ctl))) (job-free (c .before .before .args .l) 0 (λ _. clearAgain (c .before .before .args .l))), c .freed .ensures .1 (c .before .«open» .ensures .1))
+returns c = (c .freed .ensures .0 ∙ c .before .«open» .ensures .yields 0 (λ _. clearAgain (c .before .before .args .l)) ∙ ap (λ p. erase (p (c .before .before .args .ctl))) (job-free (c .before .before .args .l) 0 (λ _. clearAgain (c .before .before .args .l))), c .freed .ensures .1 (c .before .«open» .ensures .limits))
 
 pub free-spec : {M : Type 1} → statement M
 free-spec = tie.close (tie.spec open-requires freed-requires returns)

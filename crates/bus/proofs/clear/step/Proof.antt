@@ -45,19 +45,19 @@ stopped-requires c κs = search needs
 
 returns : tie.Need-returns
 unfolding restClear restPart validClear commandOf
-returns c = (rw (c .before .before .enum-told .given .1) (over _ _ (c .first .ensures .0) (c .before .step .ensures .0 (λ _. done none))), λ h. c .first .ensures .1 (c .before .step .ensures .1 (rw (c .before .before .enum-told .given .1) at h)))
+returns c = (rw (c .before .before .enum-told .given .1) (over _ _ (c .first .ensures .0) (c .before .step .ensures .yields (λ _. done none))), λ h. c .first .ensures .1 (c .before .step .ensures .limits (rw (c .before .before .enum-told .given .1) at h)))
 
 returns-2 : tie.Need-returns-2
 unfolding restClear restPart validClear commandOf
-returns-2 c = (rw (c .before .before .enum-told2 .given .1) (c .freed .ensures .0 ∙ c .before .step2 .ensures .0 _), λ h. c .freed .ensures .1 (c .before .step2 .ensures .1 (rw (c .before .before .enum-told2 .given .1) at h)))
+returns-2 c = (rw (c .before .before .enum-told2 .given .1) (c .freed .ensures .0 ∙ c .before .step2 .ensures .yields _), λ h. c .freed .ensures .1 (c .before .step2 .ensures .limits (rw (c .before .before .enum-told2 .given .1) at h)))
 
 returns-3 : tie.Need-returns-3
 unfolding restClear restPart validClear commandOf
-returns-3 c = (rw (c .before .before .enum-told3 .given .1) (over _ _ (c .started .ensures .0) (c .before .step3 .ensures .0 (λ _. done none))), λ h. c .started .ensures .1 (c .before .step3 .ensures .1 (rw (c .before .before .enum-told3 .given .1) at h)))
+returns-3 c = (rw (c .before .before .enum-told3 .given .1) (over _ _ (c .started .ensures .0) (c .before .step3 .ensures .yields (λ _. done none))), λ h. c .started .ensures .1 (c .before .step3 .ensures .limits (rw (c .before .before .enum-told3 .given .1) at h)))
 
 returns-4 : tie.Need-returns-4
 unfolding restClear restPart validClear commandOf
-returns-4 c = (rw (c .before .before .enum-told4 .given .1) (over _ _ (c .stopped .ensures .0) (c .before .step4 .ensures .0 (λ _. done none))), λ h. c .stopped .ensures .1 (c .before .step4 .ensures .1 (rw (c .before .before .enum-told4 .given .1) at h)))
+returns-4 c = (rw (c .before .before .enum-told4 .given .1) (over _ _ (c .stopped .ensures .0) (c .before .step4 .ensures .yields (λ _. done none))), λ h. c .stopped .ensures .1 (c .before .step4 .ensures .limits (rw (c .before .before .enum-told4 .given .1) at h)))
 
 pub step-spec : {M : Type 1} → statement M
 step-spec =

@@ -17,7 +17,7 @@ stopped-requires c κs = search needs
 
 returns : tie.Need-returns
 unfolding clearStop quiet validJobNext
-returns c = (over _ _ (c .stopped .ensures .0) (c .before .«open» .ensures .0 0 (λ _. done none) ∙ ap (λ p. erase (p (c .before .before .args .ctl))) (job-stop (c .before .before .args .l) 0 (λ _. done none))), c .stopped .ensures .1 (c .before .«open» .ensures .1))
+returns c = (over _ _ (c .stopped .ensures .0) (c .before .«open» .ensures .yields 0 (λ _. done none) ∙ ap (λ p. erase (p (c .before .before .args .ctl))) (job-stop (c .before .before .args .l) 0 (λ _. done none))), c .stopped .ensures .1 (c .before .«open» .ensures .limits))
 
 pub stop-spec : {M : Type 1} → statement M
 stop-spec = tie.close (tie.spec open-requires stopped-requires returns)

@@ -1,6 +1,7 @@
 -- `finish` meets its contract.
 use Rattle.bus.specs.Bus.{orHeld}
 use Rattle.bus.specs.Command.{finished, jobNext, validJobNext}
+use Rattle.bus.specs.Within.{JobNextWithin}
 use Rattle.hardware.specs.Failures.{failureOf}
 use Rattle.hardware.specs.Prog.{erase, pick}
 use Rattle.hardware.specs.Registers.{byte}
@@ -17,8 +18,13 @@ enum-told-2 : tie.Need-enum-told-2
 enum-told-2 c = search needs
 
 returns : tie.Need-returns
-unfolding jobNext orHeld erase byte finished validJobNext pick
-returns c = (λ k. rw (c .before .enum-told2 .given .1, eq-eqb _ _ (c .if1 .taken)), refl)
+unfolding jobNext orHeld erase byte finished validJobNext JobNextWithin pick
+returns c =
+    record {
+      yields = λ k. rw (c .before .enum-told2 .given .1, eq-eqb _ _ (c .if1 .taken));
+      limits = refl;
+      within = λ m. tt;
+    }
 
 enum-told-3 : tie.Need-enum-told-3
 enum-told-3 c = search needs
@@ -30,24 +36,49 @@ enum-told-5 : tie.Need-enum-told-5
 enum-told-5 c = search needs
 
 returns-2 : tie.Need-returns-2
-unfolding jobNext orHeld erase byte finished validJobNext
-returns-2 c = (λ k. rw (c .enum-told .given .1), refl)
+unfolding jobNext orHeld erase byte finished validJobNext JobNextWithin
+returns-2 c =
+    record {
+      yields = λ k. rw (c .enum-told .given .1);
+      limits = refl;
+      within = λ m. tt;
+    }
 
 returns-3 : tie.Need-returns-3
-unfolding jobNext orHeld erase byte finished validJobNext pick failureOf
-returns-3 c = (λ k. rw (c .before .enum-told2 .given .1, ne-eqb _ _ (c .if1 .left)), refl)
+unfolding jobNext orHeld erase byte finished validJobNext JobNextWithin pick failureOf
+returns-3 c =
+    record {
+      yields = λ k. rw (c .before .enum-told2 .given .1, ne-eqb _ _ (c .if1 .left));
+      limits = refl;
+      within = λ m. tt;
+    }
 
 returns-4 : tie.Need-returns-4
-unfolding jobNext orHeld erase byte finished validJobNext
-returns-4 c = (λ k. rw (c .enum-told3 .given .1), refl)
+unfolding jobNext orHeld erase byte finished validJobNext JobNextWithin
+returns-4 c =
+    record {
+      yields = λ k. rw (c .enum-told3 .given .1);
+      limits = refl;
+      within = λ m. tt;
+    }
 
 returns-5 : tie.Need-returns-5
-unfolding jobNext orHeld erase byte finished validJobNext
-returns-5 c = (λ k. rw (c .enum-told4 .given .1), refl)
+unfolding jobNext orHeld erase byte finished validJobNext JobNextWithin
+returns-5 c =
+    record {
+      yields = λ k. rw (c .enum-told4 .given .1);
+      limits = refl;
+      within = λ m. tt;
+    }
 
 returns-6 : tie.Need-returns-6
-unfolding jobNext orHeld erase byte finished validJobNext
-returns-6 c = (λ k. rw (c .enum-told5 .given .1), refl)
+unfolding jobNext orHeld erase byte finished validJobNext JobNextWithin
+returns-6 c =
+    record {
+      yields = λ k. rw (c .enum-told5 .given .1);
+      limits = refl;
+      within = λ m. tt;
+    }
 
 pub finish-spec : {M : Type 1} → statement M
 finish-spec =

@@ -1,6 +1,8 @@
 -- `from` meets its contract.
 use Rattle.bus.proofs.Laws.{calls-more, fewer-than}
+use Rattle.bus.proofs.Within.{one-call}
 use Rattle.bus.specs.Command.{callCount, callsLeft, validJobNext}
+use Rattle.bus.specs.Within.{JobNextWithin}
 use borrow.Author.Needs.{needs}
 use mathlib.Core.Path.{_∙_}
 use Rattle.bus.proofs.job.from.Statement.{statement}
@@ -11,7 +13,12 @@ finish-requires c κs = search needs
 
 returns : tie.Need-returns
 unfolding callsLeft
-returns c = (λ k. rw (c .before .if1 .taken) (c .finish .ensures .0 k), λ h. c .finish .ensures .1)
+returns c =
+    record {
+      yields = λ k. rw (c .before .if1 .taken) (c .finish .ensures .yields k);
+      limits = λ h. c .finish .ensures .limits;
+      within = λ m h. c .finish .ensures .within m;
+    }
 
 sub-begin : tie.Need-sub-begin
 sub-begin c = search needs
@@ -20,8 +27,13 @@ begin-requires : tie.Need-begin-requires
 begin-requires c κs = search needs
 
 returns-2 : tie.Need-returns-2
-unfolding validJobNext
-returns-2 c = (λ k. c .begin .ensures .0 (c .before .before .args .device) k ∙ calls-more (c .before .before .args .l) (c .before .before .args .device) (c .before .before .args .c) (c .before .before .args .n) k (c .before .before .args .bits) (c .before .before .args .ctl) (c .before .if1 .left), λ h. c .begin .ensures .1 (fewer-than (c .before .before .args .n) (callCount (c .before .before .args .l) (c .before .before .args .c)) (c .before .if1 .left) h))
+unfolding validJobNext JobNextWithin
+returns-2 c =
+    record {
+      yields = λ k. c .begin .ensures .yields (c .before .before .args .device) k ∙ calls-more (c .before .before .args .l) (c .before .before .args .device) (c .before .before .args .c) (c .before .before .args .n) k (c .before .before .args .bits) (c .before .before .args .ctl) (c .before .if1 .left);
+      limits = λ h. c .begin .ensures .limits (fewer-than (c .before .before .args .n) (callCount (c .before .before .args .l) (c .before .before .args .c)) (c .before .if1 .left) h);
+      within = λ m h. c .begin .ensures .within m (one-call (c .before .before .args .n) m (c .before .if1 .left) h);
+    }
 
 pub from-spec : {M : Type 1} → statement M
 from-spec = tie.close (tie.spec finish-requires returns sub-begin begin-requires returns-2)

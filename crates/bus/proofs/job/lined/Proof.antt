@@ -3,10 +3,12 @@ use Rattle.bus.proofs.Laws.{picked, under}
 use Rattle.bus.specs.Bus.{orHeld}
 use Rattle.bus.specs.Command.{accessJob, callCount, jobNext, restJob, validJob, validJobNext}
 use Rattle.bus.specs.Line.{lineNext, validLineNext}
+use Rattle.bus.specs.Within.{JobNextWithin}
 use Rattle.hardware.specs.Prog.{erase}
 use Rattle.hardware.specs.Registers.{byte, outcome}
 use borrow.Author.Needs.{needs}
 use mathlib.Core.Path.{refl}
+use native.Mathlib.Omega.{arith}
 use Rattle.bus.proofs.job.lined.Statement.{statement}
 use Rattle.bus.proofs.job.lined.Tie as tie
 
@@ -26,16 +28,31 @@ enum-known-o : tie.Need-enum-known-o
 enum-known-o c = search needs
 
 returns : tie.Need-returns
-unfolding jobNext accessJob restJob lineNext validJobNext validJob validLineNext
-returns c = (λ k. rw (c .before .n .given .1), λ h g. picked _ _ h (rw (c .before .n .given .1) at g))
+unfolding jobNext accessJob restJob lineNext validJobNext validJob validLineNext JobNextWithin
+returns c =
+    record {
+      yields = λ k. rw (c .before .n .given .1);
+      limits = λ h g. picked _ _ h (rw (c .before .n .given .1) at g);
+      within = λ p m w h. record { line = p; within = rw (c .before .n .given .1) at w; calls = h };
+    }
 
 returns-2 : tie.Need-returns-2
 unfolding lineNext orHeld outcome
-returns-2 c = (λ k. rw (c .before .before .before .before .n2 .given .1, c .before .enum-told .given .1) (c .from .ensures .0 k), λ h g. c .from .ensures .1 (under (c .before .before .before .before .before .before .args .left) (callCount (c .before .before .before .before .before .before .args .l) (c .before .before .before .before .before .before .args .c)) h))
+returns-2 c =
+    record {
+      yields = λ k. rw (c .before .before .before .before .n2 .given .1, c .before .enum-told .given .1) (c .from .ensures .yields k);
+      limits = λ h g. c .from .ensures .limits (under (c .before .before .before .before .before .before .args .left) (callCount (c .before .before .before .before .before .before .args .l) (c .before .before .before .before .before .before .args .c)) h);
+      within = λ p m w h. c .from .ensures .within m (omega arith);
+    }
 
 returns-3 : tie.Need-returns-3
-unfolding jobNext lineNext orHeld outcome byte erase validJobNext
-returns-3 c = (λ k. rw (c .before .before .before .before .n2 .given .1, c .before .o .given .1), λ h g. refl)
+unfolding jobNext lineNext orHeld outcome byte erase validJobNext JobNextWithin
+returns-3 c =
+    record {
+      yields = λ k. rw (c .before .before .before .before .n2 .given .1, c .before .o .given .1);
+      limits = λ h g. refl;
+      within = λ p m w h. tt;
+    }
 
 pub lined-spec : {M : Type 1} → statement M
 lined-spec =

@@ -1,5 +1,6 @@
 -- `open` meets its contract.
 use Rattle.bus.proofs.Laws.{calls-more, fewer-than, itself, nonzero, some-call}
+use Rattle.bus.proofs.Within.{all-calls}
 use Rattle.bus.specs.Command.{callCount, commanded}
 use borrow.Author.Needs.{needs}
 use mathlib.Core.Path.{_∙_}
@@ -17,7 +18,12 @@ begin-requires c κs = search needs
 
 returns : tie.Need-returns
 unfolding commanded
-returns c = (λ device k. rw (c .before .count .ensures) at (c .begin .ensures .0 device k) ∙ calls-more (c .before .before .args .l) device (c .before .before .args .c) (callCount (c .before .before .args .l) (c .before .before .args .c)) k 0 (c .before .before .args .ctl) (nonzero _ (some-call (c .before .before .args .l) (c .before .before .args .c))), c .begin .ensures .1 (rw (c .before .count .ensures) (fewer-than (callCount (c .before .before .args .l) (c .before .before .args .c)) (callCount (c .before .before .args .l) (c .before .before .args .c)) (nonzero _ (some-call (c .before .before .args .l) (c .before .before .args .c))) (itself (callCount (c .before .before .args .l) (c .before .before .args .c))))))
+returns c =
+    record {
+      yields = λ device k. rw (c .before .count .ensures) at (c .begin .ensures .yields device k) ∙ calls-more (c .before .before .args .l) device (c .before .before .args .c) (callCount (c .before .before .args .l) (c .before .before .args .c)) k 0 (c .before .before .args .ctl) (nonzero _ (some-call (c .before .before .args .l) (c .before .before .args .c)));
+      limits = c .begin .ensures .limits (rw (c .before .count .ensures) (fewer-than (callCount (c .before .before .args .l) (c .before .before .args .c)) (callCount (c .before .before .args .l) (c .before .before .args .c)) (nonzero _ (some-call (c .before .before .args .l) (c .before .before .args .c))) (itself (callCount (c .before .before .args .l) (c .before .before .args .c)))));
+      within = c .begin .ensures .within _ (rw (c .before .count .ensures) (all-calls (c .before .before .args .l) (c .before .before .args .c)));
+    }
 
 pub open-spec : {M : Type 1} → statement M
 open-spec = tie.close (tie.spec count-requires sub-begin begin-requires returns)

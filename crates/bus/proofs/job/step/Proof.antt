@@ -1,8 +1,10 @@
 -- `step` meets its contract.
 use Rattle.bus.proofs.Laws.{picked-first, picked-second}
-use Rattle.bus.specs.Command.{restJob, validJob}
+use Rattle.bus.proofs.Within.{line-falls}
+use Rattle.bus.specs.Command.{accessJob, restJob, validJob}
 use borrow.Author.Needs.{needs}
 use mathlib.Core.Path.{_∙_}
+use native.Mathlib.Omega.{arith}
 use Rattle.bus.proofs.job.step.Statement.{statement}
 use Rattle.bus.proofs.job.step.Tie as tie
 
@@ -13,8 +15,16 @@ lined-requires : tie.Need-lined-requires
 lined-requires c κs = search needs
 
 returns : tie.Need-returns
-unfolding restJob validJob
-returns c = (λ k. c .lined .ensures .0 k ∙ c .before .step .ensures .0 _, λ h. c .lined .ensures .1 (picked-first _ _ h) (c .before .step .ensures .1 (picked-second _ _ h)))
+unfolding restJob validJob accessJob
+returns c =
+    record {
+      yields = λ k. c .lined .ensures .yields k ∙ c .before .step .ensures .0 _;
+      limits = λ h. c .lined .ensures .limits (picked-first _ _ h) (c .before .step .ensures .1 (picked-second _ _ h));
+      within = λ n f w.
+          let args = c .before .before .before .args in
+          let q = line-falls (args .l) (args .s .state) (args .a) _ (w .line) f (c .before .step .ensures .0) (w .within) in
+          c .lined .ensures .within (q .0) n (q .2) (omega (arith, q .1, w .calls));
+    }
 
 pub step-spec : {M : Type 1} → statement M
 step-spec = tie.close (tie.spec step-requires lined-requires returns)

@@ -1,7 +1,7 @@
 -- `command_step` meets its contract.
 use Rattle.hardware.specs.Asked.{question}
 use Rattle.hostif.proofs.Laws.{block-fits}
-use Rattle.hostif.specs.Calls.{lent, saidCommand, standsCommand, stepCommand, stepped}
+use Rattle.hostif.specs.Calls.{CallWithin, ToldWithin, lent, saidCommand, standsCommand, stepCommand, stepped}
 use borrow.Author.Needs.{needs}
 use mathlib.Core.Path.{_∙_, refl, sym}
 use Rattle.hostif.proofs.calls.command_step.Statement.{statement}
@@ -23,16 +23,16 @@ same-length : tie.Need-same-length
 same-length c = search needs
 
 returns : tie.Need-returns
-unfolding stepCommand lent question
-returns c = record { yields = rw (← c .before .before .before .before .before .before .before .before .fits2 .ensures _ refl, c .before .before .before .before .before .before .before .if1 .taken, c .before .before .before .before .before .s .given .1) (c .before .before .command-on .ensures .yields); limits = c .before .before .command-on .ensures .limits }
+unfolding stepCommand lent question CallWithin
+returns c = record { yields = rw (← c .before .before .before .before .before .before .before .before .fits2 .ensures _ refl, c .before .before .before .before .before .before .before .if1 .taken, c .before .before .before .before .before .s .given .1) (c .before .before .command-on .ensures .yields); limits = c .before .before .command-on .ensures .limits; within = λ m w. c .before .before .command-on .ensures .within m (rw (c .before .before .before .before .before .s .given .1) at w) }
 
 returns-2 : tie.Need-returns-2
-unfolding stepCommand lent question stepped saidCommand standsCommand
-returns-2 c = record { yields = rw (← c .before .before .before .fits2 .ensures _ refl, c .before .before .if1 .taken, c .enum-told .given .1); limits = tt }
+unfolding stepCommand lent question stepped saidCommand standsCommand ToldWithin
+returns-2 c = record { yields = rw (← c .before .before .before .fits2 .ensures _ refl, c .before .before .if1 .taken, c .enum-told .given .1); limits = tt; within = λ m w. tt }
 
 returns-3 : tie.Need-returns-3
-unfolding stepCommand lent question saidCommand standsCommand
-returns-3 c = record { yields = rw (← c .before .fits2 .ensures _ refl, c .if1 .left); limits = tt }
+unfolding stepCommand lent question saidCommand standsCommand ToldWithin
+returns-3 c = record { yields = rw (← c .before .fits2 .ensures _ refl, c .if1 .left); limits = tt; within = λ m w. tt }
 
 pub command-step-spec : {M : Type 1} → statement M
 command-step-spec =

@@ -19,7 +19,7 @@ acquiring-requires c κs = search needs
 
 returns : tie.Need-returns
 unfolding command acquireBits erase
-returns c = (λ l. over _ _ (c .acquiring .ensures .0 l) (rw (c .before .before .tries .ensures) at (c .before .«open» .ensures .0)), λ m. c .acquiring .ensures .1 m (c .before .«open» .ensures .1 (omega (arith, c .before .before .tries .ensures))))
+returns c = (λ l. over _ _ (c .acquiring .ensures .yields l) (rw (c .before .before .tries .ensures) at (c .before .«open» .ensures .0)), λ m. c .acquiring .ensures .limits m (c .before .«open» .ensures .1 (omega (arith, c .before .before .tries .ensures))))
 
 pub open-spec : {M : Type 1} → statement M
 open-spec = tie.close (tie.spec tries-requires open-requires acquiring-requires returns)

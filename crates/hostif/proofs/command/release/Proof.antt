@@ -2,7 +2,9 @@
 use Rattle.hardware.specs.Prog.{erase}
 use Rattle.hardware.proofs.Prog.{over}
 use Rattle.hostif.specs.Hostif.{released}
+use Rattle.hardware.proofs.Ends.{ends-opened}
 use borrow.Author.Needs.{needs}
+use native.Mathlib.Omega.{arith}
 use Rattle.hostif.proofs.command.release.Statement.{statement}
 use Rattle.hostif.proofs.command.release.Tie as tie
 
@@ -14,7 +16,7 @@ releasing-requires c κs = search needs
 
 returns : tie.Need-returns
 unfolding released erase
-returns c = (λ l. over _ _ (c .releasing .ensures .0 l) (c .before .«open» .ensures .0), λ m. c .releasing .ensures .1 m (c .before .«open» .ensures .1))
+returns c = record { yields = λ l. over _ _ (c .releasing .ensures .yields l) (c .before .«open» .ensures .0); limits = λ m. c .releasing .ensures .limits m (c .before .«open» .ensures .1); within = λ m h. c .releasing .ensures .within m (ends-opened _ m m (c .before .«open» .ensures .0) h (omega arith)) }
 
 pub release-spec : {M : Type 1} → statement M
 release-spec = tie.close (tie.spec open-requires releasing-requires returns)

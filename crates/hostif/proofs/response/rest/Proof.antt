@@ -2,6 +2,7 @@
 use Rattle.hardware.specs.Prog.{erase}
 use Rattle.hardware.specs.Registers.{byte, word}
 use Rattle.hostif.specs.Hostif.{responseNext, statusOf, validResponse, validResponseNext, wordSeen, wordsOf}
+use Rattle.hostif.specs.Within.{ResponseNextWithin}
 use borrow.Author.Needs.{needs}
 use mathlib.Core.Path.{refl}
 use Rattle.hostif.proofs.response.rest.Statement.{statement}
@@ -30,11 +31,11 @@ same-length c = search needs
 
 returns : tie.Need-returns
 unfolding word wordSeen
-returns c = (rw (c .before .before .before .before .before .before .before .w .given .1, ← c .before .before .before .before .place .ensures, ← c .before .before .before .store .ensures) (c .more .ensures .0 _), c .more .ensures .1 _)
+returns c = record { yields = rw (c .before .before .before .before .before .before .before .w .given .1, ← c .before .before .before .before .place .ensures, ← c .before .before .before .store .ensures) (c .more .ensures .yields _); limits = c .more .ensures .limits _; within = c .more .ensures .within }
 
 returns-2 : tie.Need-returns-2
-unfolding responseNext erase word byte wordSeen statusOf wordsOf validResponse validResponseNext
-returns-2 c = (rw (c .before .w2 .given .1), λ h k. refl)
+unfolding responseNext erase word byte wordSeen statusOf wordsOf validResponse validResponseNext ResponseNextWithin
+returns-2 c = record { yields = rw (c .before .w2 .given .1); limits = λ h k. refl; within = λ m h. tt }
 
 pub rest-spec : {M : Type 1} → statement M
 rest-spec =

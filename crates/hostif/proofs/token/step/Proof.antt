@@ -24,7 +24,7 @@ commanded-requires c κs = search needs
 
 returns : tie.Need-returns
 unfolding restToken validToken
-returns c = (over _ _ (c .commanded .ensures .0) (ap (commandNext _ _) (two-words _ (c .before .before .step .kept .1 .1 .0)) ∙ c .before .before .step .ensures .0), λ v. c .commanded .ensures .1 (c .before .before .step .ensures .1 v))
+returns c = (over _ _ (c .commanded .ensures .0) (ap (commandNext _ _) (two-words _ (c .before .before .step .kept .1 .1 .0)) ∙ c .before .before .step .ensures .yields), λ v. c .commanded .ensures .1 (c .before .before .step .ensures .limits v))
 
 pub step-spec : {M : Type 1} → statement M
 step-spec =

@@ -56,19 +56,19 @@ step-requires-4 c κs = search needs
 
 returns : tie.Need-returns
 unfolding deviceOf scriptOf
-returns c = record { yields = rw (c .before .before .before .before .r .given .1, ← c .before .before .read-byte-script .ensures) (c .step .ensures .0 keeping); limits = λ h. rw (c .before .before .before .before .r .given .1, ← c .before .before .read-byte-script .ensures) (c .step .ensures .1 (rw (c .before .before .read-byte-script .ensures) (rw (c .before .before .before .before .r .given .1) at (on-start (c .before .before .before .before .before .before .args .r)))) (rw (c .before .before .before .before .r .given .1, ← c .before .before .read-byte-script .ensures) at h)) }
+returns c = record { yields = rw (c .before .before .before .before .r .given .1, ← c .before .before .read-byte-script .ensures) (c .step .ensures .yields keeping); limits = λ h. rw (c .before .before .before .before .r .given .1, ← c .before .before .read-byte-script .ensures) (c .step .ensures .limits (rw (c .before .before .read-byte-script .ensures) (rw (c .before .before .before .before .r .given .1) at (on-start (c .before .before .before .before .before .before .args .r)))) (rw (c .before .before .before .before .r .given .1, ← c .before .before .read-byte-script .ensures) at h)) }
 
 returns-2 : tie.Need-returns-2
 unfolding deviceOf scriptOf
-returns-2 c = record { yields = rw (c .before .before .before .before .r2 .given .1, ← c .before .before .write-byte-script .ensures) (c .step2 .ensures .0 keeping); limits = λ h. rw (c .before .before .before .before .r2 .given .1, ← c .before .before .write-byte-script .ensures) (c .step2 .ensures .1 (rw (c .before .before .write-byte-script .ensures) (rw (c .before .before .before .before .r2 .given .1) at (on-start (c .before .before .before .before .before .before .args .r)))) (rw (c .before .before .before .before .r2 .given .1, ← c .before .before .write-byte-script .ensures) at h)) }
+returns-2 c = record { yields = rw (c .before .before .before .before .r2 .given .1, ← c .before .before .write-byte-script .ensures) (c .step2 .ensures .yields keeping); limits = λ h. rw (c .before .before .before .before .r2 .given .1, ← c .before .before .write-byte-script .ensures) (c .step2 .ensures .limits (rw (c .before .before .write-byte-script .ensures) (rw (c .before .before .before .before .r2 .given .1) at (on-start (c .before .before .before .before .before .before .args .r)))) (rw (c .before .before .before .before .r2 .given .1, ← c .before .before .write-byte-script .ensures) at h)) }
 
 returns-3 : tie.Need-returns-3
 unfolding deviceOf scriptOf
-returns-3 c = record { yields = rw (c .before .before .before .before .r3 .given .1, ← c .before .before .read-combined-script .ensures) (c .step3 .ensures .0 keeping); limits = λ h. rw (c .before .before .before .before .r3 .given .1, ← c .before .before .read-combined-script .ensures) (c .step3 .ensures .1 (rw (c .before .before .read-combined-script .ensures) (rw (c .before .before .before .before .r3 .given .1) at (on-start (c .before .before .before .before .before .before .args .r)))) (rw (c .before .before .before .before .r3 .given .1, ← c .before .before .read-combined-script .ensures) at h)) }
+returns-3 c = record { yields = rw (c .before .before .before .before .r3 .given .1, ← c .before .before .read-combined-script .ensures) (c .step3 .ensures .yields keeping); limits = λ h. rw (c .before .before .before .before .r3 .given .1, ← c .before .before .read-combined-script .ensures) (c .step3 .ensures .limits (rw (c .before .before .read-combined-script .ensures) (rw (c .before .before .before .before .r3 .given .1) at (on-start (c .before .before .before .before .before .before .args .r)))) (rw (c .before .before .before .before .r3 .given .1, ← c .before .before .read-combined-script .ensures) at h)) }
 
 returns-4 : tie.Need-returns-4
 unfolding deviceOf scriptOf
-returns-4 c = record { yields = rw (c .before .before .before .before .r4 .given .1, ← c .before .before .write-combined-script .ensures) (c .step4 .ensures .0 keeping); limits = λ h. rw (c .before .before .before .before .r4 .given .1, ← c .before .before .write-combined-script .ensures) (c .step4 .ensures .1 (rw (c .before .before .write-combined-script .ensures) (rw (c .before .before .before .before .r4 .given .1) at (on-start (c .before .before .before .before .before .before .args .r)))) (rw (c .before .before .before .before .r4 .given .1, ← c .before .before .write-combined-script .ensures) at h)) }
+returns-4 c = record { yields = rw (c .before .before .before .before .r4 .given .1, ← c .before .before .write-combined-script .ensures) (c .step4 .ensures .yields keeping); limits = λ h. rw (c .before .before .before .before .r4 .given .1, ← c .before .before .write-combined-script .ensures) (c .step4 .ensures .limits (rw (c .before .before .write-combined-script .ensures) (rw (c .before .before .before .before .r4 .given .1) at (on-start (c .before .before .before .before .before .before .args .r)))) (rw (c .before .before .before .before .r4 .given .1, ← c .before .before .write-combined-script .ensures) at h)) }
 
 pub step-spec : {M : Type 1} → statement M
 step-spec =

@@ -3,8 +3,10 @@ use Rattle.hardware.specs.Prog.{erase, orErr}
 use Rattle.hardware.specs.Registers.{word}
 use Rattle.hardware.proofs.Prog.{over}
 use Rattle.transfer.specs.Attempt.{attemptNext, begun, got, validAttemptNext}
+use Rattle.transfer.specs.Within.{AttemptNextWithin}
 use borrow.Author.Needs.{needs}
 use mathlib.Core.Path.{refl}
+use native.Mathlib.Omega.{arith}
 use Rattle.transfer.proofs.attempt.begin.Statement.{statement}
 use Rattle.transfer.proofs.attempt.begin.Tie as tie
 
@@ -22,11 +24,21 @@ enum-known-w-2 c = search needs
 
 returns : tie.Need-returns
 unfolding orErr word begun
-returns c = (λ m. rw (c .before .before .before .w .given .1) (over _ _ (c .from-transfer .ensures .0 m (c .before .before .before .before .before .before .args .script .now)) (c .before .from .ensures .0 m (c .before .before .before .before .before .before .args .device))), λ h. c .from-transfer .ensures .1 (c .before .before .before .before .before .before .args .script .now) (c .before .from .ensures .1 (λ lt. h)))
+returns c =
+    record {
+      yields = λ m. rw (c .before .before .before .w .given .1) (over _ _ (c .from-transfer .ensures .yields m (c .before .before .before .before .before .before .args .script .now)) (c .before .from .ensures .yields m (c .before .before .before .before .before .before .args .device)));
+      limits = λ h. c .from-transfer .ensures .limits (c .before .before .before .before .before .before .args .script .now) (c .before .from .ensures .limits (λ lt. h));
+      within = λ n h. c .from-transfer .ensures .within n (c .before .from .ensures .within n (omega (arith, h)) (λ lt. omega (arith, h)));
+    }
 
 returns-2 : tie.Need-returns-2
-unfolding orErr word attemptNext got erase validAttemptNext
-returns-2 c = (λ m. rw (c .before .w2 .given .1), λ h. refl)
+unfolding orErr word attemptNext got erase validAttemptNext AttemptNextWithin
+returns-2 c =
+    record {
+      yields = λ m. rw (c .before .w2 .given .1);
+      limits = λ h. refl;
+      within = λ n h. tt;
+    }
 
 pub begin-spec : {M : Type 1} → statement M
 begin-spec = tie.close (tie.spec enum-known-w from-requires from-transfer-requires enum-known-w-2 returns returns-2)

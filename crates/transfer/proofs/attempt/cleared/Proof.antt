@@ -4,6 +4,7 @@ use Rattle.hardware.specs.Failures.{failureOf}
 use Rattle.hardware.specs.Prog.{_>>=_, erase, followed}
 use Rattle.hardware.proofs.Prog.{going}
 use Rattle.transfer.specs.Attempt.{accessAttempt, attemptNext, awaiting, cleared, got, orCleared, restAttempt, validAttempt, validAttemptNext}
+use Rattle.transfer.specs.Within.{AttemptNextWithin, AttemptWithin}
 use borrow.Author.Needs.{needs}
 use mathlib.Core.Path.{refl}
 use Rattle.transfer.proofs.attempt.cleared.Statement.{statement}
@@ -25,16 +26,31 @@ clear-done-requires : tie.Need-clear-done-requires
 clear-done-requires c κs = search needs
 
 returns : tie.Need-returns
-unfolding attemptNext awaiting accessAttempt restAttempt validAttemptNext validAttempt clearNext validClearNext
-returns c = (λ m q s. rw (c .before .n .given .1) (going _ _ _), λ s h. rw (c .before .n .given .1) at h)
+unfolding attemptNext awaiting accessAttempt restAttempt validAttemptNext validAttempt clearNext validClearNext AttemptNextWithin AttemptWithin
+returns c =
+    record {
+      yields = λ m q s. rw (c .before .n .given .1) (going _ _ _);
+      limits = λ s h. rw (c .before .n .given .1) at h;
+      within = λ m w. rw (c .before .n .given .1) at w;
+    }
 
 returns-2 : tie.Need-returns-2
-unfolding attemptNext got followed _>>=_ erase validAttemptNext clearNext cleared orCleared failureOf
-returns-2 c = (λ m q s. rw (c .before .before .before .n2 .given .1, c .enum-told .given .1), λ s h. refl)
+unfolding attemptNext got followed _>>=_ erase validAttemptNext clearNext cleared orCleared failureOf AttemptNextWithin
+returns-2 c =
+    record {
+      yields = λ m q s. rw (c .before .before .before .n2 .given .1, c .enum-told .given .1);
+      limits = λ s h. refl;
+      within = λ m w. tt;
+    }
 
 returns-3 : tie.Need-returns-3
-unfolding attemptNext got followed _>>=_ erase validAttemptNext clearNext cleared orCleared
-returns-3 c = (λ m q s. rw (c .before .before .before .before .before .n2 .given .1, c .before .before .o .given .1, c .clear-done .ensures), λ s h. refl)
+unfolding attemptNext got followed _>>=_ erase validAttemptNext clearNext cleared orCleared AttemptNextWithin
+returns-3 c =
+    record {
+      yields = λ m q s. rw (c .before .before .before .before .before .n2 .given .1, c .before .before .o .given .1, c .clear-done .ensures);
+      limits = λ s h. refl;
+      within = λ m w. tt;
+    }
 
 pub cleared-spec : {M : Type 1} → statement M
 cleared-spec =

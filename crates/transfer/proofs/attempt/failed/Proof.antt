@@ -1,7 +1,9 @@
 -- `failed` meets its contract.
 use Rattle.hardware.specs.Prog.{erase, pick}
 use Rattle.hardware.proofs.Prog.{over}
+use Rattle.transfer.proofs.Within.{clear-opens}
 use Rattle.transfer.specs.Attempt.{attemptNext, got, orTried, validAttemptNext}
+use Rattle.transfer.specs.Within.{AttemptNextWithin}
 use borrow.Author.Needs.{needs}
 use mathlib.Core.Path.{refl}
 use Rattle.transfer.proofs.attempt.failed.Statement.{statement}
@@ -18,11 +20,21 @@ cleared-requires c κs = search needs
 
 returns : tie.Need-returns
 unfolding orTried pick
-returns c = (λ m s. rw (← c .before .before .before .is-i2c .ensures, c .before .before .if1 .taken) (over _ _ (c .cleared .ensures .0 m (c .before .before .before .before .args .q) s) (c .before .clear .ensures .0)), λ s. c .cleared .ensures .1 s (c .before .clear .ensures .1))
+returns c =
+    record {
+      yields = λ m s. rw (← c .before .before .before .is-i2c .ensures, c .before .before .if1 .taken) (over _ _ (c .cleared .ensures .yields m (c .before .before .before .before .args .q) s) (c .before .clear .ensures .0));
+      limits = λ s. c .cleared .ensures .limits s (c .before .clear .ensures .1);
+      within = λ n h. c .cleared .ensures .within n (clear-opens (c .before .before .before .before .args .q) (c .before .before .before .before .args .l) (c .before .before .before .before .args .ctl) _ n (c .before .clear .ensures .0) h);
+    }
 
 returns-2 : tie.Need-returns-2
-unfolding orTried pick attemptNext got erase validAttemptNext
-returns-2 c = (λ m s. rw (← c .before .is-i2c .ensures, c .if1 .left), λ s. refl)
+unfolding orTried pick attemptNext got erase validAttemptNext AttemptNextWithin
+returns-2 c =
+    record {
+      yields = λ m s. rw (← c .before .is-i2c .ensures, c .if1 .left);
+      limits = λ s. refl;
+      within = λ n h. tt;
+    }
 
 pub failed-spec : {M : Type 1} → statement M
 failed-spec = tie.close (tie.spec is-i2c-requires clear-requires cleared-requires returns returns-2)

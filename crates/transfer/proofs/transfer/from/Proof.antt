@@ -1,11 +1,13 @@
 -- `from` meets its contract.
 use Rattle.bus.proofs.Laws.{picked}
 use Rattle.bus.specs.Command.{jobNext}
+use Rattle.bus.specs.Steps.{JOB-STEPS}
 use Rattle.hardware.specs.Prog.{erase}
 use Rattle.script.proofs.Laws.{commands-past}
 use Rattle.script.specs.Script.{device, stepAt}
 use Rattle.transfer.proofs.Laws.{transfer-at}
 use Rattle.transfer.specs.Transfer.{accessTransfer, asking, ranOn, restTransfer, transfer, transferNext, validTransfer, validTransferNext}
+use Rattle.transfer.specs.Within.{TransferNextWithin}
 use borrow.Author.Needs.{needs}
 use mathlib.Core.Path.{_∙_, refl}
 use Rattle.transfer.proofs.transfer.from.Statement.{statement}
@@ -18,12 +20,22 @@ open-requires : tie.Need-open-requires
 open-requires c κs = search needs
 
 returns : tie.Need-returns
-unfolding stepAt transferNext asking accessTransfer restTransfer jobNext validTransferNext validTransfer
-returns c = (λ m device. rw (c .before .at .ensures) at (c .«open» .ensures .0 device (ranOn m (c .before .before .before .before .args .l) device (c .before .before .before .before .args .script .now) (c .before .before .before .before .args .at) (c .before .before .before .before .args .taken))) ∙ transfer-at m (c .before .before .before .before .args .l) device (c .before .before .before .before .args .script .now) (c .before .before .before .before .args .at) (c .before .before .before .before .args .taken) (c .before .before .before .before .args .ctl) (c .before .before .if1 .taken), λ h. picked _ _ (h (c .before .before .if1 .taken)) (rw (c .before .at .ensures) at (c .«open» .ensures .1)))
+unfolding stepAt transferNext asking accessTransfer restTransfer jobNext validTransferNext validTransfer TransferNextWithin
+returns c =
+    record {
+      yields = λ m device. rw (c .before .at .ensures) at (c .«open» .ensures .yields device (ranOn m (c .before .before .before .before .args .l) device (c .before .before .before .before .args .script .now) (c .before .before .before .before .args .at) (c .before .before .before .before .args .taken))) ∙ transfer-at m (c .before .before .before .before .args .l) device (c .before .before .before .before .args .script .now) (c .before .before .before .before .args .at) (c .before .before .before .before .args .taken) (c .before .before .before .before .args .ctl) (c .before .before .if1 .taken);
+      limits = λ h. picked _ _ (h (c .before .before .if1 .taken)) (rw (c .before .at .ensures) at (c .«open» .ensures .limits));
+      within = λ n g h. record { job = JOB-STEPS; within = c .«open» .ensures .within; rest = h (c .before .before .if1 .taken) };
+    }
 
 returns-2 : tie.Need-returns-2
-unfolding transferNext transfer erase validTransferNext
-returns-2 c = (λ m device. rw (commands-past (c .before .before .args .script .now) (c .before .before .args .at) (c .if1 .left)), λ h. refl)
+unfolding transferNext transfer erase validTransferNext TransferNextWithin
+returns-2 c =
+    record {
+      yields = λ m device. rw (commands-past (c .before .before .args .script .now) (c .before .before .args .at) (c .if1 .left));
+      limits = λ h. refl;
+      within = λ n g h. g;
+    }
 
 pub from-spec : {M : Type 1} → statement M
 from-spec = tie.close (tie.spec at-requires open-requires returns returns-2)

@@ -2,11 +2,14 @@
 use Rattle.bus.proofs.Laws.{picked}
 use Rattle.bus.specs.Bus.{orHeld}
 use Rattle.bus.specs.Command.{jobNext, validJobNext}
+use Rattle.bus.specs.Within.{JobNextWithin}
 use Rattle.hardware.specs.Prog.{erase}
 use Rattle.hardware.specs.Registers.{byte}
 use Rattle.transfer.specs.Transfer.{accessTransfer, asking, restTransfer, transferNext, validTransfer, validTransferNext}
+use Rattle.transfer.specs.Within.{TransferNextWithin}
 use borrow.Author.Needs.{needs}
 use mathlib.Core.Path.{refl}
+use native.Mathlib.Omega.{arith}
 use Rattle.transfer.proofs.transfer.jobbed.Statement.{statement}
 use Rattle.transfer.proofs.transfer.jobbed.Tie as tie
 
@@ -26,16 +29,31 @@ enum-known-o-2 : tie.Need-enum-known-o-2
 enum-known-o-2 c = search needs
 
 returns : tie.Need-returns
-unfolding transferNext asking accessTransfer restTransfer jobNext validTransferNext validTransfer validJobNext
-returns c = (λ m. rw (c .before .n .given .1), λ h g. picked _ _ h (rw (c .before .n .given .1) at g))
+unfolding transferNext asking accessTransfer restTransfer jobNext validTransferNext validTransfer validJobNext JobNextWithin TransferNextWithin
+returns c =
+    record {
+      yields = λ m. rw (c .before .n .given .1);
+      limits = λ h g. picked _ _ h (rw (c .before .n .given .1) at g);
+      within = λ p m h w g. record { job = p; within = rw (c .before .n .given .1) at w; rest = g };
+    }
 
 returns-2 : tie.Need-returns-2
 unfolding jobNext orHeld byte
-returns-2 c = (λ m. rw (c .before .before .before .before .before .n2 .given .1, c .before .before .o .given .1) (c .after .ensures .0 m (c .before .before .before .before .before .before .before .before .args .device)), λ h g. c .after .ensures .1 h)
+returns-2 c =
+    record {
+      yields = λ m. rw (c .before .before .before .before .before .n2 .given .1, c .before .before .o .given .1) (c .after .ensures .yields m (c .before .before .before .before .before .before .before .before .args .device));
+      limits = λ h g. c .after .ensures .limits h;
+      within = λ p m h w g. c .after .ensures .within m h (omega (arith, g));
+    }
 
 returns-3 : tie.Need-returns-3
-unfolding transferNext jobNext orHeld byte erase validTransferNext
-returns-3 c = (λ m. rw (c .before .before .before .before .n2 .given .1, c .before .o2 .given .1), λ h g. refl)
+unfolding transferNext jobNext orHeld byte erase validTransferNext TransferNextWithin
+returns-3 c =
+    record {
+      yields = λ m. rw (c .before .before .before .before .n2 .given .1, c .before .o2 .given .1);
+      limits = λ h g. refl;
+      within = λ p m h w g. omega (arith, g);
+    }
 
 pub jobbed-spec : {M : Type 1} → statement M
 jobbed-spec =

@@ -2,6 +2,7 @@
 use Rattle.script.specs.Script.{device}
 use Rattle.transfer.proofs.Laws.{told-end, told-twice}
 use Rattle.transfer.specs.Transfer.{asking, transferNext, validTransferNext}
+use Rattle.transfer.specs.Within.{TransferNextWithin}
 use borrow.Author.Needs.{needs}
 use mathlib.Core.Path.{refl}
 use Rattle.transfer.proofs.transfer.told.Statement.{statement}
@@ -17,16 +18,31 @@ enum-known-n-3 : tie.Need-enum-known-n-3
 enum-known-n-3 c = search needs
 
 returns : tie.Need-returns
-unfolding transferNext validTransferNext
-returns c = (λ m l device s. rw (c .before .n .given .1), λ l s h. rw (c .before .n .given .1) at h)
+unfolding transferNext validTransferNext TransferNextWithin
+returns c =
+    record {
+      yields = λ m l device s. rw (c .before .n .given .1);
+      limits = λ l s h. rw (c .before .n .given .1) at h;
+      within = λ l m w. rw (c .before .n .given .1) at w;
+    }
 
 returns-2 : tie.Need-returns-2
-unfolding transferNext asking validTransferNext
-returns-2 c = (λ m l device s. rw (c .before .n2 .given .1) (told-twice m _ _ _ _), λ l s h. rw (c .before .n2 .given .1) at h)
+unfolding transferNext asking validTransferNext TransferNextWithin
+returns-2 c =
+    record {
+      yields = λ m l device s. rw (c .before .n2 .given .1) (told-twice m _ _ _ _);
+      limits = λ l s h. rw (c .before .n2 .given .1) at h;
+      within = λ l m w. rw (c .before .n2 .given .1) at w;
+    }
 
 returns-3 : tie.Need-returns-3
-unfolding validTransferNext
-returns-3 c = (λ m l device s. rw (c .before .n3 .given .1) (told-end m (c .before .before .before .args .b) l device s _ _ _), λ l s h. refl)
+unfolding validTransferNext TransferNextWithin
+returns-3 c =
+    record {
+      yields = λ m l device s. rw (c .before .n3 .given .1) (told-end m (c .before .before .before .args .b) l device s _ _ _);
+      limits = λ l s h. refl;
+      within = λ l m w. rw (c .before .n3 .given .1) at w;
+    }
 
 pub told-spec : {M : Type 1} → statement M
 told-spec = tie.close (tie.spec enum-known-n enum-known-n-2 enum-known-n-3 returns returns-2 returns-3)

@@ -1,0 +1,67 @@
+-- What holds of an end, and of a requested byte wherever it holds of what follows it, holds of `identify` and `identify_qsfp`.
+use Prim.Native.Nat.{ℕ, suc, zero}
+use mathlib.Core.Bool.{Bool, true, false}
+use Rattle.hardware.specs.declared.Port.{Port}
+use Rattle.hardware.specs.Prog.{Prog, ret, R, Ok, Err, pick, _>>=_}
+use Rattle.transfer.specs.declared.attempt.Sequence.{Sequence}
+use Rattle.i2c.specs.declared.once.Request.the-variants.{ReadByte}
+use Rattle.i2c.specs.I2c.{locked, transferred}
+use Rattle.sfp.specs.declared.Codes.{Codes}
+use Rattle.sfp.specs.declared.Kind.{Kind}
+use Rattle.sfp.specs.declared.Identity.{Identity}
+use Rattle.sfp.specs.Identify.{EEPROM, orAbsent, byte, identifierOf, reachOf, bx10gOf, kindBy, classify, known, identified, identify}
+use Rattle.sfp.specs.Qsfp.{qsfpTechnology, qsfpLength, qsfpConnector, qsfpClassify, qsfpKnown, qsfpIdentified, identifyQsfp}
+
+pub record Spreads (q : Sequence) (port : Port) (P : Prog (R Identity) → Type 0) : Type 0 where
+  pub ends : (v : R Identity) → P (ret v)
+  pub requests : (offset tries : ℕ) (k : R ℕ → Prog (R Identity)) → ((r : R ℕ) → P (k r)) → P (transferred port (ReadByte EEPROM offset) (locked q) tries >>= k)
+
+module _ (q : Sequence) (port : Port) (P : Prog (R Identity) → Type 0) (s : Spreads q port P) where
+  pick-holds : (b : Bool) (p r : Prog (R Identity)) → P p → P r → P (pick b p r)
+  unfolding pick
+  pick-holds true p r e d = e
+  pick-holds false p r e d = d
+
+  absent-holds : (k : ℕ → Prog (R Identity)) (r : R ℕ) → ((v : ℕ) → P (k v)) → P (orAbsent k r)
+  unfolding orAbsent
+  absent-holds k (Ok v) e = e v
+  absent-holds k (Err error) e = pick-holds _ _ _ (s .ends _) (s .ends _)
+
+  byte-holds : (offset tries : ℕ) (k : ℕ → Prog (R Identity)) → ((v : ℕ) → P (k v)) → P (byte q port offset tries k)
+  unfolding byte
+  byte-holds offset tries k e = s .requests offset tries _ (λ r. absent-holds k r e)
+
+  kind-holds : (c : Codes) (bx : Bool) (k : Kind → Prog (R Identity)) → ((kind : Kind) → P (k kind)) → P (kindBy q port c bx k)
+  unfolding kindBy
+  kind-holds c bx k e = pick-holds _ _ _ (e _) (pick-holds _ _ _ (byte-holds 60 _ _ (λ v. e _)) (e _))
+
+  bx-holds : (c : Codes) (k : Bool → Prog (R Identity)) → ((b : Bool) → P (k b)) → P (bx10gOf q port c k)
+  unfolding bx10gOf reachOf
+  bx-holds c k e =
+      pick-holds _ _ _
+      (byte-holds 12 _ _ (λ rate. pick-holds _ _ _ (byte-holds 14 _ _ (λ km. byte-holds 15 _ _ (λ hm. e _))) (e _)))
+      (e _)
+
+  known-holds : (identifier : ℕ) → P (known q port identifier)
+  unfolding known classify
+  known-holds identifier =
+      byte-holds 6 _ _ (λ g1. byte-holds 3 _ _ (λ g10. byte-holds 8 _ _ (λ cable.
+      bx-holds _ _ (λ bx. kind-holds _ bx _ (λ kind. s .ends _)))))
+
+  identifier-holds : (left identifier : ℕ) (k : ℕ → Prog (R Identity)) → ((v : ℕ) → P (k v)) → P (identifierOf q port left identifier k)
+  unfolding identifierOf
+  identifier-holds zero identifier k e = e identifier
+  identifier-holds (suc left) identifier k e = byte-holds 0 11 _ (λ v. pick-holds _ _ _ (e v) (identifier-holds left v k e))
+
+  pub identify-holds : P (identify q port)
+  unfolding identify identified
+  identify-holds = identifier-holds 5 0 _ (λ v. pick-holds _ _ _ (known-holds v) (s .ends _))
+
+  pub qsfp-holds : P (identifyQsfp q port)
+  unfolding identifyQsfp qsfpIdentified qsfpKnown qsfpClassify qsfpConnector qsfpLength qsfpTechnology
+  qsfp-holds =
+      byte-holds 0 11 _ (λ v. pick-holds _ _ _
+      (byte-holds 0x83 _ _ (λ g10. byte-holds 0x86 _ _ (λ g1. pick-holds _ _ _ (s .ends _) (pick-holds _ _ _ (s .ends _) (pick-holds _ _ _ (s .ends _)
+      (byte-holds 0x82 _ _ (λ a. pick-holds _ _ _ (byte-holds 0x92 _ _ (λ b. pick-holds _ _ _
+      (byte-holds 0x93 _ _ (λ c. pick-holds _ _ _ (s .ends _) (s .ends _))) (s .ends _))) (s .ends _))))))))
+      (s .ends _))

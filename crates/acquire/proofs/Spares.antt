@@ -20,7 +20,8 @@ use Rattle.sync.specs.Regs.{SW-MNG, swsm, swFwSync, mux}
 use Rattle.sync.specs.Lock.{lock, unlock}
 use Rattle.sync.specs.Resource.{acquireBits, unmuxed, releaseBits}
 use Rattle.hostif.specs.Hostif.{FLEX-MNG, Left, words, closed, released, requested, acquired, command, tokenBlock, tokened, token}
-use Rattle.sync.proofs.Spreads.{Spreads, Open, Passes, Semaphores, one-holds, lock-holds, unlock-holds, unmuxed-holds, acquire-bits-holds, release-bits-holds}
+use Rattle.hardware.proofs.Spreads.{Spreads, Open, Passes, one-holds}
+use Rattle.sync.proofs.Spreads.{Semaphores, lock-holds, unlock-holds, unmuxed-holds, acquire-bits-holds, release-bits-holds}
 use Rattle.hostif.proofs.Spreads.{Firmware, request-holds, respond-holds}
 use Rattle.hostif.specs.Acquire.{withBits, acquiredAll, notGranted, givenBack, tokenSeen, acquireToken}
 

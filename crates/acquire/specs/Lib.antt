@@ -1,2 +1,3 @@
 pub mod Acquire
 pub mod Calls
+pub mod MuxFails

@@ -303,9 +303,6 @@ unfolding clear
 clear-ends l =
     quiet-ends _ _ (START-STEPS + 0) (FREE-STEPS + (START-STEPS + STOP-STEPS)) (start-ends l (done none) 0 (done-ends none 0)) (clear-free-ends l)
 
-pub clear-erased-ends : (l : Layout) (ctl : ℕ) → Ends (erase (clear l ctl)) CLEAR-STEPS
-clear-erased-ends l ctl = ends-erase _ CLEAR-STEPS (clear-ends l ctl)
-
 -- the answers that each machine may still need after the one it awaits, up to the end of the call, the command or the sequence
 
 -- once the wait after a word is over

@@ -2,5 +2,5 @@ pub mod Laws
 pub mod Commands
 pub mod Ends
 pub mod Spreads
-pub mod OnBus
+pub mod Noteless
 pub mod Within

@@ -1,41 +1,25 @@
 -- What spreads holds of the line calls, the commands and the clearing sequence wherever it holds of what comes after them.
 use Prim.Native.Nat.{ℕ, suc, zero}
-use mathlib.Core.Path.{_≡_, refl}
 use mathlib.Core.Bool.{Bool, true, false}
-use lib.Dec.{eqb}
-use borrow.Author.Tests.{eq-eqb}
 use Rattle.hardware.specs.declared.Access.{Access}
 use Rattle.hardware.specs.declared.Answer.{Answer}
 use Rattle.hardware.specs.Failures.{Failure, I2c}
 use Rattle.hardware.specs.Prog.{Prog, ask, R, Ok, Err, pick, _>>=_}
-use Rattle.hardware.specs.Registers.{STATUS, raw, written, flushed}
+use Rattle.hardware.specs.Registers.{raw, written, flushed}
 use Rattle.bus.specs.declared.Layout.{Layout}
 use Rattle.bus.specs.declared.Taken.{Taken}
-use Rattle.bus.specs.Accesses.{elsewhere, offBus}
 use Rattle.bus.specs.Bus.{Held, Bus, done, fail, none, orHeld, flushing, put, get, wait, sclSeen, sclTries, sclHigh, sclLow, sdaSeen, sdaFree, sda, releaseSda, look, lookSeen, start, close, stop, outBit, sample, sampleSeen, inBit, shifted, inBits, inByte, bitOf, outBits, ackSeen, ackTries, send, pulses, orQuiet, quieted, quiet, clear, clearFree, clearAgain, clearStop}
 
--- P holds of a failure, and of an access of a line call wherever it holds after each answer
-pub record Spreads (P : Prog Held → Type 0) (l : Layout) : Type 0 where
-  pub asked : (x : Access) (f : Answer → Prog Held) → offBus l x ≡ false → ((a : Answer) → P (f a)) → P (ask x f)
+-- P holds of a failure, and of an access wherever it holds after each answer
+pub record Spreads (P : Prog Held → Type 0) : Type 0 where
+  pub asked : (x : Access) (f : Answer → Prog Held) → ((a : Answer) → P (f a)) → P (ask x f)
   pub failed : (e : Failure) (ctl : ℕ) → P (fail e ctl)
 
 -- whatever control word the driver holds
 abbrev pub Throughout : (Prog Held → Type 0) → Bus → Type 0
 Throughout P k = (ctl : ℕ) → P (k ctl)
 
-pub control-near : (l : Layout) → elsewhere l (l .reg) ≡ false
-unfolding elsewhere pick
-control-near l = rw (eq-eqb (l .reg) (l .reg) refl)
-
-status-near : (l : Layout) → elsewhere l STATUS ≡ false
-unfolding elsewhere pick
-status-near l = by (eqb STATUS (l .reg))
-  where
-    by : (b : Bool) → pick b false (pick (eqb STATUS STATUS) false true) ≡ false
-    by true = refl
-    by false = refl
-
-module _ (P : Prog Held → Type 0) (l : Layout) (s : Spreads P l) where
+module _ (P : Prog Held → Type 0) (s : Spreads P) where
   pick-holds : (b : Bool) (p q : Prog Held) → P p → P q → P (pick b p q)
   unfolding pick
   pick-holds true p q e d = e
@@ -52,124 +36,124 @@ module _ (P : Prog Held → Type 0) (l : Layout) (s : Spreads P l) where
   or-held-holds k ctl (Err x) e = s .failed x ctl
 
   flushing-holds : (k : Bus) → Throughout P k → Throughout P (flushing k)
-  unfolding flushing offBus
-  flushing-holds k e ctl = s .asked _ _ (status-near l) (λ a. or-held-holds (λ _. k) ctl (flushed a) (λ _. e))
+  unfolding flushing
+  flushing-holds k e ctl = s .asked _ _ (λ a. or-held-holds (λ _. k) ctl (flushed a) (λ _. e))
 
-  put-holds : (k : Bus) → Throughout P k → Throughout P (put l k)
-  unfolding put offBus
-  put-holds k e ctl = s .asked _ _ (control-near l) (λ a. or-held-holds (λ _. flushing k) ctl (written a) (λ _. flushing-holds k e))
+  put-holds : (l : Layout) (k : Bus) → Throughout P k → Throughout P (put l k)
+  unfolding put
+  put-holds l k e ctl = s .asked _ _ (λ a. or-held-holds (λ _. flushing k) ctl (written a) (λ _. flushing-holds k e))
 
-  get-holds : (k : ℕ → Bus) → ((v : ℕ) → Throughout P (k v)) → Throughout P (get l k)
-  unfolding get offBus
-  get-holds k e ctl = s .asked _ _ (control-near l) (λ a. or-held-holds k ctl (raw a) e)
+  get-holds : (l : Layout) (k : ℕ → Bus) → ((v : ℕ) → Throughout P (k v)) → Throughout P (get l k)
+  unfolding get
+  get-holds l k e ctl = s .asked _ _ (λ a. or-held-holds k ctl (raw a) e)
 
   wait-holds : (us : ℕ) (k : Bus) → Throughout P k → Throughout P (wait us k)
-  unfolding wait offBus
-  wait-holds us k e ctl = s .asked _ _ refl (λ a. e ctl)
+  unfolding wait
+  wait-holds us k e ctl = s .asked _ _ (λ a. e ctl)
 
-  scl-tries-holds : (tries : ℕ) (k : Bus) → Throughout P k → Throughout P (sclTries l tries k)
+  scl-tries-holds : (l : Layout) (tries : ℕ) (k : Bus) → Throughout P k → Throughout P (sclTries l tries k)
   unfolding sclTries sclSeen
-  scl-tries-holds zero k e ctl = e ctl
-  scl-tries-holds (suc left) k e ctl =
-      put-holds _ (wait-holds 1 _ (get-holds _ (λ v. either-holds _ _ _ (scl-tries-holds left k e) e))) _
+  scl-tries-holds l zero k e ctl = e ctl
+  scl-tries-holds l (suc left) k e ctl =
+      put-holds l _ (wait-holds 1 _ (get-holds l _ (λ v. either-holds _ _ _ (scl-tries-holds l left k e) e))) _
 
-  scl-high-holds : (k : Bus) → Throughout P k → Throughout P (sclHigh l k)
+  scl-high-holds : (l : Layout) (k : Bus) → Throughout P k → Throughout P (sclHigh l k)
   unfolding sclHigh
-  scl-high-holds k e ctl = scl-tries-holds 500 k e _
+  scl-high-holds l k e ctl = scl-tries-holds l 500 k e _
 
-  scl-low-holds : (k : Bus) → Throughout P k → Throughout P (sclLow l k)
+  scl-low-holds : (l : Layout) (k : Bus) → Throughout P k → Throughout P (sclLow l k)
   unfolding sclLow
-  scl-low-holds k e ctl = put-holds _ (wait-holds 1 k e) _
+  scl-low-holds l k e ctl = put-holds l _ (wait-holds 1 k e) _
 
-  sda-free-holds : (k : Bus) → Throughout P k → Throughout P (sdaFree l k)
+  sda-free-holds : (l : Layout) (k : Bus) → Throughout P k → Throughout P (sdaFree l k)
   unfolding sdaFree sdaSeen
-  sda-free-holds k e ctl =
-      let seen = get-holds _ (λ v. either-holds _ _ k (s .failed (I2c 0)) e) in
-      pick-holds _ _ _ (seen ctl) (put-holds _ seen _)
+  sda-free-holds l k e ctl =
+      let seen = get-holds l _ (λ v. either-holds _ _ k (s .failed (I2c 0)) e) in
+      pick-holds _ _ _ (seen ctl) (put-holds l _ seen _)
 
-  sda-holds : (high : Bool) (k : Bus) → Throughout P k → Throughout P (sda l high k)
+  sda-holds : (l : Layout) (high : Bool) (k : Bus) → Throughout P k → Throughout P (sda l high k)
   unfolding sda
-  sda-holds true k e ctl = put-holds _ (wait-holds 3 _ (sda-free-holds k e)) _
-  sda-holds false k e ctl = put-holds _ (wait-holds 3 k e) _
+  sda-holds l true k e ctl = put-holds l _ (wait-holds 3 _ (sda-free-holds l k e)) _
+  sda-holds l false k e ctl = put-holds l _ (wait-holds 3 k e) _
 
-  release-sda-holds : (k : Bus) → Throughout P k → Throughout P (releaseSda l k)
+  release-sda-holds : (l : Layout) (k : Bus) → Throughout P k → Throughout P (releaseSda l k)
   unfolding releaseSda
-  release-sda-holds k e ctl = put-holds _ (wait-holds 1 k e) _
+  release-sda-holds l k e ctl = put-holds l _ (wait-holds 1 k e) _
 
-  look-holds : (k : Bus) → Throughout P k → Throughout P (look l k)
+  look-holds : (l : Layout) (k : Bus) → Throughout P k → Throughout P (look l k)
   unfolding look lookSeen
-  look-holds k e = get-holds _ (λ v ctl. e _)
+  look-holds l k e = get-holds l _ (λ v ctl. e _)
 
   -- SCL high, a wait, SCL low and a wait
-  pulse-holds : (k : Bus) → Throughout P k → Throughout P (sclHigh l (wait 4 (sclLow l (wait 5 k))))
-  pulse-holds k e = scl-high-holds _ (wait-holds 4 _ (scl-low-holds _ (wait-holds 5 k e)))
+  pulse-holds : (l : Layout) (k : Bus) → Throughout P k → Throughout P (sclHigh l (wait 4 (sclLow l (wait 5 k))))
+  pulse-holds l k e = scl-high-holds l _ (wait-holds 4 _ (scl-low-holds l _ (wait-holds 5 k e)))
 
-  pub start-holds : (k : Bus) → Throughout P k → Throughout P (start l k)
+  pub start-holds : (l : Layout) (k : Bus) → Throughout P k → Throughout P (start l k)
   unfolding start
-  start-holds k e =
-      look-holds _
-      (sda-holds true _
-      (scl-high-holds _
-      (wait-holds 5 _ (sda-holds false _ (wait-holds 4 _ (scl-low-holds _ (wait-holds 5 k e)))))))
+  start-holds l k e =
+      look-holds l _
+      (sda-holds l true _
+      (scl-high-holds l _
+      (wait-holds 5 _ (sda-holds l false _ (wait-holds 4 _ (scl-low-holds l _ (wait-holds 5 k e)))))))
 
-  close-holds : (k : Bus) → Throughout P k → Throughout P (close l k)
+  close-holds : (l : Layout) (k : Bus) → Throughout P k → Throughout P (close l k)
   unfolding close
-  close-holds k e ctl = put-holds k e _
+  close-holds l k e ctl = put-holds l k e _
 
-  pub stop-holds : (k : Bus) → Throughout P k → Throughout P (stop l k)
+  pub stop-holds : (l : Layout) (k : Bus) → Throughout P k → Throughout P (stop l k)
   unfolding stop
-  stop-holds k e =
-      sda-holds false _
-      (scl-high-holds _
-      (wait-holds 4 _ (sda-holds true _ (wait-holds 5 _ (either-holds _ k (close l k) e (close-holds k e))))))
+  stop-holds l k e =
+      sda-holds l false _
+      (scl-high-holds l _
+      (wait-holds 4 _ (sda-holds l true _ (wait-holds 5 _ (either-holds _ k (close l k) e (close-holds l k e))))))
 
-  pub out-bit-holds : (bit : Bool) (k : Bus) → Throughout P k → Throughout P (outBit l bit k)
+  pub out-bit-holds : (l : Layout) (bit : Bool) (k : Bus) → Throughout P k → Throughout P (outBit l bit k)
   unfolding outBit
-  out-bit-holds bit k e = sda-holds bit _ (pulse-holds k e)
+  out-bit-holds l bit k e = sda-holds l bit _ (pulse-holds l k e)
 
-  in-bit-holds : (k : Bool → Bus) → ((bit : Bool) → Throughout P (k bit)) → Throughout P (inBit l k)
+  in-bit-holds : (l : Layout) (k : Bool → Bus) → ((bit : Bool) → Throughout P (k bit)) → Throughout P (inBit l k)
   unfolding inBit sample sampleSeen
-  in-bit-holds k e =
-      release-sda-holds _
-      (scl-high-holds _ (wait-holds 4 _ (get-holds _ (λ v. scl-low-holds _ (wait-holds 5 _ (e _))))))
+  in-bit-holds l k e =
+      release-sda-holds l _
+      (scl-high-holds l _ (wait-holds 4 _ (get-holds l _ (λ v. scl-low-holds l _ (wait-holds 5 _ (e _))))))
 
-  in-bits-holds : (count byte : ℕ) (k : ℕ → Bus) → ((v : ℕ) → Throughout P (k v)) → Throughout P (inBits l count byte k)
+  in-bits-holds : (l : Layout) (count byte : ℕ) (k : ℕ → Bus) → ((v : ℕ) → Throughout P (k v)) → Throughout P (inBits l count byte k)
   unfolding inBits
-  in-bits-holds zero byte k e = e byte
-  in-bits-holds (suc count) byte k e = in-bit-holds _ (λ bit. in-bits-holds count (shifted byte bit) k e)
+  in-bits-holds l zero byte k e = e byte
+  in-bits-holds l (suc count) byte k e = in-bit-holds l _ (λ bit. in-bits-holds l count (shifted byte bit) k e)
 
-  pub in-byte-holds : (k : ℕ → Bus) → ((v : ℕ) → Throughout P (k v)) → Throughout P (inByte l k)
+  pub in-byte-holds : (l : Layout) (k : ℕ → Bus) → ((v : ℕ) → Throughout P (k v)) → Throughout P (inByte l k)
   unfolding inByte
-  in-byte-holds k e = in-bits-holds 8 0 k e
+  in-byte-holds l k e = in-bits-holds l 8 0 k e
 
-  out-bits-holds : (byte count : ℕ) (k : Bus) → Throughout P k → Throughout P (outBits l byte count k)
+  out-bits-holds : (l : Layout) (byte count : ℕ) (k : Bus) → Throughout P k → Throughout P (outBits l byte count k)
   unfolding outBits
-  out-bits-holds byte zero k e = e
-  out-bits-holds byte (suc count) k e = out-bit-holds (bitOf byte count) _ (out-bits-holds byte count k e)
+  out-bits-holds l byte zero k e = e
+  out-bits-holds l byte (suc count) k e = out-bit-holds l (bitOf byte count) _ (out-bits-holds l byte count k e)
 
-  ack-tries-holds : (tries : ℕ) (k : Bool → Bus) → ((high : Bool) → Throughout P (k high)) → Throughout P (ackTries l tries k)
+  ack-tries-holds : (l : Layout) (tries : ℕ) (k : Bool → Bus) → ((high : Bool) → Throughout P (k high)) → Throughout P (ackTries l tries k)
   unfolding ackTries ackSeen
-  ack-tries-holds zero k e = e true
-  ack-tries-holds (suc left) k e =
-      get-holds _ (λ v. either-holds _ _ _ (e false) (wait-holds 1 _ (ack-tries-holds left k e)))
+  ack-tries-holds l zero k e = e true
+  ack-tries-holds l (suc left) k e =
+      get-holds l _ (λ v. either-holds _ _ _ (e false) (wait-holds 1 _ (ack-tries-holds l left k e)))
 
-  pub send-holds : (device byte : ℕ) (k : Bus) → Throughout P k → Throughout P (send l device byte k)
+  pub send-holds : (l : Layout) (device byte : ℕ) (k : Bus) → Throughout P k → Throughout P (send l device byte k)
   unfolding send
-  send-holds device byte k e =
-      out-bits-holds byte 8 _
-      (release-sda-holds _
-      (scl-high-holds _
+  send-holds l device byte k e =
+      out-bits-holds l byte 8 _
+      (release-sda-holds l _
+      (scl-high-holds l _
       (wait-holds 4 _
-      (ack-tries-holds 10 _
-      (λ high. scl-low-holds _ (wait-holds 5 _ (either-holds high (fail (I2c device)) k (s .failed (I2c device)) e)))))))
+      (ack-tries-holds l 10 _
+      (λ high. scl-low-holds l _ (wait-holds 5 _ (either-holds high (fail (I2c device)) k (s .failed (I2c device)) e)))))))
 
-  pulses-holds : (count : ℕ) (k : Bus) → Throughout P k → Throughout P (pulses l count k)
+  pulses-holds : (l : Layout) (count : ℕ) (k : Bus) → Throughout P k → Throughout P (pulses l count k)
   unfolding pulses
-  pulses-holds zero k e = e
-  pulses-holds (suc count) k e = pulse-holds _ (pulses-holds count k e)
+  pulses-holds l zero k e = e
+  pulses-holds l (suc count) k e = pulse-holds l _ (pulses-holds l count k e)
 
-  pub free-holds : (k : Bus) → Throughout P k → Throughout P (releaseSda l (pulses l 9 k))
-  free-holds k e = release-sda-holds _ (pulses-holds 9 k e)
+  pub free-holds : (l : Layout) (k : Bus) → Throughout P k → Throughout P (releaseSda l (pulses l 9 k))
+  free-holds l k e = release-sda-holds l _ (pulses-holds l 9 k e)
 
   -- with what holds of success, and of one program after another, it holds of the clearing sequence
   module _ (ended : (t : Taken) (ctl : ℕ) → P (done t ctl)) (bound : (p : Prog Held) (k : Held → Prog Held) → P p → ((h : Held) → P (k h)) → P (p >>= k)) where
@@ -182,9 +166,9 @@ module _ (P : Prog Held → Type 0) (l : Layout) (s : Spreads P l) where
     unfolding quiet quieted
     quiet-holds p k d e ctl = bound _ _ (d ctl) (λ h. quieted-holds k e (h .ctl) (h .out))
 
-    pub clear-holds : Throughout P (clear l)
+    pub clear-holds : (l : Layout) → Throughout P (clear l)
     unfolding clear clearFree clearAgain clearStop
-    clear-holds =
-        let started = start-holds (done none) (ended none) in
-        let stopped = quiet-holds _ _ (stop-holds (done none) (ended none)) (ended none) in
-        quiet-holds _ _ started (free-holds _ (quiet-holds _ _ started stopped))
+    clear-holds l =
+        let started = start-holds l (done none) (ended none) in
+        let stopped = quiet-holds _ _ (stop-holds l (done none) (ended none)) (ended none) in
+        quiet-holds _ _ started (free-holds l _ (quiet-holds _ _ started stopped))

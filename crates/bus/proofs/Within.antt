@@ -1,4 +1,4 @@
--- The number of a line call and of a command falls at every step; what numbers they have to begin with.
+-- After every step of a line call and of a command one access fewer is enough; how many are to begin with.
 use Prim.Native.Nat.{ℕ, _+_, _*_, _-_, _≤_, suc, zero}
 use mathlib.Core.Path.{_≡_, refl, sym, subst}
 use mathlib.Core.Bool.{Bool, true, false}

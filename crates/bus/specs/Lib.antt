@@ -1,6 +1,5 @@
 pub mod Layout
 pub mod Bus
-pub mod Accesses
 pub mod Line
 pub mod Command
 pub mod Clear

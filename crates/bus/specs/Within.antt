@@ -1,5 +1,5 @@
--- The accesses left of a line call and of a command, at most, whatever command is lent to the later steps. The number of a
--- state falls at every step.
+-- The accesses left of a line call and of a command, at most, whatever command is lent to the later steps. One fewer is
+-- enough after every step.
 use Prim.Native.Nat.{ℕ, _+_, _*_, _≤_}
 use Rattle.hardware.specs.Runs.{Ends}
 use Rattle.bus.specs.declared.Layout.{Layout}

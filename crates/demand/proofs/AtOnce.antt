@@ -24,7 +24,7 @@ use Rattle.sync.specs.Resource.{against, muxed, taken, free, syncSeen, acquireT
 use Rattle.hostif.specs.Acquire.{hwOf, withBits, acquiredAll, acquire, giveBits, release}
 use Rattle.bus.specs.declared.Layout.{Layout}
 use Rattle.bus.specs.Layout.{layoutOf}
-use Rattle.bus.proofs.OnBus.{OnBus}
+use Rattle.bus.proofs.Noteless.{Noteless}
 use Rattle.wire.specs.Machine.{models, modelled}
 use Rattle.wire.specs.Always.{Either}
 use Rattle.wire.proofs.Always.{either-map}
@@ -96,13 +96,13 @@ module _ (l : Layout) (answers : Access → Answer) where
   unfolding AtOnce
   at-once-ask x f Q e h = rw e h
 
-  -- a call that stays on the bus, whatever the answers are
-  pub on-bus-at-once : {A : Type 0} (p : Prog A) (Q : A → Type 0) → OnBus l p → ((a : A) → Q a) → AtOnce l answers p Q
-  unfolding AtOnce OnBus
-  on-bus-at-once (ret a) Q h f = f a
-  on-bus-at-once (ask x k) Q h f = either-any (modelled l x) _ (answers x) (λ a. on-bus-at-once (k a) Q (h .1 a) f)
-  on-bus-at-once (note n p) Q h f = absurd h
-  on-bus-at-once (give b p) Q h f = on-bus-at-once p Q h f
+  -- a call that notes nothing, whatever the answers are
+  pub noteless-at-once : {A : Type 0} (p : Prog A) (Q : A → Type 0) → Noteless p → ((a : A) → Q a) → AtOnce l answers p Q
+  unfolding AtOnce Noteless
+  noteless-at-once (ret a) Q h f = f a
+  noteless-at-once (ask x k) Q h f = either-any (modelled l x) _ (answers x) (λ a. noteless-at-once (k a) Q (h a) f)
+  noteless-at-once (note n p) Q h f = absurd h
+  noteless-at-once (give b p) Q h f = noteless-at-once p Q h f
 
 -- what a register reads is 2 or 0
 either-way : (P : ℕ → Type 0) → P 2 → P 0 → (r : ℕ) → P (atOnceAt r)

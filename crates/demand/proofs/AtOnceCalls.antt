@@ -1,10 +1,10 @@
 -- With the answers of `atOnce`, and any of I2CCTL, no lock and no grant of a transfer or of an identification runs out.
 use Prim.Native.Nat.{ℕ, suc, zero}
 use mathlib.Core.Path.{_≡_, refl}
-use mathlib.Core.Bool.{Bool, true, false}
+use mathlib.Core.Bool.{Bool, true}
 use Rattle.hardware.specs.declared.Port.{Port}
 use Rattle.hardware.specs.declared.change.Change.{Change}
-use Rattle.hardware.specs.Prog.{Prog, ret, Attempt, R, Ok, Err, _>>=_, pick}
+use Rattle.hardware.specs.Prog.{Prog, ret, Attempt, R, Ok, _>>=_, pick}
 use Rattle.hardware.specs.Registers.{ESDP, noneOf}
 use Rattle.hardware.specs.Change.{change}
 use Rattle.hostif.specs.Acquire.{acquire, release}
@@ -15,15 +15,14 @@ use Rattle.transfer.specs.Attempt.{attempt}
 use Rattle.i2c.specs.declared.once.Request.{Request}
 use Rattle.i2c.specs.declared.once.Request.the-variants.{ReadByte, WriteByte, ReadCombined, WriteCombined}
 use Rattle.i2c.specs.I2c.{standard, locked, mask, once, whenLock, readJudged, readTries, writeTries, givenUp, writes, retried, askBus, giveBus, granting, granted, givenBus, onGrant, withBus, handshaken, givesValue, transferred}
-use Rattle.sfp.specs.declared.Identity.{Identity}
-use Rattle.sfp.specs.declared.Codes.{Codes}
-use Rattle.sfp.specs.Identify.{EEPROM, orAbsent, byte, identifierOf, reachOf, bx10gOf, kindBy, classify, recorded, known, identified, identify}
+use Rattle.sfp.specs.Identify.{EEPROM, identify}
 use Rattle.demand.specs.Fine.{AtOnce}
 use Rattle.bench.specs.AtOnce.{atOnceAt, atOnce}
 use Rattle.demand.proofs.Locks.{aside}
+use Rattle.sfp.proofs.Spreads.{identify-holds}
 use Rattle.i2c.proofs.Masks.{mask-plain}
-use Rattle.i2c.proofs.OnBus.{once-on-bus}
-use Rattle.demand.proofs.AtOnce.{at-once-then, at-once-try, at-once-pick, at-once-ret, at-once-note, on-bus-at-once, delay-at-once, read-at-once, change-at-once, acquire-at-once, release-at-once}
+use Rattle.i2c.proofs.Noteless.{once-noteless}
+use Rattle.demand.proofs.AtOnce.{at-once-then, at-once-try, at-once-pick, at-once-ret, at-once-note, noteless-at-once, delay-at-once, read-at-once, change-at-once, acquire-at-once, release-at-once}
 
 -- nothing is asked of the result
 abbrev pub AtOnces : {A : Type 0} → Port → Prog A → Type 0
@@ -50,7 +49,7 @@ module _ (port : Port) where
   unfolding once attempt
   once-at-once r how =
       at-once-note _ _ Attempt _ _
-      (on-bus-at-once _ _ _ _ (once-on-bus port r how) (λ _. tt))
+      (noteless-at-once _ _ _ _ (once-noteless port r how) (λ _. tt))
 
   locked-at-once : (on : Bool) (k : Prog (R Taken)) → AtOnces port k → AtOnces port (whenLock on (acquire port (mask port)) k)
   unfolding whenLock
@@ -109,37 +108,7 @@ module _ (port : Port) where
   unfolding transferred givesValue
   transferred-at-once r how n = bind-at-once _ _ (handshake-at-once r _ (retried-at-once r how n)) (λ result. ret-at-once _)
 
-  -- whatever is read, and whatever follows it
-  absent-at-once : (k : ℕ → Prog (R Identity)) → ((v : ℕ) → AtOnces port (k v)) → (r : R ℕ) → AtOnces port (orAbsent k r)
-  unfolding orAbsent
-  absent-at-once k h (Ok v) = h v
-  absent-at-once k h (Err e) = at-once-pick _ _ _ _ _ _ (ret-at-once _) (ret-at-once _)
-
-  byte-at-once : (offset n : ℕ) (k : ℕ → Prog (R Identity)) → ((v : ℕ) → AtOnces port (k v)) → AtOnces port (byte standard port offset n k)
-  unfolding byte
-  byte-at-once offset n k h = bind-at-once _ _ (transferred-at-once (ReadByte EEPROM offset) (locked standard) n) (absent-at-once k h)
-
-  identifier-at-once : (n identifier : ℕ) (k : ℕ → Prog (R Identity)) → ((v : ℕ) → AtOnces port (k v)) → AtOnces port (identifierOf standard port n identifier k)
-  unfolding identifierOf
-  identifier-at-once zero identifier k h = h identifier
-  identifier-at-once (suc n) identifier k h = byte-at-once 0 11 _ (λ v. at-once-pick _ _ _ _ _ _ (h v) (identifier-at-once n v k h))
-
-  classify-at-once : (identifier : ℕ) (c : Codes) → AtOnces port (classify standard port identifier c)
-  unfolding classify bx10gOf reachOf kindBy
-  classify-at-once identifier c =
-      at-once-pick _ _ _ _ _ _
-      (byte-at-once 12 _ _ (λ rate. at-once-pick _ _ _ _ _ _ (byte-at-once 14 _ _ (λ km. byte-at-once 15 _ _ (λ hm. kind _))) (kind false)))
-      (kind false)
-    where
-      kind : (bx : Bool) → AtOnces port (kindBy standard port c bx (λ kind. ret (Ok (recorded identifier c kind))))
-      kind bx =
-          at-once-pick _ _ _ _ _ _ (ret-at-once _)
-          (at-once-pick _ _ _ _ _ _ (byte-at-once 60 _ _ (λ v. ret-at-once _)) (ret-at-once _))
-
-  known-at-once : (identifier : ℕ) → AtOnces port (known standard port identifier)
-  unfolding known
-  known-at-once identifier = byte-at-once 6 _ _ (λ g1. byte-at-once 3 _ _ (λ g10. byte-at-once 8 _ _ (λ cable. classify-at-once identifier _)))
-
   pub identify-at-once : AtOnce (layoutOf (port .family)) atOnce (identify standard port) (λ _. Unit {0})
-  unfolding identify identified
-  identify-at-once = identifier-at-once 5 0 _ (λ identifier. at-once-pick _ _ _ _ _ _ (known-at-once identifier) (ret-at-once _))
+  identify-at-once =
+      identify-holds standard port (λ p. AtOnces port p)
+      (record { ends = λ v. ret-at-once v; requests = λ offset n k h. bind-at-once _ k (transferred-at-once (ReadByte EEPROM offset) (locked standard) n) h })

@@ -151,7 +151,6 @@ abbrev pub tokenAfter : Token → ℕ
 tokenAfter s = commandAfter 2 (s .command)
 
 drop-few : (n : ℕ) (l : List ℕ) → length (drop n l) ≤ length l
-unfolding drop
 drop-few zero l = omega arith
 drop-few (suc n) [] = omega arith
 drop-few (suc n) (v ∷ l) = omega (arith, drop-few n l)

@@ -106,7 +106,7 @@ command-lasts x port s block ks h f k w =
     steps-few saidAt followsCommand standsAt command-on (record { told = CommandAsk x (CommandGoing port s); block = block }) ks (suc (commandAfter (length block) s)) (h, f) k w
     (ask-ends x _ (commandAfter (length block) s) (λ a. ends-erase _ _ (command-rest-ends port s block a)))
 
--- Whatever block is lent to each step, the number of a state falls at every one that is accepted
+-- Whatever block is lent to each step, one access fewer is enough after every one that is accepted
 abbrev withinAt : CommandAt → ℕ → Type 0
 withinAt t n = Accepted (t .told) × ToldWithin (t .told) n
 
@@ -125,14 +125,19 @@ own-ends (CommandAsk x CommandOver) b g w = absurd w
 own-ends (CommandEnd v) b g w = λ z. z
 own-ends (CommandRefused q) b g w = absurd g
 
--- so from any state, whoever made it, the call takes at most so many accepted steps more, and has ended after as many
+-- so where n accesses are enough, and of an opening its contract says how many are, the call takes at most n accepted steps more, and has
+-- ended after n
+pub command-lasts-within : (t : CommandAt) (ks : List (Exchange CommandAt)) (n : ℕ) → Accepted (t .told) → ToldWithin (t .told) n → AllKept followsLent t ks → Lasts saidAt t ks n
+command-lasts-within t ks n g w k =
+    falls-few saidAt followsLent withinAt (λ t u a n k w. own-falls (t .told) a (u .told) (u .block) n (w .1) k) (λ t w. own-ends (t .told) (t .block) (w .0) (w .1))
+    t ks n (g, w) k
+
+-- from any state, whoever made it
 pub command-lasts-lent : (x : Access) (port : Port) (s : Command) (block : List ℕ) (ks : List (Exchange CommandAt))
     → AllKept followsLent (record { told = CommandAsk x (CommandGoing port s); block = block }) ks
     → Lasts saidAt (record { told = CommandAsk x (CommandGoing port s); block = block }) ks (suc (commandAfter 64 s))
 unfolding Accepted ToldWithin CallWithin
-command-lasts-lent x port s block ks k =
-    falls-few saidAt followsLent withinAt (λ t u a n k w. own-falls (t .told) a (u .told) (u .block) n (w .1) k) (λ t w. own-ends (t .told) (t .block) (w .0) (w .1))
-    (record { told = CommandAsk x (CommandGoing port s); block = block }) ks (suc (commandAfter 64 s)) (tt, command-within port s) k
+command-lasts-lent x port s block ks k = command-lasts-within _ ks (suc (commandAfter 64 s)) tt (command-within port s) k
 
 pub token-runs : (family device lan : ℕ) (take : Bool) (r : TokenTold) → saidToken r ≡ openToken family device lan take → (l : List Answer)
     → runAsked (saidToken r) l ≡ andThen (openPort family device lan) (λ port. yes (run (token port take) l))

@@ -3,7 +3,7 @@ use Prim.Native.Nat.{ℕ, _+_, _*_, suc, zero}
 use mathlib.Core.List.{List, [], _∷_}
 use Rattle.hardware.specs.declared.Access.{Access}
 use Rattle.hardware.specs.Prog.{Prog, R, Ok, Err}
-use Rattle.sync.proofs.Spreads.{Spreads, Open, Passes, try-holds, pick-holds, one-holds, change-holds, poll-holds}
+use Rattle.hardware.proofs.Spreads.{Spreads, Open, Passes, try-holds, pick-holds, one-holds, change-holds, poll-holds}
 use Rattle.hostif.specs.Hostif.{HICR, FLEX-MNG, POLLS, Left, words, completed, polling, start, enabled, hicrRead, request, wordSeen, fill, headSeen, respond}
 
 -- the registers of the firmware's interface

@@ -1,4 +1,4 @@
--- How many accesses are enough for a firmware command: laws of `Then`, and the number of each state.
+-- How many accesses are enough for a firmware command: laws of `InTurn`, and the number of each state.
 use Prim.Native.Nat.{ℕ, _+_, _≤_, suc, zero}
 use mathlib.Core.Path.{_≡_, refl}
 use mathlib.Core.Bool.{true}
@@ -12,9 +12,9 @@ use Rattle.hardware.specs.Poll.{pollNext}
 use Rattle.hardware.specs.Prog.{Prog, ask, erase, _>>=_}
 use Rattle.hardware.specs.Runs.{Ends}
 use Rattle.hardware.proofs.Ends.{ends-next, ends-more, ends-erase, ask-ends, unflushed-ends, updateAfter, pollAfter, update-rest-ends, poll-rest-ends}
-use Rattle.sync.specs.Regs.{SW-MNG}
+use Rattle.sync.specs.Regs.{SW-MNG, tries}
 use Rattle.sync.specs.Resource.{acquireBitsNext, releaseBitsNext}
-use Rattle.sync.proofs.Ends.{RELEASE-BITS-STEPS, release-bits-ends, acquireBitsAfter, releaseBitsAfter, acquire-bits-rest-ends, release-bits-rest-ends}
+use Rattle.sync.proofs.Ends.{ACQUIRE-BITS-STEPS, RELEASE-BITS-STEPS, acquire-bits-ends, release-bits-ends, acquireBitsAfter, releaseBitsAfter, acquire-bits-rest-ends, release-bits-rest-ends}
 use Rattle.hostif.specs.declared.request.Request.{Request}
 use Rattle.hostif.specs.declared.request.Request.the-variants.{Fwsts, Hicr, Word, Start, Polling}
 use Rattle.hostif.specs.declared.response.Response.{Response}
@@ -22,32 +22,32 @@ use Rattle.hostif.specs.declared.response.Response.the-variants.{Head, R
 use Rattle.hostif.specs.declared.command.Command.{Command}
 use Rattle.hostif.specs.declared.command.Command.the-variants.{Acquiring, Requesting, Responding, Releasing}
 use Rattle.hostif.specs.Hostif.{setFwri, lenOf, wordsOf}
-use Rattle.hostif.specs.Within.{Then, HICR-WITHIN, HEAD-WITHIN, RequestWithin, ResponseWithin, RespondWithin, AcquiredWithin, CommandWithin}
-use Rattle.hostif.proofs.Ends.{REQUEST-STEPS, RESPOND-STEPS, requestAfter, responseAfter, commandAfter}
+use Rattle.hostif.specs.Within.{OpenedWithin, InTurn, HICR-WITHIN, HEAD-WITHIN, RequestWithin, ResponseWithin, RespondWithin, AcquiredWithin, CommandWithin}
+use Rattle.hostif.proofs.Ends.{COMMAND-STEPS, REQUEST-STEPS, RESPOND-STEPS, requestAfter, responseAfter, commandAfter}
 
-pub then-next : {P S Q : ℕ → Type 0} (m : ℕ) → (P 0 → ⊥) → ((k : ℕ) → P (suc k) → S k) → Then P Q (suc m) → Then S Q m
+pub then-next : {P S Q : ℕ → Type 0} (m : ℕ) → (P 0 → ⊥) → ((k : ℕ) → P (suc k) → S k) → InTurn P Q (suc m) → InTurn S Q m
 then-next {P} {S} {Q} m none next h = by (h .first) (h .before) (h .few)
   where
-    by : (k : ℕ) → P k → k + h .second ≤ suc m → Then S Q m
+    by : (k : ℕ) → P k → k + h .second ≤ suc m → InTurn S Q m
     by zero v e = absurd (none v)
     by (suc k) v e = record { first = k; second = h .second; before = next k v; after = h .after; few = omega (arith, e) }
 
-then-some : {P Q : ℕ → Type 0} → (P 0 → ⊥) → Then P Q 0 → ⊥
+then-some : {P Q : ℕ → Type 0} → (P 0 → ⊥) → InTurn P Q 0 → ⊥
 then-some {P} none h = by (h .first) (h .before) (h .few)
   where
     by : (k : ℕ) → P k → k + h .second ≤ 0 → ⊥
     by zero v e = none v
     by (suc k) v e = omega (arith, e)
 
-pub ends-then : {A : Type 0} {q : Prog A} {Q : ℕ → Type 0} (x : Access) (f : Answer → Prog A) (a : Answer) (m : ℕ) → q ≡ f a → fits x a ≡ true → Then (Ends (ask x f)) Q (suc m) → Then (Ends q) Q m
+pub ends-then : {A : Type 0} {q : Prog A} {Q : ℕ → Type 0} (x : Access) (f : Answer → Prog A) (a : Answer) (m : ℕ) → q ≡ f a → fits x a ≡ true → InTurn (Ends (ask x f)) Q (suc m) → InTurn (Ends q) Q m
 unfolding Ends
 ends-then x f a m e d h = then-next m (λ z. z) (λ k v. ends-next x f a k e d v) h
 
 -- what comes second is left
-pub then-ends : {A : Type 0} {P : ℕ → Type 0} (p : Prog A) (m : ℕ) → Then P (Ends p) m → Ends p m
+pub then-ends : {A : Type 0} {P : ℕ → Type 0} (p : Prog A) (m : ℕ) → InTurn P (Ends p) m → Ends p m
 then-ends p m h = ends-more p (h .second) m (h .after) (omega (arith, h .few))
 
-pub then-last : {P S Q : ℕ → Type 0} (m : ℕ) → Then P (Then S Q) m → Then S Q m
+pub then-last : {P S Q : ℕ → Type 0} (m : ℕ) → InTurn P (InTurn S Q) m → InTurn S Q m
 then-last m h = record { first = h .after .first; second = h .after .second; before = h .after .before; after = h .after .after; few = omega (arith, h .few, h .after .few) }
 
 -- a state awaits an access
@@ -108,6 +108,17 @@ acquired-within port =
       second = RESPOND-STEPS 64 + RELEASE-BITS-STEPS;
       before = record { first = 2; second = HICR-WITHIN; before = ends-erase _ 2 (unflushed-ends setFwri refl); after = omega arith; few = omega arith };
       after = respond-within port;
+      few = omega arith;
+    }
+
+-- a whole command, with no more words than 64 in the blocks that are lent
+pub opened-within : (port : Port) → OpenedWithin port (COMMAND-STEPS (port .family) 64)
+opened-within port =
+    record {
+      first = ACQUIRE-BITS-STEPS (tries (port .family));
+      second = REQUEST-STEPS 64 + (RESPOND-STEPS 64 + RELEASE-BITS-STEPS);
+      before = acquire-bits-ends port SW-MNG;
+      after = acquired-within port;
       few = omega arith;
     }
 

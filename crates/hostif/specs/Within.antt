@@ -11,7 +11,7 @@ use Rattle.hardware.specs.Runs.{Ends}
 use Rattle.sync.specs.declared.acquire_bits.AcquireBitsNext.the-variants.{Going as AcquireGoing}
 use Rattle.sync.specs.declared.release_bits.ReleaseBitsNext.the-variants.{Going as ReleaseGoing}
 use Rattle.sync.specs.Regs.{SW-MNG}
-use Rattle.sync.specs.Resource.{acquireBitsNext, releaseBits, releaseBitsNext}
+use Rattle.sync.specs.Resource.{acquireBits, acquireBitsNext, releaseBits, releaseBitsNext}
 use Rattle.hostif.specs.declared.request.Request.{Request}
 use Rattle.hostif.specs.declared.request.Request.the-variants.{Fwsts, Hicr, Word, Start, Polling}
 use Rattle.hostif.specs.declared.request.RequestNext.{RequestNext}
@@ -27,7 +27,7 @@ use Rattle.hostif.specs.declared.command.CommandNext.the-variants.{Going
 use Rattle.hostif.specs.Hostif.{POLLS, hicrWatch, setFwri}
 
 -- n accesses are enough for P and then for Q
-pub record Then (P Q : ℕ → Type 0) (n : ℕ) : Type 0 where
+pub record InTurn (P Q : ℕ → Type 0) (n : ℕ) : Type 0 where
   pub first : ℕ
   pub second : ℕ
   pub before : P first
@@ -48,7 +48,7 @@ HEAD-WITHIN = 1 + 64
 
 -- of a word, those at the later places below 64
 unfoldable pub RequestWithin : Request → ℕ → Type 0
-RequestWithin (Fwsts t) n = Then (Ends (updateNext setFwri (UpdateGoing t))) (λ k. HICR-WITHIN ≤ k) n
+RequestWithin (Fwsts t) n = InTurn (Ends (updateNext setFwri (UpdateGoing t))) (λ k. HICR-WITHIN ≤ k) n
 RequestWithin Hicr n = HICR-WITHIN ≤ n
 RequestWithin (Word hicr at) n = 1 + (63 - at + START-WITHIN) ≤ n
 RequestWithin (Start hicr) n = START-WITHIN ≤ n
@@ -68,16 +68,20 @@ ResponseNextWithin (ResponseEnd b) n = Unit {0}
 
 -- the response, then the release
 abbrev pub RespondWithin : Port → ℕ → Type 0
-RespondWithin port = Then (λ k. HEAD-WITHIN ≤ k) (Ends (releaseBits port SW-MNG))
+RespondWithin port = InTurn (λ k. HEAD-WITHIN ≤ k) (Ends (releaseBits port SW-MNG))
 
 -- with SW_MNG taken: the request, then the response and the release
 abbrev pub AcquiredWithin : Port → ℕ → Type 0
-AcquiredWithin port = Then (RequestWithin (Fwsts Reading)) (RespondWithin port)
+AcquiredWithin port = InTurn (RequestWithin (Fwsts Reading)) (RespondWithin port)
+
+-- a whole command
+abbrev pub OpenedWithin : Port → ℕ → Type 0
+OpenedWithin port = InTurn (Ends (acquireBits port SW-MNG)) (AcquiredWithin port)
 
 unfoldable pub CommandWithin : Port → Command → ℕ → Type 0
-CommandWithin port (Acquiring t) n = Then (Ends (acquireBitsNext port SW-MNG (AcquireGoing t))) (AcquiredWithin port) n
-CommandWithin port (Requesting t) n = Then (RequestWithin t) (RespondWithin port) n
-CommandWithin port (Responding t) n = Then (ResponseWithin t) (Ends (releaseBits port SW-MNG)) n
+CommandWithin port (Acquiring t) n = InTurn (Ends (acquireBitsNext port SW-MNG (AcquireGoing t))) (AcquiredWithin port) n
+CommandWithin port (Requesting t) n = InTurn (RequestWithin t) (RespondWithin port) n
+CommandWithin port (Responding t) n = InTurn (ResponseWithin t) (Ends (releaseBits port SW-MNG)) n
 CommandWithin port (Releasing t s) n = Ends (releaseBitsNext port SW-MNG (ReleaseGoing t)) n
 
 unfoldable pub CommandNextWithin : Port → CommandNext → ℕ → Type 0

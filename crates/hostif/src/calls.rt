@@ -16,11 +16,11 @@ ghost use mathlib.Core.Path.{_≡_};
 ghost use mathlib.Core.Bool.{true};
 ghost use mathlib.Core.List.{List};
 ghost use lib.ListN.{length};
-ghost use Rattle.hardware.specs.Asked.{fits as fitsAnswer, yes, validPort};
+ghost use Rattle.hardware.specs.Asked.{fits as fitsAnswer, yes, openPort, validPort};
 ghost use Rattle.hardware.specs.Promise.{Keeps, Bounds};
 ghost use Rattle.hardware.specs.Prog.{erase};
 ghost use Rattle.hostif.specs.Hostif.{commandNext, accessCommand, restCommand, validCommand, validCommandNext, tokenNext, validTokenNext};
-ghost use Rattle.hostif.specs.Within.{CommandWithin, CommandNextWithin};
+ghost use Rattle.hostif.specs.Within.{OpenedWithin, CommandWithin, CommandNextWithin};
 ghost use Rattle.hostif.specs.Calls.{CallWithin, ToldWithin, goes, lent, blockFits, openCommand, validCommandCall, stepped, stepCommand, saidCommand, standsCommand, openToken, validTokenCall, stepToken, saidToken, standsToken};
 
 pub enum CommandCall {
@@ -68,7 +68,7 @@ fn command_told(port: Port, block: &[u32], n: CommandNext) -> CommandTold
 }
 
 pub fn command_open(family: u32, device: u16, lan: u32, block: &[u32]) -> CommandTold
-    ensures { λ r. ⌜ Keeps (saidCommand r (now (block .entry)) ≡ openCommand family device lan (now (block .entry))) (standsCommand r (now (block .entry))) ⌝ }
+    ensures { λ r. ⌜ Bounds (saidCommand r (now (block .entry)) ≡ openCommand family device lan (now (block .entry))) (standsCommand r (now (block .entry))) ((port : Port) (m : ℕ) → openPort family device lan ≡ yes port → OpenedWithin port m → ToldWithin r m) ⌝ }
 {
     match hardware::open_port(family, device, lan) {
         Opening::Port(p) => {

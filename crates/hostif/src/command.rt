@@ -28,7 +28,7 @@ ghost use Rattle.hardware.specs.Promise.{Bounds};
 ghost use Rattle.sync.specs.Regs.{SW-MNG};
 ghost use Rattle.sync.specs.Resource.{acquireBitsNext, validAcquireBitsNext, releaseBits, releaseBitsNext, validReleaseBitsNext};
 ghost use Rattle.hostif.specs.Hostif.{both, closed, requestNext, validRequestNext, responseNext, validResponseNext, released, requested, acquired, command, accessCommand, restCommand, commandNext, validCommand, validCommandNext};
-ghost use Rattle.hostif.specs.Within.{Then, RequestNextWithin, ResponseNextWithin, RespondWithin, AcquiredWithin, CommandWithin, CommandNextWithin};
+ghost use Rattle.hostif.specs.Within.{InTurn, RequestNextWithin, ResponseNextWithin, RespondWithin, AcquiredWithin, CommandWithin, CommandNextWithin, OpenedWithin};
 
 // Releasing: with how the command closed.
 pub enum Command {
@@ -72,7 +72,7 @@ fn release(port: Port, s: Byte) -> CommandNext
 }
 
 fn responding(port: Port, n: ResponseNext) -> CommandNext
-    ensures { λ r. ⌜ Bounds ((l : List ℕ) → commandNext port r l ≡ followed (responseNext n l) (released port)) ((m : ℕ) → validResponseNext m n ≡ true → validCommandNext port m r ≡ true) ((m : ℕ) → Then (ResponseNextWithin n) (Ends (releaseBits port SW-MNG)) m → CommandNextWithin port r m) ⌝ }
+    ensures { λ r. ⌜ Bounds ((l : List ℕ) → commandNext port r l ≡ followed (responseNext n l) (released port)) ((m : ℕ) → validResponseNext m n ≡ true → validCommandNext port m r ≡ true) ((m : ℕ) → InTurn (ResponseNextWithin n) (Ends (releaseBits port SW-MNG)) m → CommandNextWithin port r m) ⌝ }
 {
     match n {
         ResponseNext::Going(t) => CommandNext::Going(Command::Responding(t)),
@@ -90,7 +90,7 @@ fn request_done(port: Port, w: Word) -> CommandNext
 }
 
 fn requesting(port: Port, n: RequestNext) -> CommandNext
-    ensures { λ r. ⌜ Bounds ((l : List ℕ) → commandNext port r l ≡ followed (requestNext n l) (requested port l)) ((m : ℕ) → validRequestNext m n ≡ true → validCommandNext port m r ≡ true) ((m : ℕ) → Then (RequestNextWithin n) (RespondWithin port) m → CommandNextWithin port r m) ⌝ }
+    ensures { λ r. ⌜ Bounds ((l : List ℕ) → commandNext port r l ≡ followed (requestNext n l) (requested port l)) ((m : ℕ) → validRequestNext m n ≡ true → validCommandNext port m r ≡ true) ((m : ℕ) → InTurn (RequestNextWithin n) (RespondWithin port) m → CommandNextWithin port r m) ⌝ }
 {
     match n {
         RequestNext::Going(t) => CommandNext::Going(Command::Requesting(t)),
@@ -99,7 +99,7 @@ fn requesting(port: Port, n: RequestNext) -> CommandNext
 }
 
 fn acquiring(port: Port, n: AcquireBitsNext) -> CommandNext
-    ensures { λ r. ⌜ Bounds ((l : List ℕ) → commandNext port r l ≡ followed (acquireBitsNext port SW-MNG n) (acquired port l)) ((m : ℕ) → validAcquireBitsNext (port .family) n ≡ true → validCommandNext port m r ≡ true) ((m : ℕ) → Then (Ends (acquireBitsNext port SW-MNG n)) (AcquiredWithin port) m → CommandNextWithin port r m) ⌝ }
+    ensures { λ r. ⌜ Bounds ((l : List ℕ) → commandNext port r l ≡ followed (acquireBitsNext port SW-MNG n) (acquired port l)) ((m : ℕ) → validAcquireBitsNext (port .family) n ≡ true → validCommandNext port m r ≡ true) ((m : ℕ) → InTurn (Ends (acquireBitsNext port SW-MNG n)) (AcquiredWithin port) m → CommandNextWithin port r m) ⌝ }
 {
     match n {
         AcquireBitsNext::Going(t) => CommandNext::Going(Command::Acquiring(t)),
@@ -111,8 +111,7 @@ fn acquiring(port: Port, n: AcquireBitsNext) -> CommandNext
 }
 
 pub(crate) fn open(port: Port) -> CommandNext
-    ensures { λ r. ⌜ ((l : List ℕ) → commandNext port r l ≡ erase (command port l)) ⌝ }
-    ensures { λ r. ⌜ ((m : ℕ) → validCommandNext port m r ≡ true) ⌝ }
+    ensures { λ r. ⌜ Bounds ((l : List ℕ) → commandNext port r l ≡ erase (command port l)) ((m : ℕ) → validCommandNext port m r ≡ true) ((m : ℕ) → OpenedWithin port m → CommandNextWithin port r m) ⌝ }
 {
     let family = port.family;
     acquiring(

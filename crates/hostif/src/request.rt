@@ -26,7 +26,7 @@ ghost use Rattle.hardware.specs.Asked.{fits};
 ghost use Rattle.hardware.specs.Runs.{Ends};
 ghost use Rattle.hardware.specs.Promise.{Bounds};
 ghost use Rattle.hostif.specs.Hostif.{POLLS, hicrWatch, setFwri, words, completed, polling, start, enabled, hicrRead, accessRequest, restRequest, requestNext, validRequest, validRequestNext};
-ghost use Rattle.hostif.specs.Within.{Then, START-WITHIN, HICR-WITHIN, RequestWithin, RequestNextWithin};
+ghost use Rattle.hostif.specs.Within.{InTurn, START-WITHIN, HICR-WITHIN, RequestWithin, RequestNextWithin};
 
 pub const HICR: u32 = 0x1_5f00;
 
@@ -103,7 +103,7 @@ pub(crate) fn access(s: Request, block: &[u32]) -> Access
 }
 
 fn fwsts(n: UpdateNext) -> RequestNext
-    ensures { λ r. ⌜ Bounds ((l : List ℕ) → requestNext r l ≡ followed (updateNext setFwri n) (orErr (λ _. hicrRead l))) ((m : ℕ) → validRequestNext m r ≡ true) ((m : ℕ) → Then (Ends (updateNext setFwri n)) (λ k. HICR-WITHIN ≤ k) m → RequestNextWithin r m) ⌝ }
+    ensures { λ r. ⌜ Bounds ((l : List ℕ) → requestNext r l ≡ followed (updateNext setFwri n) (orErr (λ _. hicrRead l))) ((m : ℕ) → validRequestNext m r ≡ true) ((m : ℕ) → InTurn (Ends (updateNext setFwri n)) (λ k. HICR-WITHIN ≤ k) m → RequestNextWithin r m) ⌝ }
 {
     match n {
         UpdateNext::Going(t) => RequestNext::Going(Request::Fwsts(t)),

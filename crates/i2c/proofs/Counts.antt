@@ -19,8 +19,8 @@ use Rattle.i2c.specs.declared.once.Request.the-variants.{ReadByte, Write
 use Rattle.i2c.specs.I2c.{mask, qsfp, deviceOf, isWrite, valueOf, givesValue, once, whenLock, readJudged, readTries, writeTries, givenUp, writes, retried, givenBus, onGrant, withBus, handshaken, transferred}
 use Rattle.i2c.specs.Retry.{wanted}
 use Rattle.i2c.proofs.Masks.{mask-plain}
-use Rattle.i2c.proofs.OnBus.{once-on-bus}
-use Rattle.i2c.proofs.Quiet.{granted-quiet, Quiet, on-bus-quiet, quiet-pick, quiet-ret, quiet-try, delay-quiet, change-quiet, acquire-bits-quiet, release-bits-quiet}
+use Rattle.i2c.proofs.Noteless.{once-noteless}
+use Rattle.i2c.proofs.Quiet.{granted-quiet, Quiet, quiet-noteless, quiet-pick, quiet-ret, quiet-try, delay-quiet, change-quiet, acquire-bits-quiet, release-bits-quiet}
 
 -- on every way through the call at most n attempts begin
 unfoldable pub AtMost : {A : Type 0} → ℕ → Prog A → Type 0
@@ -107,7 +107,7 @@ most-counts n (give b p) l e = most-counts n p l e
 once-most : (port : Port) (r : Request) (how : How) → AtMost 1 (once port r how)
 unfolding once attempt AtMost
 once-most port r how =
-    most-quiet _ (on-bus-quiet _ _ (once-on-bus port r how))
+    most-quiet _ (quiet-noteless _ (once-noteless port r how))
 
 all-most : AtMost 0 acquiredAll
 unfolding acquiredAll AtMost

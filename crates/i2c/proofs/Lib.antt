@@ -1,13 +1,15 @@
 pub mod Laws
 pub mod Ends
 pub mod Runs
-pub mod OnBus
+pub mod Noteless
 pub mod Spreads
 pub mod Quiet
 pub mod Pairs
 pub mod Paired
 pub mod Counts
 pub mod Masks
+pub mod Shows
+pub mod Phases
 pub mod Shown
 pub mod Asks
 pub mod Request

@@ -20,8 +20,8 @@ use Rattle.i2c.specs.declared.once.Request.{Request}
 use Rattle.i2c.specs.declared.once.Request.the-variants.{ReadByte, WriteByte, ReadCombined, WriteCombined}
 use Rattle.i2c.specs.I2c.{mask, givesValue, once, whenLock, readJudged, readTries, writeTries, givenUp, writes, retried, givenBus, onGrant, withBus, handshaken, transferred}
 use Rattle.i2c.specs.Paired.{free, held, holdAfter, notesIn, Paired}
-use Rattle.i2c.proofs.OnBus.{once-on-bus}
-use Rattle.i2c.proofs.Quiet.{granted-quiet, Quiet, on-bus-quiet, quiet-pick, quiet-ret, delay-quiet, change-quiet, acquire-bits-quiet, release-bits-quiet, request-quiet, respond-quiet}
+use Rattle.i2c.proofs.Noteless.{once-noteless}
+use Rattle.i2c.proofs.Quiet.{granted-quiet, Quiet, quiet-noteless, quiet-pick, quiet-ret, delay-quiet, change-quiet, acquire-bits-quiet, release-bits-quiet, request-quiet, respond-quiet}
 use Rattle.i2c.proofs.Pairs.{Pairs, holdOf, pairs-holds, pairs-bind, pairs-then, pairs-or, pairs-try, pairs-pick, pairs-ret, pairs-attempt, pairs-acquires, pairs-acquired, pairs-released, pairs-quiet, pairs-paired}
 
 -- a firmware command takes its own lock and gives it back
@@ -136,7 +136,7 @@ pub once-pairs : (h : Bool) (port : Port) (r : Request) (how : How) → Pairs h 
 unfolding once attempt
 once-pairs h port r how =
     pairs-attempt h _ _
-    (pairs-quiet h _ (on-bus-quiet _ _ (once-on-bus port r how)))
+    (pairs-quiet h _ (quiet-noteless _ (once-noteless port r how)))
 
 -- the lock, where it is wanted, is held in k and free at the end
 

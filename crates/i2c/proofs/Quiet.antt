@@ -7,17 +7,15 @@ use Rattle.hardware.specs.declared.Answer.{Answer}
 use Rattle.hardware.specs.declared.Family.{Family}
 use Rattle.hardware.specs.declared.Port.{Port}
 use Rattle.hardware.specs.declared.change.Change.{Change}
-use Rattle.hardware.specs.declared.poll.Watch.{Watch}
 use Rattle.hardware.specs.Prog.{Attempt, Acquires, Acquired, Released, Lapsed, Prog, ret, ask, note, give, R, _>>=_, _>>?_, pick}
-use Rattle.hardware.specs.Registers.{read, readRaw, write, delay}
+use Rattle.hardware.specs.Registers.{delay}
 use Rattle.hardware.specs.Change.{change}
-use Rattle.hardware.specs.Poll.{poll}
 use Rattle.sync.specs.Resource.{acquireBits, releaseBits}
-use Rattle.sync.proofs.Spreads.{Spreads, Open, Passes, Semaphores, try-holds, pick-holds, one-holds, change-holds, poll-holds, acquire-bits-holds, release-bits-holds}
+use Rattle.hardware.proofs.Spreads.{Spreads, Open, Passes, try-holds, pick-holds, one-holds, change-holds}
+use Rattle.sync.proofs.Spreads.{Semaphores, acquire-bits-holds, release-bits-holds}
 use Rattle.hostif.specs.Hostif.{request, respond}
 use Rattle.hostif.proofs.Spreads.{Firmware, request-holds, respond-holds}
-use Rattle.bus.specs.declared.Layout.{Layout}
-use Rattle.bus.proofs.OnBus.{OnBus}
+use Rattle.bus.proofs.Noteless.{Noteless}
 use Rattle.i2c.specs.I2c.{granted}
 use Rattle.i2c.proofs.Spreads.{granted-holds}
 
@@ -42,13 +40,13 @@ quiet-bind (note Released p) k e d = absurd e
 quiet-bind (note Lapsed p) k e d = quiet-bind p k e d
 quiet-bind (give b p) k e d = quiet-bind p k e d
 
--- what stays on the bus is quiet
-pub on-bus-quiet : {A : Type 0} (l : Layout) (p : Prog A) → OnBus l p → Quiet p
-unfolding Quiet OnBus
-on-bus-quiet l (ret v) e = tt
-on-bus-quiet l (ask x f) e = λ a. on-bus-quiet l (f a) (e .1 a)
-on-bus-quiet l (note n p) e = absurd e
-on-bus-quiet l (give b p) e = on-bus-quiet l p e
+-- what notes nothing is quiet
+pub quiet-noteless : {A : Type 0} (p : Prog A) → Noteless p → Quiet p
+unfolding Quiet Noteless
+quiet-noteless (ret v) e = tt
+quiet-noteless (ask x f) e = λ a. quiet-noteless (f a) (e a)
+quiet-noteless (note n p) e = absurd e
+quiet-noteless (give b p) e = quiet-noteless p e
 
 -- whatever access is made
 abbrev Any : Access → Type 0
@@ -76,33 +74,11 @@ quiet-pick b p q e d = pick-holds _ Any quiet-spreads b p q e d
 pub quiet-ret : {A : Type 0} (v : A) → Quiet (ret v)
 quiet-ret v = quiet-spreads .ends _ v
 
-pub quiet-ask : {A : Type 0} (x : Access) (f : Answer → Prog A) → ((a : Answer) → Quiet (f a)) → Quiet (ask x f)
-quiet-ask x f d = quiet-spreads .asks _ x f tt d
-
-pub quiet-lapsed : {A : Type 0} (p : Prog A) → Quiet p → Quiet (note Lapsed p)
-quiet-lapsed p e = quiet-spreads .lapses _ p e
-
--- one access and the end
-quiet-one : {A : Type 0} (x : Access) (f : Answer → A) → Quiet (ask x (λ a. ret (f a)))
-quiet-one x f = one-holds _ Any quiet-spreads x f tt
-
-pub read-quiet : (register : ℕ) → Quiet (read register)
-read-quiet register = quiet-one _ _
-
-readRaw-quiet : (register : ℕ) → Quiet (readRaw register)
-readRaw-quiet register = quiet-one _ _
-
-write-quiet : (register v : ℕ) → Quiet (write register v)
-write-quiet register v = quiet-one _ _
-
 pub delay-quiet : (us : ℕ) → Quiet (delay us)
-delay-quiet us = quiet-one _ _
+delay-quiet us = one-holds _ Any quiet-spreads _ _ tt
 
 pub change-quiet : (c : Change) → Quiet (change c)
 change-quiet c = change-holds _ Any quiet-spreads any-passes c (any-register _)
-
-poll-quiet : (w : Watch) (n last : ℕ) → Quiet (poll w n last)
-poll-quiet w n last = poll-holds _ Any quiet-spreads any-passes w n last tt
 
 -- `sync`
 

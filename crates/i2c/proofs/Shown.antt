@@ -1,137 +1,71 @@
--- A read that takes the lock for each attempt shows its attempts: `shown` of the accesses that a run asks for is the number
--- of attempts that it begins.
-use Prim.Native.Nat.{ℕ, _+_, suc, zero}
-use mathlib.Core.Path.{_≡_, refl, ap, _∙_, sym}
-use mathlib.Core.Bool.{Bool, true, false}
-use mathlib.Core.List.{List, [], _∷_}
-use native.Mathlib.Omega.{arith}
+-- Every transfer and every script shows its attempts: `shown` of the accesses that a run asks for is the number of attempts
+-- that it begins, and of a run that has ended the count in its result.
+use Prim.Native.Nat.{ℕ, suc, zero}
+use mathlib.Core.Path.{_≡_, refl, ap, _∙_, sym, subst}
+use mathlib.Core.Bool.{Bool, true, false, false≢true}
+use mathlib.Core.List.{List}
 use lib.Dec.{eqb}
-use borrow.Author.Tests.{eq-eqb}
 use Rattle.hardware.specs.declared.Access.{Access}
-use Rattle.hardware.specs.declared.Access.the-variants.{Read, Write, Wait}
+use Rattle.hardware.specs.declared.Access.the-variants.{Read, Write}
 use Rattle.hardware.specs.declared.Answer.{Answer}
 use Rattle.hardware.specs.declared.Family.{Family}
 use Rattle.hardware.specs.declared.Family.the-variants.{F82599, X540, X550, X552, X553}
 use Rattle.hardware.specs.declared.Port.{Port}
-use Rattle.hardware.specs.Marks.{more}
-use Rattle.hardware.specs.Prog.{Attempt, Acquires, Acquired, Released, Lapsed, Prog, ret, ask, note, give, R, Ok, Err, orErr, _>>=_, _>>?_, pick}
-use Rattle.hardware.specs.Registers.{ESDP, STATUS, raw, delay}
 use Rattle.hardware.specs.declared.change.Change.{Change}
+use Rattle.hardware.specs.Prog.{Attempt, Acquires, Acquired, Released, Lapsed, Prog, ret, ask, note, give, R, Ok, Err, orErr, _>>=_, _>>?_, pick}
+use Rattle.hardware.specs.Registers.{ESDP, STATUS, delayMs}
 use Rattle.hardware.specs.Asked.{is}
 use Rattle.hardware.specs.Change.{change}
 use Rattle.hardware.specs.Poll.{poll}
-use Rattle.hardware.specs.Runs.{run, onAnswer, transfersIn}
 use Rattle.sync.specs.Regs.{swsm, swFwSync, setMux, smbiWatch, mux}
 use Rattle.sync.specs.Lock.{lock}
 use Rattle.sync.specs.Resource.{muxed, unmuxed, releaseBits}
-use Rattle.sync.proofs.Spreads.{Spreads, Open, Passes, Semaphores, try-holds, change-holds, acquire-bits-holds, release-bits-holds}
+use Rattle.hardware.proofs.Spreads.{Spreads, Open, Passes, try-holds, change-holds}
+use Rattle.sync.proofs.Spreads.{Semaphores, acquire-bits-holds, release-bits-holds}
 use Rattle.hostif.specs.Acquire.{hwOf, withBits, acquiredAll, acquire, giveBits, release}
 use Rattle.bus.specs.declared.Layout.{Layout}
 use Rattle.bus.specs.declared.Taken.{Taken}
-use Rattle.bus.specs.Accesses.{controls, elsewhere, offBus}
 use Rattle.bus.specs.Layout.{x550em, layoutOf}
-use Rattle.bus.proofs.OnBus.{OnBus}
+use Rattle.script.specs.Script.{commands}
 use Rattle.transfer.specs.declared.attempt.Sequence.{Sequence}
-use Rattle.transfer.specs.Attempt.{attempt, attempting}
+use Rattle.transfer.specs.declared.attempt.Sequence.the-variants.{Pulses}
+use Rattle.transfer.specs.Transfer.{handing, keeping}
+use Rattle.transfer.specs.Attempt.{attempt}
+use Rattle.transfer.specs.Calls.{dropped, script}
 use Rattle.i2c.specs.declared.How.{How}
 use Rattle.i2c.specs.declared.once.Request.{Request}
 use Rattle.i2c.specs.declared.once.Request.the-variants.{ReadByte, WriteByte, ReadCombined, WriteCombined}
-use Rattle.i2c.specs.I2c.{mask, locked, isWrite, givesValue, once, whenLock, readJudged, readTries, retried, granted, givenBus, onGrant, withBus, askBus, giveBus, handshaken, transferred}
-use Rattle.i2c.specs.Shown.{begins, freshAfter, shownFrom, shown, awaitedOf, asked}
+use Rattle.i2c.specs.I2c.{mask, qsfp, locked, isWrite, deviceOf, scriptOf, givesValue, failedI2c, once, whenLock, pauses, readJudged, readTries, writeTries, givenUp, writes, retried, granted, givenBus, onGrant, withBus, askBus, giveBus, handshaken, transferred}
+use Rattle.i2c.specs.Shown.{Phase, outside, opens, phaseAfter, begins, Shown}
+use Rattle.i2c.proofs.Laws.{body-is}
 use Rattle.i2c.proofs.Masks.{mask-plain, mask-some}
 use Rattle.i2c.proofs.Spreads.{granted-holds}
-use Rattle.i2c.proofs.OnBus.{read-on-bus}
+use Rattle.i2c.proofs.Shows.{Shows, Anywhere, shows-bind, shows-try, shows-either, shows-shown}
+use Rattle.i2c.proofs.Phases.{Ended, Attempted, flush-after, flush-begins, commands-show}
 
--- Where a call stands: the next read of I2CCTL would begin an attempt, would not, or is the first of one that was noted
-pub data Place : Type 0 where
-  fresh stale due : Place
+-- no attempt is on at the end
+abbrev pub Out : {A : Type 0} → A → Phase → Type 0
+Out v s = s ≡ outside
 
-abbrev placeOf : Bool → Place
-placeOf true = fresh
-placeOf false = stale
+-- a call that begins and ends where no attempt is on
+abbrev pub Showing : {A : Type 0} → Port → Prog A → Type 0
+Showing port p = Shows (layoutOf (port .family)) false outside p Out
 
--- On every way through a call from one place to another, an attempt is noted just before a read of I2CCTL that shows it
-unfoldable pub Shows : {A : Type 0} → Layout → Place → Prog A → Place → Type 0
-Shows l due (ret v) to = ⊥
-Shows l fresh (ret v) to = fresh ≡ to
-Shows l stale (ret v) to = stale ≡ to
-Shows l due (ask x f) to = (x ≡ Read (l .reg)) × ((a : Answer) → Shows l stale (f a) to)
-Shows l fresh (ask x f) to = (controls l x ≡ false) × ((a : Answer) → Shows l fresh (f a) to)
-Shows l stale (ask x f) to = (a : Answer) → Shows l (placeOf (offBus l x)) (f a) to
-Shows l due (note Attempt p) to = ⊥
-Shows l fresh (note Attempt p) to = Shows l due p to
-Shows l stale (note Attempt p) to = ⊥
-Shows l at (note Acquires p) to = Shows l at p to
-Shows l at (note Acquired p) to = Shows l at p to
-Shows l at (note Released p) to = Shows l at p to
-Shows l at (note Lapsed p) to = Shows l at p to
-Shows l at (give b p) to = Shows l at p to
+pub shows-ret : {A : Type 0} (port : Port) (v : A) → Showing port (ret v)
+unfolding Shows
+shows-ret port v = (refl, refl)
 
--- one call after another
-pub shows-bind : {A B : Type 0} (l : Layout) (at mid to : Place) (p : Prog A) (k : A → Prog B)
-    → Shows l at p mid → ((a : A) → Shows l mid (k a) to) → Shows l at (p >>= k) to
-unfolding Shows _>>=_
-shows-bind l due mid to (ret a) k e d = absurd e
-shows-bind l fresh mid to (ret a) k e d = rw e (d a)
-shows-bind l stale mid to (ret a) k e d = rw e (d a)
-shows-bind l due mid to (ask x f) k e d = (e .0, λ a. shows-bind l stale mid to (f a) k (e .1 a) d)
-shows-bind l fresh mid to (ask x f) k e d = (e .0, λ a. shows-bind l fresh mid to (f a) k (e .1 a) d)
-shows-bind l stale mid to (ask x f) k e d = λ a. shows-bind l (placeOf (offBus l x)) mid to (f a) k (e a) d
-shows-bind l due mid to (note Attempt p) k e d = absurd e
-shows-bind l fresh mid to (note Attempt p) k e d = shows-bind l due mid to p k e d
-shows-bind l stale mid to (note Attempt p) k e d = absurd e
-shows-bind l at mid to (note Acquires p) k e d = shows-bind l at mid to p k e d
-shows-bind l at mid to (note Acquired p) k e d = shows-bind l at mid to p k e d
-shows-bind l at mid to (note Released p) k e d = shows-bind l at mid to p k e d
-shows-bind l at mid to (note Lapsed p) k e d = shows-bind l at mid to p k e d
-shows-bind l at mid to (give b p) k e d = shows-bind l at mid to p k e d
+-- an access behind which no attempt is on: where none was; and whatever was
+abbrev Stays : Layout → Access → Type 0
+Stays l x = (begins l outside x ≡ false) × (phaseAfter l outside x ≡ outside)
 
--- a call that stays on the bus begins no attempt
-on-bus-shows : {A : Type 0} (l : Layout) (p : Prog A) → OnBus l p → Shows l stale p stale
-unfolding Shows OnBus
-on-bus-shows l (ret v) e = refl
-on-bus-shows l (ask x f) e = λ a. rw (e .0) (on-bus-shows l (f a) (e .1 a))
-on-bus-shows l (note n p) e = absurd e
-on-bus-shows l (give b p) e = on-bus-shows l p e
+abbrev Leads : Layout → Access → Type 0
+Leads l x = (s : Phase) → (begins l s x ≡ false) × (phaseAfter l s x ≡ outside)
 
--- Calls that do not name I2CCTL, and begin no attempt
-
-unfoldable pub Apart : {A : Type 0} → Layout → Prog A → Type 0
-Apart l (ret v) = Unit {0}
-Apart l (ask x f) = (controls l x ≡ false) × ((a : Answer) → Apart l (f a))
-Apart l (note Attempt p) = ⊥
-Apart l (note Acquires p) = Apart l p
-Apart l (note Acquired p) = Apart l p
-Apart l (note Released p) = Apart l p
-Apart l (note Lapsed p) = Apart l p
-Apart l (give b p) = Apart l p
-
-apart-bind : {A B : Type 0} (l : Layout) (p : Prog A) (k : A → Prog B) → Apart l p → ((a : A) → Apart l (k a)) → Apart l (p >>= k)
-unfolding Apart _>>=_
-apart-bind l (ret a) k e d = d a
-apart-bind l (ask x f) k e d = (e .0, λ a. apart-bind l (f a) k (e .1 a) d)
-apart-bind l (note Attempt p) k e d = absurd e
-apart-bind l (note Acquires p) k e d = apart-bind l p k e d
-apart-bind l (note Acquired p) k e d = apart-bind l p k e d
-apart-bind l (note Released p) k e d = apart-bind l p k e d
-apart-bind l (note Lapsed p) k e d = apart-bind l p k e d
-apart-bind l (give b p) k e d = apart-bind l p k e d
-
-pub apart-shows : {A : Type 0} (l : Layout) (p : Prog A) → Apart l p → Shows l fresh p fresh
-unfolding Shows Apart
-apart-shows l (ret v) e = refl
-apart-shows l (ask x f) e = (e .0, λ a. apart-shows l (f a) (e .1 a))
-apart-shows l (note Attempt p) e = absurd e
-apart-shows l (note Acquires p) e = apart-shows l p e
-apart-shows l (note Acquired p) e = apart-shows l p e
-apart-shows l (note Released p) e = apart-shows l p e
-apart-shows l (note Lapsed p) e = apart-shows l p e
-apart-shows l (give b p) e = apart-shows l p e
-
--- its first access is to a register that no line call names
+-- its first access leads outside
 unfoldable Leaves : {A : Type 0} → Layout → Prog A → Type 0
 Leaves l (ret v) = ⊥
-Leaves l (ask x f) = offBus l x ≡ true
+Leaves l (ask x f) = Leads l x
 Leaves l (note n p) = Leaves l p
 Leaves l (give b p) = Leaves l p
 
@@ -142,137 +76,23 @@ leaves-bind l (ask x f) k e = e
 leaves-bind l (note n p) k e = leaves-bind l p k e
 leaves-bind l (give b p) k e = leaves-bind l p k e
 
-leaves-shows : {A : Type 0} (l : Layout) (p : Prog A) → Leaves l p → Apart l p → Shows l stale p fresh
-unfolding Shows Apart Leaves
-leaves-shows l (ret v) h e = absurd h
-leaves-shows l (ask x f) h e = λ a. rw h (apart-shows l (f a) (e .1 a))
-leaves-shows l (note Attempt p) h e = absurd e
-leaves-shows l (note Acquires p) h e = leaves-shows l p h e
-leaves-shows l (note Acquired p) h e = leaves-shows l p h e
-leaves-shows l (note Released p) h e = leaves-shows l p h e
-leaves-shows l (note Lapsed p) h e = leaves-shows l p h e
-leaves-shows l (give b p) h e = leaves-shows l p h e
+-- so that it is all the same where it begins
+leaves-shows : {A : Type 0} (l : Layout) (due : Bool) (s : Phase) (p : Prog A) (Q : A → Phase → Type 0) → Leaves l p → Shows l due outside p Q → Shows l due s p Q
+unfolding Shows Leaves
+leaves-shows l due s (ret v) Q h e = absurd h
+leaves-shows l due s (ask x f) Q h e =
+    (h s .0 ∙ sym (h outside .0) ∙ e .0, λ a. rw (h s .1 ∙ sym (h outside .1)) (e .1 a))
+leaves-shows l due s (note Attempt p) Q h e = (e .0, leaves-shows l true s p Q h (e .1))
+leaves-shows l due s (note Acquires p) Q h e = leaves-shows l due s p Q h e
+leaves-shows l due s (note Acquired p) Q h e = leaves-shows l due s p Q h e
+leaves-shows l due s (note Released p) Q h e = leaves-shows l due s p Q h e
+leaves-shows l due s (note Lapsed p) Q h e = leaves-shows l due s p Q h e
+leaves-shows l due s (give b p) Q h e = leaves-shows l due s p Q h e
 
--- what the accesses of a run show
+-- the registers of the locks and of the handshake are neither I2CCTL nor STATUS, which a flush reads
 
-abbrev isFresh : Place → Bool
-isFresh fresh = true
-isFresh stale = false
-isFresh due = true
-
--- attempts that were noted and are not shown yet
-abbrev owed : Place → ℕ
-owed fresh = 0
-owed stale = 0
-owed due = 1
-
-stale-begins : (l : Layout) (x : Access) → begins l false x ≡ false
-unfolding begins pick
-stale-begins l (Read r) = refl
-stale-begins l (Write r v) = refl
-stale-begins l (Wait us) = refl
-
-fresh-begins : (l : Layout) (x : Access) → controls l x ≡ false → begins l true x ≡ false
-unfolding begins controls pick
-fresh-begins l (Read r) e = e
-fresh-begins l (Write r v) e = refl
-fresh-begins l (Wait us) e = refl
-
-fresh-stays : (l : Layout) (x : Access) → controls l x ≡ false → freshAfter l true x ≡ true
-unfolding freshAfter pick
-fresh-stays l x e = rw e (by (offBus l x))
-  where
-    by : (b : Bool) → pick b true true ≡ true
-    by true = refl
-    by false = refl
-
-stale-turns : (l : Layout) (x : Access) → freshAfter l false x ≡ isFresh (placeOf (offBus l x))
-unfolding freshAfter controls offBus elsewhere pick
-stale-turns l (Read r) = by (eqb r (l .reg)) (pick (eqb r STATUS) false true)
-  where
-    by : (b c : Bool) → pick b false (pick (pick b false c) true false) ≡ isFresh (placeOf (pick b false c))
-    by true c = refl
-    by false true = refl
-    by false false = refl
-stale-turns l (Write r v) = by (eqb r (l .reg)) (pick (eqb r STATUS) false true)
-  where
-    by : (b c : Bool) → pick b false (pick (pick b false c) true false) ≡ isFresh (placeOf (pick b false c))
-    by true c = refl
-    by false true = refl
-    by false false = refl
-stale-turns l (Wait us) = refl
-
-control-begins : (l : Layout) → begins l true (Read (l .reg)) ≡ true
-unfolding begins pick
-control-begins l = eq-eqb (l .reg) (l .reg) refl
-
-control-stale : (l : Layout) → freshAfter l true (Read (l .reg)) ≡ false
-unfolding freshAfter controls pick
-control-stale l = rw (eq-eqb (l .reg) (l .reg) refl)
-
--- nothing is owed where the next access is any
-none-owed : (b : Bool) → owed (placeOf b) ≡ 0
-none-owed true = refl
-none-owed false = refl
-
-shows-run : {A : Type 0} (l : Layout) (at to : Place) (p : Prog A) (answers : List Answer) → Shows l at p to
-    → shownFrom l (isFresh at) (asked (run p answers)) ≡ transfersIn p answers + owed at
-unfolding Shows run onAnswer transfersIn awaitedOf shownFrom more pick
-shows-run l due to (ret v) answers e = absurd e
-shows-run l fresh to (ret v) answers e = refl
-shows-run l stale to (ret v) answers e = refl
-shows-run l due to (ask x f) [] e = rw (e .0) (rw (control-begins l) refl)
-shows-run l fresh to (ask x f) [] e = rw (fresh-begins l x (e .0)) refl
-shows-run l stale to (ask x f) [] e = rw (stale-begins l x) refl
-shows-run l due to (ask x f) (a ∷ answers) e =
-    rw (e .0) (rw (control-begins l) (rw (control-stale l) (omega (arith, shows-run l stale to (f a) answers (e .1 a)))))
-shows-run l fresh to (ask x f) (a ∷ answers) e =
-    rw (fresh-begins l x (e .0)) (rw (fresh-stays l x (e .0)) (shows-run l fresh to (f a) answers (e .1 a)))
-shows-run l stale to (ask x f) (a ∷ answers) e =
-    rw (stale-begins l x) (rw (stale-turns l x)
-    (shows-run l (placeOf (offBus l x)) to (f a) answers (e a) ∙ ap (λ n. transfersIn (f a) answers + n) (none-owed (offBus l x))))
-shows-run l due to (note Attempt p) answers e = absurd e
-shows-run l fresh to (note Attempt p) answers e =
-    let d : shownFrom l true (asked (run p answers)) ≡ transfersIn p answers + 1 = shows-run l due to p answers e in omega (arith, d)
-shows-run l stale to (note Attempt p) answers e = absurd e
-shows-run l at to (note Acquires p) answers e = shows-run l at to p answers e
-shows-run l at to (note Acquired p) answers e = shows-run l at to p answers e
-shows-run l at to (note Released p) answers e = shows-run l at to p answers e
-shows-run l at to (note Lapsed p) answers e = shows-run l at to p answers e
-shows-run l at to (give b p) answers e = shows-run l at to p answers e
-
-pub shows-count : {A : Type 0} (l : Layout) (p : Prog A) (answers : List Answer) → Shows l fresh p fresh → shown l (asked (run p answers)) ≡ transfersIn p answers
-shows-count l p answers e =
-    let d : shownFrom l true (asked (run p answers)) ≡ transfersIn p answers + 0 = shows-run l fresh fresh p answers e in omega (arith, d)
-
--- what begins and ends fresh, one after another
-
-pub shows-then : {A B : Type 0} (l : Layout) (at : Place) (p : Prog A) (k : A → Prog B)
-    → Shows l at p fresh → ((a : A) → Shows l fresh (k a) fresh) → Shows l at (p >>= k) fresh
-shows-then l at p k e d = shows-bind l at fresh fresh p k e d
-
-pub shows-or : {A B : Type 0} (l : Layout) (k : A → Prog (R B)) (r : R A) → ((a : A) → Shows l fresh (k a) fresh) → Shows l fresh (orErr k r) fresh
-unfolding Shows orErr
-shows-or l k (Ok a) d = d a
-shows-or l k (Err e) d = refl
-
-pub shows-try : {A B : Type 0} (l : Layout) (at : Place) (p : Prog (R A)) (k : A → Prog (R B))
-    → Shows l at p fresh → ((a : A) → Shows l fresh (k a) fresh) → Shows l at (p >>? k) fresh
-shows-try l at p k e d = shows-then l at p (orErr k) e (λ r. shows-or l k r d)
-
-pub shows-pick : {A : Type 0} (l : Layout) (b : Bool) (p q : Prog A) → Shows l fresh p fresh → Shows l fresh q fresh → Shows l fresh (pick b p q) fresh
-unfolding pick
-shows-pick l true p q e d = e
-shows-pick l false p q e d = d
-
-pub shows-ret : {A : Type 0} (l : Layout) (v : A) → Shows l fresh (ret v) fresh
-unfolding Shows
-shows-ret l v = refl
-
--- the registers of the locks and of the handshake are not those of the bus
-
-abbrev Off : Layout → Access → Type 0
-Off l x = controls l x ≡ false
+abbrev elsewhere : Layout → ℕ → Bool
+elsewhere l register = pick (eqb register (l .reg)) false (pick (eqb register STATUS) false true)
 
 others : (family : Family)
     → (elsewhere (layoutOf family) 0x10140 ≡ true)
@@ -280,131 +100,253 @@ others : (family : Family)
     × (elsewhere (layoutOf family) (swFwSync family) ≡ true)
     × (elsewhere (layoutOf family) ESDP ≡ true)
     × (eqb STATUS (layoutOf family .reg) ≡ false)
-unfolding elsewhere layoutOf x550em swsm swFwSync is pick
+unfolding layoutOf x550em swsm swFwSync is pick
 others F82599 = (refl, refl, refl, refl, refl)
 others X540 = (refl, refl, refl, refl, refl)
 others X550 = (refl, refl, refl, refl, refl)
 others X552 = (refl, refl, refl, refl, refl)
 others X553 = (refl, refl, refl, refl, refl)
 
-elsewhere-open : (l : Layout) (register : ℕ) → elsewhere l register ≡ true → Open (Off l) register
-unfolding elsewhere controls pick
-elsewhere-open l register e = let off = by (eqb register (l .reg)) e in record { reads = off; writes = λ v. off }
+elsewhere-leads : (l : Layout) (register : ℕ) → elsewhere l register ≡ true → Leads l (Read register) × ((v : ℕ) → Leads l (Write register v))
+unfolding begins phaseAfter pick
+elsewhere-leads l register e = by (eqb register (l .reg)) (eqb register STATUS) refl refl e
   where
-    by : (b : Bool) → pick b false (pick (eqb register STATUS) false true) ≡ true → b ≡ false
-    by true e = sym e
-    by false e = refl
+    by : (b c : Bool) → eqb register (l .reg) ≡ b → eqb register STATUS ≡ c → pick b false (pick c false true) ≡ true
+        → Leads l (Read register) × ((v : ℕ) → Leads l (Write register v))
+    by true c h i e = absurd (false≢true e)
+    by false true h i e = absurd (false≢true e)
+    by false false h i e = (λ s. (rw h refl, rw h (rw i refl)), λ v s. (refl, rw h refl))
 
-module _ (family : Family) where
-  abbrev lines : Layout
-  lines = layoutOf family
+elsewhere-open : (l : Layout) (register : ℕ) → elsewhere l register ≡ true → Open (Stays l) register
+elsewhere-open l register e = let lead = elsewhere-leads l register e in record { reads = lead .0 outside; writes = λ v. lead .1 v outside }
 
-  apart-spreads : Spreads (λ A p. Apart lines p) (Off lines)
-  unfolding Apart
-  apart-spreads = record { ends = λ A v. tt; asks = λ A x f m d. (m, d); binds = λ A B p k e d. apart-bind lines p k e d; lapses = λ A p e. e }
+-- where a transfer may begin an attempt, and where it may end: with the lock, no attempt is on
+unfoldable Ready : Bool → Phase → Type 0
+Ready true s = s ≡ outside
+Ready false s = opens s ≡ true
 
-  passes-off : Passes (Off lines)
-  unfolding controls
-  passes-off = record { flushes = others family .4; waits = λ us. refl }
+unfoldable Rests : Bool → Phase → Type 0
+Rests true s = s ≡ outside
+Rests false s = Unit {0}
 
-  semaphores-off : Semaphores (Off lines) family
-  semaphores-off =
-      record {
-        passes = passes-off;
-        first = elsewhere-open lines _ (others family .0);
-        swsm = elsewhere-open lines _ (others family .1);
-        sync = elsewhere-open lines _ (others family .2);
-      }
+abbrev Settled : {A : Type 0} → Bool → A → Phase → Type 0
+Settled lock v s = Rests lock s
 
-  esdp-off : Open (Off lines) ESDP
-  esdp-off = elsewhere-open lines _ (others family .3)
+outside-ready : (lock : Bool) → Ready lock outside
+unfolding Ready
+outside-ready true = refl
+outside-ready false = refl
+
+ready-rests : (lock : Bool) (s : Phase) → Ready lock s → Rests lock s
+unfolding Ready Rests
+ready-rests true s h = h
+ready-rests false s h = tt
+
+out-rests : (lock : Bool) (s : Phase) → s ≡ outside → Rests lock s
+out-rests lock s h = ready-rests lock s (rw h (outside-ready lock))
+
+-- behind an attempt that failed on the module bus the next one may begin
+failed-opens : (r : R Taken) (s : Phase) → Attempted r s → failedI2c r ≡ true → opens s ≡ true
+unfolding Ended failedI2c
+failed-opens (Ok t) s q h = absurd (false≢true h)
+failed-opens (Err e) s q h = ap opens (q h)
+
+never-pauses : (r : Request) → pauses r false ≡ false
+unfolding pauses
+never-pauses (ReadByte d o) = refl
+never-pauses (WriteByte d o v) = refl
+never-pauses (ReadCombined d reg) = refl
+never-pauses (WriteCombined d reg v) = refl
 
 module _ (port : Port) where
-  abbrev l : Layout
-  l = layoutOf (port .family)
+  abbrev lines : Layout
+  lines = layoutOf (port .family)
 
-  acquire-shows : Shows l fresh (acquire port (mask port)) fresh
-  unfolding acquire acquiredAll pick Apart
-  acquire-shows = apart-shows l _ (rw (mask-plain port) (try-holds _ (Off l) (apart-spreads (port .family)) _ _ (acquire-bits-holds _ (Off l) (apart-spreads (port .family)) port _ (semaphores-off (port .family)) (λ e. esdp-off (port .family))) (λ _. tt)))
+  abbrev apart : eqb STATUS (lines .reg) ≡ false
+  apart = others (port .family) .4
 
-  lock-leaves : Leaves l (lock (port .family))
-  unfolding lock smbiWatch poll Leaves offBus _>>=_
-  lock-leaves = others (port .family) .1
+  -- the calls on the locks, and the handshake
 
-  mux-leaves : Leaves l (change (setMux false))
-  unfolding change setMux Leaves offBus _>>=_
-  mux-leaves = others (port .family) .3
+  out-spreads : Spreads (λ A p. Showing port p) (Stays lines)
+  unfolding Shows
+  out-spreads =
+      record {
+        ends = λ A v. shows-ret port v;
+        asks = λ A x f m d. (m .0, λ a. rw (m .1) (d a));
+        binds = λ A B p k e d. shows-bind lines false outside p k Out Out e (λ a t q. rw q (d a));
+        lapses = λ A p e. e;
+      }
 
-  bits-leave : (bits : ℕ) → Leaves l (releaseBits port bits)
-  unfolding releaseBits muxed unmuxed orErr pick _>>=_
+  passes-out : Passes (Stays lines)
+  unfolding begins phaseAfter
+  passes-out = record { flushes = (flush-begins lines apart outside, flush-after lines apart outside); waits = λ us. (refl, refl) }
+
+  semaphores-out : Semaphores (Stays lines) (port .family)
+  semaphores-out =
+      record {
+        passes = passes-out;
+        first = elsewhere-open lines _ (others (port .family) .0);
+        swsm = elsewhere-open lines _ (others (port .family) .1);
+        sync = elsewhere-open lines _ (others (port .family) .2);
+      }
+
+  esdp-out : Open (Stays lines) ESDP
+  esdp-out = elsewhere-open lines _ (others (port .family) .3)
+
+  acquire-shows : Showing port (acquire port (mask port))
+  unfolding acquire acquiredAll pick Shows
+  acquire-shows =
+      rw (mask-plain port)
+      (try-holds _ (Stays lines) out-spreads _ _ (acquire-bits-holds _ (Stays lines) out-spreads port _ semaphores-out (λ e. esdp-out)) (λ _. (refl, refl)))
+
+  lock-leaves : Leaves lines (lock (port .family))
+  unfolding lock smbiWatch poll Leaves _>>=_
+  lock-leaves = elsewhere-leads lines _ (others (port .family) .1) .0
+
+  change-leaves : (c : Change) → c .register ≡ ESDP → Leaves lines (change c)
+  unfolding change Leaves _>>=_
+  change-leaves c e = rw e (elsewhere-leads lines ESDP (others (port .family) .3) .0)
+
+  bits-leave : (bits : ℕ) → Leaves lines (releaseBits port bits)
+  unfolding releaseBits muxed unmuxed setMux orErr pick _>>=_
   bits-leave bits = by (mux port bits)
     where
-      by : (b : Bool) → Leaves l (pick b (change (setMux false)) (ret (Ok tt)) >>? λ _. unmuxed port bits)
-      by true = leaves-bind l _ _ mux-leaves
-      by false = leaves-bind l _ _ lock-leaves
+      by : (b : Bool) → Leaves lines (pick b (change (setMux false)) (ret (Ok tt)) >>? λ _. unmuxed port bits)
+      by true = leaves-bind lines _ _ (change-leaves (setMux false) refl)
+      by false = leaves-bind lines _ _ lock-leaves
 
-  given-shows : (bits : ℕ) → eqb bits 0 ≡ false → Shows l stale (giveBits port bits (Ok tt)) fresh
+  given-shows : (s : Phase) (bits : ℕ) → eqb bits 0 ≡ false → Shows lines false s (giveBits port bits (Ok tt)) Out
   unfolding giveBits withBits pick
-  given-shows bits some =
+  given-shows s bits some =
       rw some
-      (shows-try l stale _ _
-      (leaves-shows l _ (bits-leave bits) (release-bits-holds _ (Off l) (apart-spreads (port .family)) port bits (semaphores-off (port .family)) (λ e. esdp-off (port .family))))
-      (λ _. shows-ret l _))
+      (leaves-shows lines false s _ Out (leaves-bind lines _ _ (bits-leave bits))
+      (try-holds _ (Stays lines) out-spreads _ _ (release-bits-holds _ (Stays lines) out-spreads port bits semaphores-out (λ e. esdp-out)) (λ _. shows-ret port _)))
 
-  release-shows : Shows l stale (release port (mask port)) fresh
+  release-shows : (s : Phase) → Shows lines false s (release port (mask port)) Out
   unfolding release pick Shows
-  release-shows = rw (mask-plain port) (given-shows (hwOf (mask port)) (mask-some port))
+  release-shows s = rw (mask-plain port) (given-shows s (hwOf (mask port)) (mask-some port))
 
-  once-shows : (r : Request) (how : How) → Shows l fresh (once port r how) stale
-  unfolding once attempt attempting Shows _>>=_
-  once-shows r how = (refl, λ a. on-bus-shows l _ (read-on-bus port r how (raw a)))
+  change-shows : (c : Change) → c .register ≡ ESDP → (s : Phase) → Shows lines false s (change c) Out
+  change-shows c e s =
+      leaves-shows lines false s _ Out (change-leaves c e) (change-holds _ (Stays lines) out-spreads passes-out c (rw e esdp-out))
 
-  pub apart-change : (c : Change) → c .register ≡ ESDP → Shows l fresh (change c) fresh
-  apart-change c e = apart-shows l _ (change-holds _ (Off l) (apart-spreads (port .family)) (passes-off (port .family)) c (rw e (esdp-off (port .family))))
+  granted-shows : (n : ℕ) → Showing port (granted n)
+  granted-shows n = granted-holds _ (Stays lines) out-spreads passes-out (esdp-out .reads) n
 
-  delay-shows : (us : ℕ) → Shows l fresh (delay us) fresh
-  unfolding Shows controls
-  delay-shows us = (refl, λ a. refl)
+  -- an attempt, and the loops around it
 
-  judged-shows : (r : Request) (lock : Bool) (again : Unit {0} → Prog (R Taken)) → Shows l fresh (again tt) fresh → (result : R Taken)
-      → Shows l fresh (readJudged r lock again result) fresh
-  unfolding readJudged
-  judged-shows r lock again e result =
-      shows-pick l _ _ _ (shows-pick l _ _ _ (shows-try l fresh _ _ (delay-shows _) (λ _. e)) e) (shows-ret l _)
+  once-shows : (r : Request) (how : How) (s : Phase) → opens s ≡ true → Shows lines false s (once port r how) Attempted
+  unfolding once
+  once-shows r how s h =
+      subst (λ f. Shows lines false s (attempt (how .sequence) lines (deviceOf r) f) Attempted) (body-is lines r)
+      (commands-show lines apart (how .sequence) keeping (deviceOf r) (commands (scriptOf r)) s h)
 
-  tries-shows : (r : Request) (q : Sequence) (n : ℕ) → Shows l fresh (readTries port r (locked q) n) fresh
-  unfolding readTries whenLock pick
-  tries-shows r q zero = shows-ret l _
-  tries-shows r q (suc n) =
-      shows-try l fresh _ _ acquire-shows
-      (λ _. shows-bind l fresh stale fresh _ _ (once-shows r (locked q))
-      (λ result. shows-try l stale _ _ release-shows (λ _. judged-shows r true _ (tries-shows r q n) result)))
+  taken-shows : (lock : Bool) (s : Phase) (k : Prog (R Taken)) → Ready lock s → ((t : Phase) → opens t ≡ true → Shows lines false t k (Settled lock))
+      → Shows lines false s (whenLock lock (acquire port (mask port)) k) (Settled lock)
+  unfolding whenLock Ready Rests pick
+  taken-shows true s k h e = rw h (shows-try lines outside _ _ Out Out acquire-shows (λ _ t q. rw q (e outside refl)) (λ x t q. q))
+  taken-shows false s k h e = e s h
 
-  granted-shows : (n : ℕ) → Shows l fresh (granted n) fresh
-  granted-shows n = apart-shows l _ (granted-holds _ (Off l) (apart-spreads (port .family)) (passes-off (port .family)) (esdp-off (port .family) .reads) n)
+  again-shows : (r : Request) (lock : Bool) (again : Unit {0} → Prog (R Taken)) (s : Phase) → Ready lock s
+      → ((t : Phase) → Ready lock t → Shows lines false t (again tt) (Settled lock))
+      → Shows lines false s (pick (pauses r lock) (delayMs 100 >>? λ _. again tt) (again tt)) (Settled lock)
+  unfolding Shows begins phaseAfter Ready Rests orErr pick _>>=_
+  again-shows r true again s h e =
+      rw h (shows-either lines outside (pauses r true) _ _ Out (λ _. (refl, λ a. e outside refl)) (λ _. e outside refl))
+  again-shows r false again s h e = rw (never-pauses r) (e s h)
 
-  with-bus-shows : (device : ℕ) (f : Prog (R Taken)) → Shows l fresh f fresh → Shows l fresh (withBus port device f) fresh
-  unfolding withBus onGrant givenBus
-  with-bus-shows device f e =
-      shows-pick l _ _ _
-      (shows-try l fresh _ _ (apart-change askBus refl)
-      (λ _. shows-try l fresh _ _ (granted-shows 200)
-      (λ got. shows-then l fresh _ _ (shows-pick l got f _ e (shows-ret l _))
-      (λ result. shows-try l fresh _ _ (apart-change giveBus refl) (λ _. shows-ret l _)))))
-      e
+  judged-shows : (r : Request) (lock : Bool) (again : Unit {0} → Prog (R Taken)) (result : R Taken) (s : Phase) → Rests lock s
+      → (failedI2c result ≡ true → Ready lock s) → ((t : Phase) → Ready lock t → Shows lines false t (again tt) (Settled lock))
+      → Shows lines false s (readJudged r lock again result) (Settled lock)
+  unfolding readJudged Shows
+  judged-shows r lock again result s q h e =
+      shows-either lines s (failedI2c result) _ _ (Settled lock) (λ i. again-shows r lock again s (h i) e) (λ _. (refl, q))
 
-  handshaken-shows : (r : Request) (f : Prog (R Taken)) → Shows l fresh f fresh → Shows l fresh (handshaken port r f) fresh
+  given-back-shows : (r : Request) (lock : Bool) (again : Unit {0} → Prog (R Taken)) (result : R Taken) (s : Phase) → Attempted result s
+      → ((t : Phase) → Ready lock t → Shows lines false t (again tt) (Settled lock))
+      → Shows lines false s (whenLock lock (release port (mask port)) (readJudged r lock again result)) (Settled lock)
+  unfolding whenLock Ready Rests pick
+  given-back-shows r true again result s q e =
+      shows-try lines s _ _ Out Out (release-shows s) (λ _ t p. rw p (judged-shows r true again result outside refl (λ _. refl) e)) (λ x t p. p)
+  given-back-shows r false again result s q e = judged-shows r false again result s tt (failed-opens result s q) e
+
+  tries-shows : (r : Request) (how : How) (n : ℕ) (s : Phase) → Ready (how .lock) s → Shows lines false s (readTries port r how n) (Settled (how .lock))
+  unfolding readTries Shows
+  tries-shows r how zero s h = (refl, ready-rests (how .lock) s h)
+  tries-shows r how (suc n) s h =
+      taken-shows (how .lock) s _ h
+      (λ t o. shows-bind lines false t _ _ Attempted (Settled (how .lock)) (once-shows r how t o)
+      (λ result u q. given-back-shows r (how .lock) _ result u q (tries-shows r how n)))
+
+  write-tries-shows : (r : Request) (how : How) (n : ℕ) (before : R Taken) (s : Phase) → opens s ≡ true → Shows lines false s (writeTries port r how n before) Anywhere
+  unfolding writeTries Shows
+  write-tries-shows r how zero before s h = (refl, tt)
+  write-tries-shows r how (suc n) before s h =
+      shows-bind lines false s _ _ Attempted Anywhere (once-shows r how s h)
+      (λ result t q.
+      shows-either lines t (failedI2c result) _ _ Anywhere (λ i. write-tries-shows r how n result t (failed-opens result t q i)) (λ i. (refl, tt)))
+
+  given-up-shows : (lock : Bool) (result : R Taken) (s : Phase) → Shows lines false s (givenUp port lock result) (Settled lock)
+  unfolding givenUp whenLock Rests Shows pick
+  given-up-shows true result s = shows-try lines s _ _ Out Out (release-shows s) (λ _ t p. (refl, p)) (λ x t p. p)
+  given-up-shows false result s = (refl, tt)
+
+  retried-shows : (r : Request) (how : How) (n : ℕ) → Shows lines false outside (retried port r how n) (Settled (how .lock))
+  unfolding retried writes
+  retried-shows r how n =
+      shows-either lines outside (isWrite r) _ _ (Settled (how .lock))
+      (λ _. taken-shows (how .lock) outside _ (outside-ready (how .lock))
+      (λ t o.
+      shows-bind lines false t _ _ Anywhere (Settled (how .lock)) (write-tries-shows r how 2 _ t o) (λ result u q. given-up-shows (how .lock) result u)))
+      (λ _. tries-shows r how n outside (outside-ready (how .lock)))
+
+  grant-shows : (device : ℕ) (f : Prog (R Taken)) (lock got : Bool) → Shows lines false outside f (Settled lock)
+      → Shows lines false outside (onGrant device f got) (Settled lock)
+  unfolding onGrant givenBus Shows
+  grant-shows device f lock got e =
+      shows-bind lines false outside _ _ (Settled lock) (Settled lock)
+      (shows-either lines outside got f _ (Settled lock) (λ _. e) (λ _. (refl, out-rests lock _ refl)))
+      (λ result s q. shows-try lines s _ _ Out (Settled lock) (change-shows giveBus refl s) (λ _ t p. (refl, out-rests lock t p)) (λ x. out-rests lock))
+
+  with-bus-shows : (device : ℕ) (f : Prog (R Taken)) (lock : Bool) → Shows lines false outside f (Settled lock)
+      → Shows lines false outside (withBus port device f) (Settled lock)
+  unfolding withBus
+  with-bus-shows device f lock e =
+      shows-either lines outside (qsfp port) _ _ (Settled lock)
+      (λ _. shows-try lines outside _ _ Out (Settled lock) (change-shows askBus refl outside)
+      (λ _ t q. rw q (shows-try lines outside _ _ Out (Settled lock) (granted-shows 200) (λ got u p. rw p (grant-shows device f lock got e)) (λ x. out-rests lock)))
+      (λ x. out-rests lock))
+      (λ _. e)
+
+  handshaken-shows : (r : Request) (f : Prog (R Taken)) (lock : Bool) → Shows lines false outside f (Settled lock)
+      → Shows lines false outside (handshaken port r f) (Settled lock)
   unfolding handshaken
-  handshaken-shows (ReadByte d o) f e = with-bus-shows d f e
-  handshaken-shows (WriteByte d o v) f e = with-bus-shows d f e
-  handshaken-shows (ReadCombined d reg) f e = e
-  handshaken-shows (WriteCombined d reg v) f e = e
+  handshaken-shows (ReadByte d o) f lock e = with-bus-shows d f lock e
+  handshaken-shows (WriteByte d o v) f lock e = with-bus-shows d f lock e
+  handshaken-shows (ReadCombined d reg) f lock e = e
+  handshaken-shows (WriteCombined d reg v) f lock e = e
 
-  pub read-shows : (r : Request) (q : Sequence) (n : ℕ) → isWrite r ≡ false → Shows l fresh (transferred port r (locked q) n) fresh
-  unfolding transferred retried givesValue pick
-  read-shows r q n w = shows-then l fresh _ _ (handshaken-shows r _ (rw w (tries-shows r q n))) (λ result. shows-ret l _)
+  transferred-shows : (r : Request) (how : How) (n : ℕ) → Shows lines false outside (transferred port r how n) (Settled (how .lock))
+  unfolding transferred givesValue Shows
+  transferred-shows r how n =
+      shows-bind lines false outside _ _ (Settled (how .lock)) (Settled (how .lock)) (handshaken-shows r _ (how .lock) (retried-shows r how n))
+      (λ result s q. (refl, q))
 
-  -- of every run of `read_byte` and `read_combined` with the lock
-  pub read-shown : (r : Request) (q : Sequence) (n : ℕ) (answers : List Answer) → isWrite r ≡ false
-      → shown l (asked (run (transferred port r (locked q) n) answers)) ≡ transfersIn (transferred port r (locked q) n) answers
-  read-shown r q n answers w = shows-count l _ answers (read-shows r q n w)
+  -- one that takes the lock, and what follows it
+  pub shows-then : {A : Type 0} (r : Request) (q : Sequence) (n : ℕ) (k : R ℕ → Prog A) → ((result : R ℕ) → Showing port (k result))
+      → Showing port (transferred port r (locked q) n >>= k)
+  unfolding Rests
+  shows-then r q n k e = shows-bind lines false outside _ k (Settled true) Out (transferred-shows r (locked q) n) (λ result s h. rw h (e result))
+
+  script-shows : (s : List ℕ) → Shows lines false outside (script port s) Anywhere
+  unfolding script dropped Shows
+  script-shows s =
+      shows-bind lines false outside _ _ Attempted Anywhere (commands-show lines apart Pulses handing _ (commands s) outside refl) (λ r t q. (refl, tt))
+
+  -- of every run of `read_byte`, `write_byte`, `read_combined` and `write_combined`, with the lock and without
+  pub transferred-shown : (r : Request) (how : How) (n : ℕ) (answers : List Answer) → Shown lines (transferred port r how n) answers
+  transferred-shown r how n answers = shows-shown lines _ _ answers (transferred-shows r how n)
+
+  -- and of a script
+  pub script-shown : (s : List ℕ) (answers : List Answer) → Shown lines (script port s) answers
+  script-shown s answers = shows-shown lines _ _ answers (script-shows s)

@@ -5,7 +5,7 @@ use Rattle.hardware.specs.declared.Access.{Access}
 use Rattle.hardware.specs.declared.Access.the-variants.{Read}
 use Rattle.hardware.specs.Prog.{Prog, R}
 use Rattle.hardware.specs.Registers.{ESDP}
-use Rattle.sync.proofs.Spreads.{Spreads, Passes, try-holds, pick-holds, one-holds}
+use Rattle.hardware.proofs.Spreads.{Spreads, Passes, try-holds, pick-holds, one-holds}
 use Rattle.i2c.specs.I2c.{granting, granted}
 
 pub granted-holds : (P : (A : Type 0) → Prog A → Type 0) (May : Access → Type 0) → Spreads P May → Passes May → May (Read ESDP) → (n : ℕ) → P (R Bool) (granted n)

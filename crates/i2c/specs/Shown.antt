@@ -1,38 +1,97 @@
--- The attempts that a list of accesses shows. An attempt begins with a read of I2CCTL and goes on with accesses to I2CCTL,
--- flushes and waits; where the lock is taken for each attempt, accesses to other registers stand between two of them.
+-- The attempts that a list of accesses shows. An attempt begins with a read of I2CCTL, and its line calls read I2CCTL again
+-- and again. What tells an attempt's first read from the others:
+--   other registers, or nothing, stand before it; or
+--   the clearing sequence of the attempt before stands there, and has ended. Within the sequence a wait of 1, 3 or 4 µs stands
+--   between two reads of I2CCTL; between its last read and the next attempt's first stands at most the end of a stop: a wait
+--   of 5 µs, a write of I2CCTL and its flush.
+-- The clearing sequence itself has begun where, in the commands of an attempt,
+--   a read of I2CCTL that is not its first is directly followed by another: SDA was seen low, and the sequence begins with a
+--   read; or
+--   a sample of the acknowledgement and its wait of 1 µs are not followed by another sample: SDA was high in all of them.
 use Prim.Native.Nat.{ℕ}
+use mathlib.Core.Path.{_≡_}
 use mathlib.Core.Bool.{Bool, true, false}
 use mathlib.Core.List.{List, [], _∷_, _++_}
 use lib.Dec.{eqb}
 use Rattle.hardware.specs.declared.Access.{Access}
 use Rattle.hardware.specs.declared.Access.the-variants.{Read, Write, Wait}
+use Rattle.hardware.specs.declared.Answer.{Answer}
 use Rattle.hardware.specs.Marks.{more}
-use Rattle.hardware.specs.Prog.{pick}
-use Rattle.hardware.specs.Runs.{Status, ended, waiting, Run}
+use Rattle.hardware.specs.Prog.{Prog, pick, Counted, blank, tally}
+use Rattle.hardware.specs.Registers.{STATUS}
+use Rattle.hardware.specs.Runs.{Status, ended, waiting, Run, run, transfersIn}
 use Rattle.bus.specs.declared.Layout.{Layout}
-use Rattle.bus.specs.Accesses.{controls, offBus}
 
--- fresh: I2CCTL has not been named since another register was, or since the call began
-unfoldable pub begins : Layout → Bool → Access → Bool
-begins l fresh (Read r) = pick fresh (eqb r (l .reg)) false
-begins l fresh (Write r v) = false
-begins l fresh (Wait us) = false
+-- What the accesses so far tell. outside: no attempt is on; inside: the commands of one; looked: there, directly behind a read
+-- of I2CCTL that is not its first; sampled: there, behind a sample and its wait; freeing: the clearing sequence; freed: there,
+-- behind a read of I2CCTL and no wait but of 5 µs, so that it may have ended
+pub data Phase : Type 0 where
+  outside inside looked sampled freeing freed : Phase
 
-unfoldable pub freshAfter : Layout → Bool → Access → Bool
-freshAfter l fresh x = pick (controls l x) false (pick (offBus l x) true fresh)
+-- a read of I2CCTL begins an attempt
+abbrev pub opens : Phase → Bool
+opens outside = true
+opens inside = false
+opens looked = false
+opens sampled = false
+opens freeing = false
+opens freed = true
 
-unfoldable pub shownFrom : Layout → Bool → List Access → ℕ
-shownFrom l fresh [] = 0
-shownFrom l fresh (x ∷ xs) = more (begins l fresh x) (shownFrom l (freshAfter l fresh x) xs)
+-- behind a read of I2CCTL
+abbrev pub onRead : Phase → Phase
+onRead outside = inside
+onRead inside = looked
+onRead looked = freed
+onRead sampled = looked
+onRead freeing = freed
+onRead freed = inside
+
+-- behind a write of I2CCTL, or a flush
+abbrev pub onWrite : Phase → Phase
+onWrite outside = outside
+onWrite inside = inside
+onWrite looked = inside
+onWrite sampled = freeing
+onWrite freeing = freeing
+onWrite freed = freed
+
+-- behind a wait of so many µs
+abbrev pub onWait : ℕ → Phase → Phase
+onWait us outside = outside
+onWait us inside = inside
+onWait us looked = pick (eqb us 1) sampled inside
+onWait us sampled = freeing
+onWait us freeing = freeing
+onWait us freed = pick (eqb us 5) freed freeing
+
+-- behind any access; one to another register ends what was on
+unfoldable pub phaseAfter : Layout → Phase → Access → Phase
+phaseAfter l s (Read r) = pick (eqb r (l .reg)) (onRead s) (pick (eqb r STATUS) (onWrite s) outside)
+phaseAfter l s (Write r v) = pick (eqb r (l .reg)) (onWrite s) outside
+phaseAfter l s (Wait us) = onWait (us .0) s
+
+unfoldable pub begins : Layout → Phase → Access → Bool
+begins l s (Read r) = pick (eqb r (l .reg)) (opens s) false
+begins l s (Write r v) = false
+begins l s (Wait us) = false
+
+unfoldable pub shownFrom : Layout → Phase → List Access → ℕ
+shownFrom l s [] = 0
+shownFrom l s (x ∷ xs) = more (begins l s x) (shownFrom l (phaseAfter l s x) xs)
 
 -- of a call from its beginning
 abbrev pub shown : Layout → List Access → ℕ
-shown l xs = shownFrom l true xs
+shown l xs = shownFrom l outside xs
 
 unfoldable pub awaitedOf : {A : Type 0} → Status A → List Access
 awaitedOf (ended v) = []
 awaitedOf (waiting x) = x ∷ []
 
 -- all that a run has asked for: the accesses that were answered, and the one that is awaited
-abbrev pub asked : {A : Type 0} → Run A → List Access
-asked r = r .accesses ++ awaitedOf (r .status)
+abbrev pub askedFor : {A : Type 0} → Run A → List Access
+askedFor r = r .accesses ++ awaitedOf (r .status)
+
+-- a run shows the attempts that it begins, and where it has ended those that its result tells
+pub record Shown {A : Type 0} (l : Layout) (p : Prog A) (answers : List Answer) : Type 0 where
+  pub begun : shown l (askedFor (run p answers)) ≡ transfersIn p answers
+  pub told : (c : Counted A) → run (tally blank p) answers .status ≡ ended c → c .meter .transfers ≡ shown l (run (tally blank p) answers .accesses)

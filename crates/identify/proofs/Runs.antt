@@ -2,7 +2,7 @@
 -- run is the Rust's, the count of the attempts in it beside the result. A state that was handed out is not refused at its
 -- next step. Each successful acquire gets one release call, and the accesses show the attempts.
 use Prim.Native.Nat.{ℕ, _≤_, suc}
-use mathlib.Core.Path.{_≡_, refl, ap, _∙_}
+use mathlib.Core.Path.{_≡_, ap, _∙_}
 use mathlib.Core.Bool.{true, false}
 use mathlib.Core.List.{List}
 use lib.ListN.{length}
@@ -12,16 +12,17 @@ use Rattle.hardware.specs.declared.Meter.{Meter}
 use Rattle.hardware.specs.declared.Port.{Port}
 use Rattle.hardware.specs.Asked.{yes, andThen, question, openPort, fits, admitting}
 use Rattle.hardware.specs.Prog.{Prog, R, blank, tally}
-use Rattle.hardware.specs.Runs.{run, runAsked, Awaited, AwaitedIn, driven, ended, transfersIn, meterIn, counted, leftAfter, leftAskedAfter, Exchange, answersOf, AllKept, Asks, IfYes, Lasts}
+use Rattle.hardware.specs.Runs.{run, runAsked, Awaited, AwaitedIn, driven, ended, meterIn, counted, leftAfter, leftAskedAfter, Exchange, answersOf, AllKept, Asks, IfYes, Lasts}
 use Rattle.hardware.proofs.Laws.{asked-runs, StepsOn, is-true, opened-runs, steps-few}
 use Rattle.hardware.proofs.Ends.{run-ends, ask-ends, ends-tally}
 use Rattle.i2c.specs.declared.once.Request.the-variants.{ReadByte}
 use Rattle.bus.specs.Layout.{layoutOf}
 use Rattle.transfer.specs.declared.attempt.Sequence.{Sequence}
-use Rattle.i2c.specs.I2c.{standard, locked, isWrite}
+use Rattle.i2c.specs.I2c.{standard, locked}
 use Rattle.i2c.specs.Paired.{Paired}
-use Rattle.i2c.specs.Shown.{shown, asked}
-use Rattle.i2c.proofs.Shown.{fresh, Shows, shows-count, shows-then, shows-ret, read-shows}
+use Rattle.i2c.specs.Shown.{Shown}
+use Rattle.i2c.proofs.Shows.{shows-shown}
+use Rattle.i2c.proofs.Shown.{Showing, shows-ret, shows-then}
 use Rattle.i2c.proofs.Pairs.{Pairs, pairs-then, pairs-ret, pairs-paired}
 use Rattle.i2c.proofs.Paired.{transferred-pairs}
 use Rattle.sfp.specs.declared.Identity.{Identity}
@@ -36,7 +37,7 @@ use Rattle.identify.specs.declared.calls.IdentifyTold.the-variants.{Ask,
 use Rattle.identify.specs.Walk.{restIdentify}
 use Rattle.identify.specs.Calls.{openIdentify, openQsfp, stepIdentify, saidIdentify, standsIdentify, followsIdentify}
 use Rattle.hardware.specs.Promise.{Keeps}
-use Rattle.identify.proofs.Spreads.{Spreads, identify-holds, qsfp-holds}
+use Rattle.sfp.proofs.Spreads.{Spreads, identify-holds, qsfp-holds}
 use Rattle.identify.proofs.Ends.{identifyAfter, identify-rest-ends}
 
 pub identify-runs : (family device lan : ℕ) (t : IdentifyTold) → saidIdentify t ≡ openIdentify family device lan → (l : List Answer)
@@ -98,26 +99,17 @@ identify-paired q port l = pairs-paired _ l (identify-holds q port Keeping (pair
 pub qsfp-paired : (q : Sequence) (port : Port) (l : List Answer) → Paired (identifyQsfp q port) l
 qsfp-paired q port l = pairs-paired _ l (qsfp-holds q port Keeping (pairs-spreads q port))
 
--- the accesses that a run asks for show the attempts that it begins
-
-abbrev Showing : Port → Prog (R Identity) → Type 0
-Showing port p = Shows (layoutOf (port .family)) fresh p fresh
+-- the accesses of a run show the attempts that it begins, for every list of answers
 
 shows-spreads : (q : Sequence) (port : Port) → Spreads q port (Showing port)
-unfolding isWrite
 shows-spreads q port =
-    record {
-      ends = λ v. shows-ret _ v;
-      requests = λ offset tries k e. shows-then _ fresh _ k (read-shows port (ReadByte EEPROM offset) q tries refl) e;
-    }
+    record { ends = λ v. shows-ret port v; requests = λ offset tries k e. shows-then port (ReadByte EEPROM offset) q tries k e }
 
-pub identify-shown : (q : Sequence) (port : Port) (l : List Answer)
-    → shown (layoutOf (port .family)) (asked (run (identify q port) l)) ≡ transfersIn (identify q port) l
-identify-shown q port l = shows-count _ _ l (identify-holds q port (Showing port) (shows-spreads q port))
+pub identify-shown : (q : Sequence) (port : Port) (l : List Answer) → Shown (layoutOf (port .family)) (identify q port) l
+identify-shown q port l = shows-shown _ _ _ l (identify-holds q port (Showing port) (shows-spreads q port))
 
-pub qsfp-shown : (q : Sequence) (port : Port) (l : List Answer)
-    → shown (layoutOf (port .family)) (asked (run (identifyQsfp q port) l)) ≡ transfersIn (identifyQsfp q port) l
-qsfp-shown q port l = shows-count _ _ l (qsfp-holds q port (Showing port) (shows-spreads q port))
+pub qsfp-shown : (q : Sequence) (port : Port) (l : List Answer) → Shown (layoutOf (port .family)) (identifyQsfp q port) l
+qsfp-shown q port l = shows-shown _ _ _ l (qsfp-holds q port (Showing port) (shows-spreads q port))
 
 -- from any state that passes question 10, whoever made it, the call takes at most so many steps more
 pub identify-lasts : (x : Access) (port : Port) (q : Sequence) (m : Meter) (s : Identify) (ks : List (Exchange IdentifyTold)) → standsIdentify (Ask x (Going port q m s))

@@ -1,6 +1,6 @@
 -- Whole calls of `soft_rate_select`: for every port that is accepted and every list of answers the library's run is the
 -- Rust's, the count of the attempts in it beside the result. A state that was handed out is not refused at its next step.
--- Each successful acquire gets one release call.
+-- Each successful acquire gets one release call, and the accesses show the attempts.
 use Prim.Native.Nat.{ℕ, _≤_, _+_, suc}
 use mathlib.Core.Path.{_≡_, ap, _∙_}
 use mathlib.Core.Bool.{Bool, true, false}
@@ -18,7 +18,11 @@ use Rattle.hardware.proofs.Ends.{run-ends, ask-ends, ends-tally, ends-more, end
 use Rattle.i2c.specs.declared.once.Request.the-variants.{ReadByte, WriteByte}
 use Rattle.i2c.specs.I2c.{standard, locked, attempts}
 use Rattle.transfer.specs.declared.attempt.Sequence.{Sequence}
+use Rattle.bus.specs.Layout.{layoutOf}
 use Rattle.i2c.specs.Paired.{Paired}
+use Rattle.i2c.specs.Shown.{Shown}
+use Rattle.i2c.proofs.Shows.{shows-either, shows-shown}
+use Rattle.i2c.proofs.Shown.{Showing, shows-ret, shows-then}
 use Rattle.i2c.proofs.Pairs.{Pairs, pairs-then, pairs-pick, pairs-ret, pairs-paired}
 use Rattle.i2c.proofs.Paired.{transferred-pairs}
 use Rattle.sfp.specs.Rate.{DIAG, orNot, selected, rateByte, softRateSelect}
@@ -83,6 +87,25 @@ pub rate-paired : (q : Sequence) (port : Port) (ten : Bool) (l : List Answer) �
 unfolding softRateSelect
 rate-paired q port ten l =
     pairs-paired _ l (rate-byte-pairs q port ten true 0x6e _ (λ ok. rate-byte-pairs q port ten ok 0x76 _ (λ both. pairs-ret false _)))
+
+not-shows : (port : Port) (k : Bool → Prog (R Bool)) (f : ℕ → Prog (R Bool)) → ((b : Bool) → Showing port (k b)) → ((v : ℕ) → Showing port (f v))
+    → (r : R ℕ) → Showing port (orNot k f r)
+unfolding orNot
+not-shows port k f e g (Ok v) = g v
+not-shows port k f e g (Err error) = shows-either _ _ _ _ _ _ (λ _. e false) (λ _. shows-ret port _)
+
+rate-byte-shows : (q : Sequence) (port : Port) (ten ok : Bool) (offset : ℕ) (k : Bool → Prog (R Bool)) → ((b : Bool) → Showing port (k b))
+    → Showing port (rateByte q port ten ok offset k)
+unfolding rateByte
+rate-byte-shows q port ten ok offset k e =
+    shows-then port (ReadByte DIAG offset) q _ _ (not-shows port k _ e (λ v.
+    shows-then port (WriteByte DIAG offset (selected ten v)) q 2 _ (not-shows port k _ e (λ _. e ok))))
+
+-- the accesses of a run show the attempts that it begins, for every list of answers
+pub rate-shown : (q : Sequence) (port : Port) (ten : Bool) (l : List Answer) → Shown (layoutOf (port .family)) (softRateSelect q port ten) l
+unfolding softRateSelect
+rate-shown q port ten l =
+    shows-shown _ _ _ l (rate-byte-shows q port ten true 0x6e _ (λ ok. rate-byte-shows q port ten ok 0x76 _ (λ both. shows-ret port _)))
 
 -- the answers that may still be needed behind a byte, behind a request, and after the answer that is awaited
 abbrev pub nextAfter : Family → Bool → ℕ

@@ -134,9 +134,9 @@ gives-pick Good false p q n g d = d
 abbrev WellHeld : Held → Type 0
 WellHeld h = Well (h .out)
 
-well-spreads : (n : ℕ) (l : Layout) → Spreads (λ p. Gives WellHeld p n) l
+well-spreads : (n : ℕ) → Spreads (λ p. Gives WellHeld p n)
 unfolding Gives Well
-well-spreads n l = record { asked = λ x f m g. g; failed = λ e ctl good. absurd good }
+well-spreads n = record { asked = λ x f g. g; failed = λ e ctl good. absurd good }
 
 command-counts : (c : Command) (b : ℕ) (k : Bus) (n ctl : ℕ) → Gives WellHeld (k ctl) n → Gives WellHeld (gives c b k ctl) (pick (isRead c) (suc n) n)
 unfolding gives pick Gives
@@ -150,7 +150,7 @@ giving-counts : (l : Layout) (device : ℕ) (cs : List Command) (t : Taken) → 
 unfolding giving reads Gives
 giving-counts l device [] t = λ ctl good. refl
 giving-counts l device (c ∷ cs) t =
-    did-holds _ l (well-spreads (reads (c ∷ cs)) l) device c _
+    did-holds _ (well-spreads (reads (c ∷ cs))) l device c _
     (λ b ctl. command-counts c b _ (reads cs) ctl (giving-counts l device cs (tookBy c t b) ctl))
 
 -- no byte is given out, however many there may be: so it is with the clearing, by which no attempt ends well
@@ -160,8 +160,8 @@ Giveless p = (n : ℕ) → Gives (λ h. ⊥) p n
 clearing-counts : (q : Sequence) (l : Layout) → Throughout Giveless (clearing q l)
 unfolding clearing Gives
 clearing-counts Pulses l =
-    clear-holds Giveless l (record { asked = λ x f m g n a. g a n; failed = λ e ctl n. absurd }) (λ t ctl n. absurd)
-    (λ p k g d n. gives-bind (λ h. ⊥) (λ h. ⊥) p k n (g n) (λ h m z. d h m))
+    clear-holds Giveless (record { asked = λ x f g n a. g a n; failed = λ e ctl n. absurd }) (λ t ctl n. absurd)
+    (λ p k g d n. gives-bind (λ h. ⊥) (λ h. ⊥) p k n (g n) (λ h m z. d h m)) l
 
 cleared-counts : (device : ℕ) (r : R Taken) (n : ℕ) → Gives Well (orCleared device r) n
 unfolding orCleared Gives Well

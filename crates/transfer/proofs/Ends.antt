@@ -107,27 +107,6 @@ pub commands-ends : (m : Mode) (q : Sequence) (l : Layout) (device : ℕ) (cs : 
     → Ends (attempt q l device (transfer m l device cs t)) (ATTEMPT-STEPS (COMMAND-STEPS * length cs))
 commands-ends m q l device cs t = attempt-ends q l device _ (COMMAND-STEPS * length cs) (transfer-ends m l device cs t)
 
--- as the host sees them
-pub command-erased-ends : (l : Layout) (device : ℕ) (c : Command) (k : ℕ → Bus) (n : ℕ) → ((b : ℕ) → EndsBus (k b) n)
-    → (ctl : ℕ) → Ends (erase (did l device c k ctl)) (COMMAND-STEPS + n)
-command-erased-ends l device c k n e ctl = ends-erase _ _ (command-ends l device c k n e ctl)
-
-pub transfer-erased-ends : (m : Mode) (l : Layout) (device : ℕ) (cs : List Command) (t : Taken) (ctl : ℕ)
-    → Ends (erase (transfer m l device cs t ctl)) (COMMAND-STEPS * length cs)
-transfer-erased-ends m l device cs t ctl = ends-erase _ _ (transfer-ends m l device cs t ctl)
-
-pub attempt-erased-ends : (q : Sequence) (l : Layout) (device : ℕ) (f : Bus) (n : ℕ) → EndsBus f n → Ends (erase (attempt q l device f)) (ATTEMPT-STEPS n)
-attempt-erased-ends q l device f n e = ends-erase _ _ (attempt-ends q l device f n e)
-
-pub commands-erased-ends : (m : Mode) (q : Sequence) (l : Layout) (device : ℕ) (cs : List Command) (t : Taken)
-    → Ends (erase (attempt q l device (transfer m l device cs t))) (ATTEMPT-STEPS (COMMAND-STEPS * length cs))
-commands-erased-ends m q l device cs t = ends-erase _ _ (commands-ends m q l device cs t)
-
--- with the count of attempts beside the result
-pub attempt-counted-ends : (m : Meter) (q : Sequence) (l : Layout) (device : ℕ) (f : Bus) (n : ℕ) → EndsBus f n
-    → Ends (tally m (attempt q l device f)) (ATTEMPT-STEPS n)
-attempt-counted-ends m q l device f n e = ends-tally m _ _ (attempt-ends q l device f n e)
-
 -- the answers that each machine may still need after the one it awaits, whatever accepted script is lent: behind a position
 -- it has at most 63 commands less the position
 abbrev pub transferAfter : Transfer → ℕ

@@ -67,14 +67,14 @@ job-did l device Stop k = job-stop l device k
 job-did l device Free k = job-free l device k
 
 -- what spreads holds of a command wherever it holds of what comes after it
-pub did-holds : (P : Prog Held → Type 0) (l : Layout) → Spreads P l → (device : ℕ) (c : Command) (k : ℕ → Bus) → ((b : ℕ) → Throughout P (k b))
+pub did-holds : (P : Prog Held → Type 0) → Spreads P → (l : Layout) (device : ℕ) (c : Command) (k : ℕ → Bus) → ((b : ℕ) → Throughout P (k b))
     → Throughout P (did l device c k)
 unfolding did
-did-holds P l s device Start k e = start-holds P l s (k 0) (e 0)
-did-holds P l s device (Send value) k e = send-holds P l s device value (k 0) (e 0)
-did-holds P l s device (Read high) k e = in-byte-holds P l s _ (λ value. out-bit-holds P l s high (k value) (e value))
-did-holds P l s device Stop k e = stop-holds P l s (k 0) (e 0)
-did-holds P l s device Free k e = free-holds P l s (k 0) (e 0)
+did-holds P s l device Start k e = start-holds P s l (k 0) (e 0)
+did-holds P s l device (Send value) k e = send-holds P s l device value (k 0) (e 0)
+did-holds P s l device (Read high) k e = in-byte-holds P s l _ (λ value. out-bit-holds P s l high (k value) (e value))
+did-holds P s l device Stop k e = stop-holds P s l (k 0) (e 0)
+did-holds P s l device Free k e = free-holds P s l (k 0) (e 0)
 
 -- a position on the script: its command comes, and then the rest
 pub transfer-at : (m : Mode) (l : Layout) (device : ℕ) (s : List ℕ) (at : ℕ) (t : Taken) (ctl : ℕ) → at < length s

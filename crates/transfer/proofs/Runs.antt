@@ -17,9 +17,8 @@ use Rattle.hardware.specs.Prog.{Prog, R, blank, tally, _>>=_}
 use Rattle.hardware.specs.Runs.{run, runAsked, Ends, Awaited, ended, transfersIn, meterIn, counted, AwaitedIn, leftAfter, leftAskedAfter, Exchange, answersOf, AllKept, driven, Refuses, Asks, IfYes, Lasts}
 use Rattle.hardware.proofs.Laws.{run-tally, is-true, StepsOn, opened-runs, refused-runs, steps-few, falls-few}
 use Rattle.hardware.proofs.Ends.{ends-more, ends-bind, ret-ends, run-ends, ask-ends, ends-tally}
-use Rattle.bus.specs.declared.Layout.{Layout}
 use Rattle.bus.specs.declared.Taken.{Taken}
-use Rattle.bus.proofs.OnBus.{OnBus, ret-on-bus, bind-on-bus, transfers-none}
+use Rattle.bus.proofs.Noteless.{Noteless, ret-noteless, bind-noteless, transfers-none}
 use Rattle.script.specs.Script.{commands, device, judged}
 use Rattle.script.proofs.Laws.{accepted, fits-length, commands-length}
 use Rattle.bus.specs.Bus.{none}
@@ -31,18 +30,18 @@ use Rattle.transfer.specs.declared.calls.ScriptTold.{ScriptTold}
 use Rattle.transfer.specs.declared.calls.ScriptTold.the-variants.{Ask, Read, End, Refused}
 use Rattle.transfer.specs.Transfer.{handing}
 use Rattle.transfer.specs.Attempt.{attempt}
-use Rattle.transfer.specs.Calls.{dropped, script, restScript, judgedThen, openScript, steppedScript, stepScript, saidScript, standsScript, single, followsScript, Lent, saidLent, followsLent}
+use Rattle.transfer.specs.Calls.{dropped, script, restScript, judgedThen, openScript, steppedScript, stepScript, saidScript, standsScript, single, followsScript, ScriptAt, saidAt, followsLent}
 use Rattle.transfer.specs.Within.{AttemptWithin, CallWithin, ScriptWithin}
 use Rattle.transfer.proofs.Laws.{judged-yes}
 use Rattle.transfer.proofs.Ends.{COMMAND-STEPS, ATTEMPT-STEPS, attempt-steps, commands-ends, attemptAfter, attempt-rest-ends}
 use Rattle.transfer.proofs.Within.{attempt-some, attemptLeft, attempt-within}
-use Rattle.transfer.proofs.OnBus.{transfer-on-bus, attempting-on-bus}
+use Rattle.transfer.proofs.Noteless.{transfer-noteless, attempting-noteless}
 use Rattle.hardware.specs.Promise.{Keeps}
 use borrow.Author.Tests.{eqb-true}
 
-dropped-on-bus : (l : Layout) (r : R Taken) → OnBus l (dropped r)
+dropped-noteless : (r : R Taken) → Noteless (dropped r)
 unfolding dropped
-dropped-on-bus l r = ret-on-bus l _
+dropped-noteless r = ret-noteless _
 
 -- a call that is opened is run over the answers
 run-question : {A : Type 0} (b : Bool) (n : ℕ) (p : Prog A) (l : List Answer) → runAsked (question b n (yes p)) l ≡ question b n (yes (run p l))
@@ -65,8 +64,7 @@ script-runs family device lan s r e l = ap (λ x. runAsked x l) e ∙ run-opened
 pub script-count : (port : Port) (s : List ℕ) (l : List Answer) → transfersIn (script port s) l ≡ 1
 unfolding script attempt _>>=_ transfersIn
 script-count port s l =
-    let on = layoutOf (port .family) in
-    ap suc (transfers-none on _ l (bind-on-bus on _ dropped (attempting-on-bus on Pulses (device s) _ (transfer-on-bus on handing (device s) (commands s) none)) (dropped-on-bus on)))
+    ap suc (transfers-none _ l (bind-noteless _ dropped (attempting-noteless Pulses (layoutOf (port .family)) (device s) _ (transfer-noteless handing (layoutOf (port .family)) (device s) (commands s) none)) dropped-noteless))
 
 -- a script has at most 64 commands
 abbrev pub SCRIPT-STEPS : ℕ
@@ -151,13 +149,13 @@ said-any (Read b x Over) s z h = h
 said-any (End o m) s z h = tt
 said-any (Refused q) s z h = h
 
-record LentWithin (t : Lent) (n : ℕ) : Type 0 where
+record LentWithin (t : ScriptAt) (n : ℕ) : Type 0 where
   pub left : ScriptWithin (t .told) n
-  pub unrefused : IfYes (λ p. Unit {0}) (saidLent t)
+  pub unrefused : IfYes (λ p. Unit {0}) (saidAt t)
 
 -- an accepted step takes one access, whichever script it is lent
-lent-falls : (t u : Lent) (a : Answer) (n : ℕ) → followsLent t a u → LentWithin t n → (m : ℕ) × (n ≡ suc m) × LentWithin u m
-unfolding followsLent followsScript saidLent saidScript ScriptWithin CallWithin IfYes
+lent-falls : (t u : ScriptAt) (a : Answer) (n : ℕ) → followsLent t a u → LentWithin t n → (m : ℕ) × (n ≡ suc m) × LentWithin u m
+unfolding followsLent followsScript saidAt saidScript ScriptWithin CallWithin IfYes
 lent-falls t u a n k w = by (t .told) (k .0) (w .left) (w .unrefused)
   where
     on : (port : Port) (c : Attempt) (n : ℕ) → ((m : ℕ) → AttemptWithin (layoutOf (port .family)) c (suc m) → ScriptWithin (u .told) m)
@@ -174,8 +172,8 @@ lent-falls t u a n k w = by (t .told) (k .0) (w .left) (w .unrefused)
     by (End o m) k w y = absurd k
     by (Refused q) k w y = absurd k
 
-lent-over : (t : Lent) → LentWithin t 0 → IfYes (λ p. Asks p → ⊥) (saidLent t)
-unfolding saidLent saidScript ScriptWithin CallWithin IfYes Asks
+lent-over : (t : ScriptAt) → LentWithin t 0 → IfYes (λ p. Asks p → ⊥) (saidAt t)
+unfolding saidAt saidScript ScriptWithin CallWithin IfYes Asks
 lent-over t w = by (t .told) (w .left) (w .unrefused)
   where
     none : (port : Port) (c : Attempt) → AttemptWithin (layoutOf (port .family)) c 0 → ⊥
@@ -189,10 +187,13 @@ lent-over t w = by (t .told) (w .left) (w .unrefused)
     by (End o m) w y = λ k. k
     by (Refused q) w y = absurd y
 
--- from any state, whoever made it, the call takes at most so many accepted steps more, each lent an accepted script of its own,
--- and has ended after as many: the number of the state falls at each
-pub script-lasts-lent : (x : Access) (port : Port) (s : List ℕ) (t : Attempt) (ks : List (Exchange Lent))
-    → AllKept followsLent (record { told = Ask x (Going port t); script = s }) ks → Lasts saidLent (record { told = Ask x (Going port t); script = s }) ks (attemptLeft t)
-unfolding saidLent saidScript ScriptWithin CallWithin IfYes
-script-lasts-lent x port s t ks kept =
-    falls-few saidLent followsLent LentWithin lent-falls lent-over _ ks (attemptLeft t) (record { left = attempt-within (layoutOf (port .family)) t; unrefused = tt }) kept
+-- where n accesses are enough, and of an opening its contract says how many are, the call takes at most n accepted steps more, each
+-- lent an accepted script of its own, and has ended after n
+pub script-lasts-within : (t : ScriptAt) (ks : List (Exchange ScriptAt)) (n : ℕ) → IfYes (λ p. Unit {0}) (saidAt t) → ScriptWithin (t .told) n → AllKept followsLent t ks → Lasts saidAt t ks n
+script-lasts-within t ks n y w kept = falls-few saidAt followsLent LentWithin lent-falls lent-over t ks n (record { left = w; unrefused = y }) kept
+
+-- from any state, whoever made it
+pub script-lasts-lent : (x : Access) (port : Port) (s : List ℕ) (t : Attempt) (ks : List (Exchange ScriptAt))
+    → AllKept followsLent (record { told = Ask x (Going port t); script = s }) ks → Lasts saidAt (record { told = Ask x (Going port t); script = s }) ks (attemptLeft t)
+unfolding saidAt saidScript ScriptWithin CallWithin IfYes
+script-lasts-lent x port s t ks kept = script-lasts-within _ ks (attemptLeft t) tt (attempt-within (layoutOf (port .family)) t) kept

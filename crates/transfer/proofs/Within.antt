@@ -1,4 +1,4 @@
--- The number of a script's call falls at every step, whatever accepted script is lent to it; what numbers the states have.
+-- After every step of a script's call one access fewer is enough, whatever accepted script is lent to it; how many are enough for each state.
 use Prim.Native.Nat.{ℕ, _+_, _<_, _≤_, suc, zero}
 use mathlib.Core.Path.{_≡_, refl}
 use mathlib.Core.List.{List}

@@ -96,13 +96,13 @@ followsScript s (End o m) a u = ⊥
 followsScript s (Refused q) a u = ⊥
 
 -- what was told, and the script that is lent to the step after it
-pub record Lent : Type 0 where
+pub record ScriptAt : Type 0 where
   pub told : ScriptTold
   pub script : List ℕ
 
-unfoldable pub saidLent : Lent → Asked (Prog (Counted (R (Unit {0}))))
-saidLent t = saidScript (t .told) (t .script)
+unfoldable pub saidAt : ScriptAt → Asked (Prog (Counted (R (Unit {0}))))
+saidAt t = saidScript (t .told) (t .script)
 
 -- a step that is lent a script of its own follows, and is accepted
-unfoldable pub followsLent : Lent → Answer → Lent → Type 0
+unfoldable pub followsLent : ScriptAt → Answer → ScriptAt → Type 0
 followsLent t a u = followsScript (t .script) (t .told) a (u .told) × IfYes (λ p. Unit {0}) (saidScript (u .told) (t .script))

@@ -1,5 +1,5 @@
 -- The accesses left of the call of a script, at most, whatever accepted script is lent to each later step: the position rises
--- with every command, and a script has at most 64 bytes. The number of a state falls at every step.
+-- with every command, and a script has at most 64 bytes. One fewer is enough after every accepted step.
 use Prim.Native.Nat.{ℕ, _+_, _*_, _-_, _≤_}
 use Rattle.hardware.specs.Runs.{Ends}
 use Rattle.bus.specs.declared.Layout.{Layout}
@@ -52,7 +52,7 @@ AttemptNextWithin l (AttemptEnd g) n = Unit {0}
 
 unfoldable pub CallWithin : ScriptCall → ℕ → Type 0
 CallWithin (CallGoing port t) n = AttemptWithin (layoutOf (port .family)) t n
-CallWithin Over n = Unit {0}
+CallWithin Over n = ⊥
 
 unfoldable pub ScriptWithin : ScriptTold → ℕ → Type 0
 ScriptWithin (Ask x c) n = CallWithin c n

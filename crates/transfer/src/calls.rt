@@ -14,13 +14,13 @@ use hardware::Outcome;
 use hardware::Port;
 use hardware::Refusal;
 use script::cursor::Judged;
-ghost use Prim.Native.Nat.{ℕ, _≤_, suc};
+ghost use Prim.Native.Nat.{ℕ, _+_, _≤_, suc};
 ghost use mathlib.Core.Path.{_≡_};
 ghost use mathlib.Core.Bool.{true};
 ghost use mathlib.Core.List.{List};
 ghost use lib.ListN.{length};
 ghost use Rattle.hardware.specs.Asked.{yes, validPort};
-ghost use Rattle.hardware.specs.Promise.{Keeps, Bounds};
+ghost use Rattle.hardware.specs.Promise.{Bounds};
 ghost use Rattle.hardware.specs.Prog.{tally, followed};
 ghost use Rattle.hardware.specs.Registers.{outcome};
 ghost use Rattle.bus.specs.Layout.{layoutOf};
@@ -29,7 +29,7 @@ ghost use Rattle.transfer.specs.declared.attempt.Sequence.the-variants.{
 ghost use Rattle.transfer.specs.Transfer.{handing};
 ghost use Rattle.transfer.specs.Attempt.{got, attemptNext, validAttemptNext};
 ghost use Rattle.transfer.specs.Calls.{without, dropped, single, openScript, validScript, steppedScript, stepScript, saidScript, standsScript};
-ghost use Rattle.transfer.specs.Within.{AttemptNextWithin, CallWithin, ScriptWithin};
+ghost use Rattle.transfer.specs.Within.{COMMANDS-STEPS, AttemptNextWithin, CallWithin, ScriptWithin};
 
 pub enum ScriptCall {
     Going(Port, Attempt),
@@ -73,7 +73,7 @@ fn told(port: Port, n: AttemptNext) -> ScriptTold
 }
 
 pub fn script_open(family: u32, device: u16, lan: u32, script: &[u8]) -> ScriptTold
-    ensures { λ r. ⌜ Keeps (saidScript r (now (script .entry)) ≡ openScript family device lan (now (script .entry))) (standsScript r (now (script .entry))) ⌝ }
+    ensures { λ r. ⌜ Bounds (saidScript r (now (script .entry)) ≡ openScript family device lan (now (script .entry))) (standsScript r (now (script .entry))) (ScriptWithin r (1 + COMMANDS-STEPS)) ⌝ }
 {
     match hardware::open_port(family, device, lan) {
         Opening::Port(p) => match script::cursor::judge(script) {

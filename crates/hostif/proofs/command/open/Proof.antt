@@ -1,5 +1,6 @@
 -- `open` meets its contract.
 use Rattle.hardware.specs.Prog.{erase}
+use Rattle.hardware.proofs.Ends.{ends-opened}
 use Rattle.hardware.proofs.Prog.{over}
 use Rattle.hostif.specs.Hostif.{command}
 use Rattle.sync.specs.Resource.{acquireBits}
@@ -19,7 +20,13 @@ acquiring-requires c κs = search needs
 
 returns : tie.Need-returns
 unfolding command acquireBits erase
-returns c = (λ l. over _ _ (c .acquiring .ensures .yields l) (rw (c .before .before .tries .ensures) at (c .before .«open» .ensures .0)), λ m. c .acquiring .ensures .limits m (c .before .«open» .ensures .1 (omega (arith, c .before .before .tries .ensures))))
+returns c =
+    let opened = rw (c .before .before .tries .ensures) at (c .before .«open» .ensures .0) in
+    record {
+      yields = λ l. over _ _ (c .acquiring .ensures .yields l) opened;
+      limits = λ m. c .acquiring .ensures .limits m (c .before .«open» .ensures .1 (omega (arith, c .before .before .tries .ensures)));
+      within = λ m w. c .acquiring .ensures .within m (record { first = w .first; second = w .second; before = ends-opened _ (w .first) (w .first) opened (w .before) (omega arith); after = w .after; few = w .few });
+    }
 
 pub open-spec : {M : Type 1} → statement M
 open-spec = tie.close (tie.spec tries-requires open-requires acquiring-requires returns)

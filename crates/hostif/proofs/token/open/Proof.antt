@@ -19,7 +19,7 @@ commanded-requires c κs = search needs
 
 returns : tie.Need-returns
 unfolding token tokenBlock
-returns c = (rw (← c .before .before .before .header .ensures, ← c .before .before .second .ensures) (over _ _ (c .commanded .ensures .0) (c .before .«open» .ensures .0 _)), c .commanded .ensures .1 (c .before .«open» .ensures .1 2))
+returns c = (rw (← c .before .before .before .header .ensures, ← c .before .before .second .ensures) (over _ _ (c .commanded .ensures .0) (c .before .«open» .ensures .yields _)), c .commanded .ensures .1 (c .before .«open» .ensures .limits 2))
 
 pub open-spec : {M : Type 1} → statement M
 open-spec = tie.close (tie.spec header-requires second-requires open-requires commanded-requires returns)

@@ -327,19 +327,19 @@ pub plain-mux-write-fails : (port : Port) (mask v : ℕ) (l : List Answer) → n
     → (run (acquire port mask) l) .status ≡ waiting (Write ESDP v) → MuxFails (StillTaken (port .family) (hwOf mask)) port mask v l
 plain-mux-write-fails port mask v l plain w = fails port mask v l _ (acquire-leads port mask plain) w
 
--- the register semaphore, the bits of SW_FW_SYNC free and taken, the semaphore given back
-abbrev takenThen : List Answer → List Answer
-takenThen l = Value 0 ∷ Value 0 ∷ Value 0 ∷ Done ∷ Value 0 ∷ Done ∷ Value 0 ∷ Done ∷ Value 0 ∷ l
+-- the register semaphore, SW_FW_SYNC read and written, and the semaphore given back; from, to: what SW_FW_SYNC reads as
+abbrev syncThen : ℕ → ℕ → List Answer → List Answer
+syncThen from to l = Value 0 ∷ Value from ∷ Value from ∷ Done ∷ Value to ∷ Done ∷ Value 0 ∷ Done ∷ Value 0 ∷ l
 
--- it is reached: port 1 of an X552, and reads of 0
+-- it is reached, on a card that reads as it was written: port 1 of an X552, and nothing taken before
 pub mux-reached : (device : ℕ) → (run (acquire (record { family = X552; device = device; lan = 1 }) I2C)
-    (takenThen (Value 0 ∷ []))) .status ≡ waiting (Write ESDP 2)
+    (syncThen 0 0x1800 (Value 0 ∷ []))) .status ≡ waiting (Write ESDP 2)
 unfolding acquire hwOf acquireBits acquireTries lock smbiDone second regsmpDone smbiWatch regsmpWatch poll polled syncSeen against free taken muxed mux unlock backSwsm clearSync setMux change stored changed settled checked written flushed bits bitsX540 is noneOf orErr pick _>>=_ run onAnswer
 mux-reached device = refl
 
 -- and so is the one that switches it back: the bits, with the write behind them; the token's command, to which the firmware says that it is
 -- busy; ESDP
 pub mux-back-reached : (device : ℕ) → (run (acquire (record { family = X552; device = device; lan = 1 }) (I2C + TOKEN))
-    (takenThen (Value 0 ∷ Done ∷ Value 0 ∷ takenThen (Value 0 ∷ Done ∷ Value 1 ∷ Done ∷ Done ∷ Done ∷ Value 4 ∷ Value 0x800000 ∷ Value 0 ∷ Value 0 ∷ Value 0 ∷ Done ∷ Value 0 ∷ Done ∷ Value 0 ∷ Done ∷ Value 0 ∷ Done ∷ Value 2 ∷ [])))) .status ≡ waiting (Write ESDP 0)
+    (syncThen 0 0x1800 (Value 0 ∷ Done ∷ Value 0 ∷ syncThen 0x1800 0x1c00 (Value 0 ∷ Done ∷ Value 1 ∷ Done ∷ Done ∷ Done ∷ Value 4 ∷ Value 0x800000 ∷ syncThen 0x1c00 0x1800 (Done ∷ Value 2 ∷ []))))) .status ≡ waiting (Write ESDP 0)
 unfolding acquire hwOf acquireToken withBits tokenSeen givenBack token tokened tokenStatus tokenBlock tokenSecond header command acquired request hicrRead enabled words start polling completed requested respond headSeen lenOf statusOf wordsOf fill released closed both acquireBits acquireTries releaseBits unmuxed clearing clearBits cleared settle releaseUs lock smbiDone second regsmpDone smbiWatch regsmpWatch poll polled syncSeen against free taken muxed mux unlock backSwsm clearSync setMux change stored changed settled checked raw written flushed bits bitsX540 is noneOf orErr pick _>>=_ run onAnswer
 mux-back-reached device = refl

@@ -11,7 +11,7 @@ use native.Mathlib.Omega.{arith}
 use borrow.Author.Tests.{ltb-true}
 use Rattle.hardware.specs.Prog.{Note, Attempt, Acquires, Acquired, Released, Lapsed, Prog, ret, ask, note, give, erase, _>>=_, pick, attemptsAfter, metered, blank, tally}
 use Rattle.hardware.specs.Asked.{Asked, no, yes, andThen, question, openFamily, openLan, openPort, portOpened, validPort, fits, admitting, Admits}
-use Rattle.hardware.specs.Runs.{Least, run, onAnswer, runAsked, given, answered, transfersIn, meterIn, countedStatus, counted, Awaited, AwaitedIn, leftAfter, leftAskedAfter, Exchange, answersOf, AllKept, led, driven, Refuses, Asks, IfYes, Ends, lastTold, Lasts}
+use Rattle.hardware.specs.Runs.{run, onAnswer, runAsked, given, answered, transfersIn, meterIn, countedStatus, counted, Awaited, AwaitedIn, leftAfter, leftAskedAfter, Exchange, answersOf, AllKept, led, driven, Refuses, Asks, IfYes, Ends, lastTold, Lasts}
 use Rattle.hardware.specs.declared.Access.{Access}
 use Rattle.hardware.specs.declared.Admitted.{Admitted}
 use Rattle.hardware.specs.declared.Admitted.the-variants.{Yes, No}
@@ -219,12 +219,7 @@ ends-now (ask x f) e k = absurd e
 ends-now (note j p) e k = ends-now p e k
 ends-now (give b p) e k = ends-now p e k
 
--- where one fewer is enough after a step, the least number that is enough falls
-pub least-falls : (Before After : ℕ → Type 0) → ((n : ℕ) → Before n → (m : ℕ) × (n ≡ suc m) × After m) → (n m : ℕ) → Least Before n → Least After m → m < n
-unfolding Least
-least-falls Before After falls n m b a = let k = falls n (b .0) in omega (arith, a .1 (k .0) (k .2), k .1)
-
--- A call whose number falls at every step takes at most as many steps, and has ended after as many
+-- A call whose bound is one less after every step takes at most as many steps, and has ended after as many
 pub falls-few : {A Told : Type 0} (said : Told → Asked (Prog A)) (Promise : Told → Answer → Told → Type 0) (Within : Told → ℕ → Type 0)
     → ((t u : Told) (a : Answer) (n : ℕ) → Promise t a u → Within t n → (m : ℕ) × (n ≡ suc m) × Within u m)
     → ((t : Told) → Within t 0 → IfYes (λ p. Asks p → ⊥) (said t))

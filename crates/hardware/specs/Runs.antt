@@ -46,10 +46,6 @@ Ends (ask x f) (suc n) = (a : Answer) → T (fits x a) → Ends (f a) n
 Ends (note m p) n = Ends p n
 Ends (give b p) n = Ends p n
 
--- the least number of which P holds; of `Ends p`: how many answers end the call whatever they are
-unfoldable pub Least : (ℕ → Type 0) → ℕ → Type 0
-Least P n = P n × ((m : ℕ) → P m → n ≤ m)
-
 -- each answer is of the kind that the access it answers awaits; those after the end are not looked at
 unfoldable pub Awaited : {A : Type 0} → Prog A → List Answer → Type 0
 Awaited (ret v) l = Unit {0}

@@ -110,7 +110,7 @@ command-lasts x port s block ks h f k w =
 abbrev withinAt : CommandAt → ℕ → Type 0
 withinAt t n = Accepted (t .told) × ToldWithin (t .told) n
 
-own-falls : (t : CommandTold) (a : Answer) (u : CommandTold) (c : List ℕ) (n : ℕ) → ToldWithin t n → followsOwn t a u c → (m : ℕ) × (n ≡ suc m) × (Accepted u × ToldWithin u m)
+pub own-falls : (t : CommandTold) (a : Answer) (u : CommandTold) (c : List ℕ) (n : ℕ) → ToldWithin t n → followsOwn t a u c → (m : ℕ) × (n ≡ suc m) × (Accepted u × ToldWithin u m)
 unfolding followsOwn ToldWithin CallWithin
 own-falls (CommandAsk x (CommandGoing port s)) a u c zero w k = absurd (command-some port s w)
 own-falls (CommandAsk x (CommandGoing port s)) a u c (suc m) w k = (m, refl, (k .0, k .1 .1 .within m w))

@@ -1,4 +1,4 @@
--- What spreads over the semaphores' calls (`sync/proofs/Spreads.antt`) holds of a firmware command's request and response as well.
+-- What spreads (`hardware/proofs/Spreads.antt`) holds of a firmware command's request and response as well.
 use Prim.Native.Nat.{ℕ, _+_, _*_, suc, zero}
 use mathlib.Core.List.{List, [], _∷_}
 use Rattle.hardware.specs.declared.Access.{Access}

@@ -25,30 +25,30 @@ use Rattle.hostif.specs.Hostif.{setFwri, lenOf, wordsOf}
 use Rattle.hostif.specs.Within.{OpenedWithin, InTurn, HICR-WITHIN, HEAD-WITHIN, RequestWithin, ResponseWithin, RespondWithin, AcquiredWithin, CommandWithin}
 use Rattle.hostif.proofs.Ends.{COMMAND-STEPS, REQUEST-STEPS, RESPOND-STEPS, requestAfter, responseAfter, commandAfter}
 
-pub then-next : {P S Q : ℕ → Type 0} (m : ℕ) → (P 0 → ⊥) → ((k : ℕ) → P (suc k) → S k) → InTurn P Q (suc m) → InTurn S Q m
-then-next {P} {S} {Q} m none next h = by (h .first) (h .before) (h .few)
+pub turn-next : {P S Q : ℕ → Type 0} (m : ℕ) → (P 0 → ⊥) → ((k : ℕ) → P (suc k) → S k) → InTurn P Q (suc m) → InTurn S Q m
+turn-next {P} {S} {Q} m none next h = by (h .first) (h .before) (h .few)
   where
     by : (k : ℕ) → P k → k + h .second ≤ suc m → InTurn S Q m
     by zero v e = absurd (none v)
     by (suc k) v e = record { first = k; second = h .second; before = next k v; after = h .after; few = omega (arith, e) }
 
-then-some : {P Q : ℕ → Type 0} → (P 0 → ⊥) → InTurn P Q 0 → ⊥
-then-some {P} none h = by (h .first) (h .before) (h .few)
+turn-some : {P Q : ℕ → Type 0} → (P 0 → ⊥) → InTurn P Q 0 → ⊥
+turn-some {P} none h = by (h .first) (h .before) (h .few)
   where
     by : (k : ℕ) → P k → k + h .second ≤ 0 → ⊥
     by zero v e = none v
     by (suc k) v e = omega (arith, e)
 
-pub ends-then : {A : Type 0} {q : Prog A} {Q : ℕ → Type 0} (x : Access) (f : Answer → Prog A) (a : Answer) (m : ℕ) → q ≡ f a → fits x a ≡ true → InTurn (Ends (ask x f)) Q (suc m) → InTurn (Ends q) Q m
+pub ends-turn : {A : Type 0} {q : Prog A} {Q : ℕ → Type 0} (x : Access) (f : Answer → Prog A) (a : Answer) (m : ℕ) → q ≡ f a → fits x a ≡ true → InTurn (Ends (ask x f)) Q (suc m) → InTurn (Ends q) Q m
 unfolding Ends
-ends-then x f a m e d h = then-next m (λ z. z) (λ k v. ends-next x f a k e d v) h
+ends-turn x f a m e d h = turn-next m (λ z. z) (λ k v. ends-next x f a k e d v) h
 
 -- what comes second is left
-pub then-ends : {A : Type 0} {P : ℕ → Type 0} (p : Prog A) (m : ℕ) → InTurn P (Ends p) m → Ends p m
-then-ends p m h = ends-more p (h .second) m (h .after) (omega (arith, h .few))
+pub turn-ends : {A : Type 0} {P : ℕ → Type 0} (p : Prog A) (m : ℕ) → InTurn P (Ends p) m → Ends p m
+turn-ends p m h = ends-more p (h .second) m (h .after) (omega (arith, h .few))
 
-pub then-last : {P S Q : ℕ → Type 0} (m : ℕ) → InTurn P (InTurn S Q) m → InTurn S Q m
-then-last m h = record { first = h .after .first; second = h .after .second; before = h .after .before; after = h .after .after; few = omega (arith, h .few, h .after .few) }
+pub turn-last : {P S Q : ℕ → Type 0} (m : ℕ) → InTurn P (InTurn S Q) m → InTurn S Q m
+turn-last m h = record { first = h .after .first; second = h .after .second; before = h .after .before; after = h .after .after; few = omega (arith, h .few, h .after .few) }
 
 -- a state awaits an access
 pub request-some : (s : Request) → RequestWithin s 0 → ⊥
@@ -66,9 +66,9 @@ response-some (Rest head left) h = omega (arith, h)
 
 pub command-some : (port : Port) (s : Command) → CommandWithin port s 0 → ⊥
 unfolding CommandWithin Ends acquireBitsNext releaseBitsNext
-command-some port (Acquiring t) h = then-some (λ z. z) h
-command-some port (Requesting t) h = then-some (request-some t) h
-command-some port (Responding t) h = then-some (response-some t) h
+command-some port (Acquiring t) h = turn-some (λ z. z) h
+command-some port (Requesting t) h = turn-some (request-some t) h
+command-some port (Responding t) h = turn-some (response-some t) h
 command-some port (Releasing t s) h = h
 
 -- a response has at most 64 words after its head

@@ -1,4 +1,4 @@
--- What spreads over the semaphores' calls holds of the wait for the grant as well.
+-- What spreads (`hardware/proofs/Spreads.antt`) holds of the wait for the grant as well.
 use Prim.Native.Nat.{ℕ, suc, zero}
 use mathlib.Core.Bool.{Bool}
 use Rattle.hardware.specs.declared.Access.{Access}

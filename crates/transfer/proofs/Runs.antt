@@ -149,12 +149,12 @@ said-any (Read b x Over) s z h = h
 said-any (End o m) s z h = tt
 said-any (Refused q) s z h = h
 
-record LentWithin (t : ScriptAt) (n : ℕ) : Type 0 where
+pub record LentWithin (t : ScriptAt) (n : ℕ) : Type 0 where
   pub left : ScriptWithin (t .told) n
   pub unrefused : IfYes (λ p. Unit {0}) (saidAt t)
 
 -- an accepted step takes one access, whichever script it is lent
-lent-falls : (t u : ScriptAt) (a : Answer) (n : ℕ) → followsLent t a u → LentWithin t n → (m : ℕ) × (n ≡ suc m) × LentWithin u m
+pub lent-falls : (t u : ScriptAt) (a : Answer) (n : ℕ) → followsLent t a u → LentWithin t n → (m : ℕ) × (n ≡ suc m) × LentWithin u m
 unfolding followsLent followsScript saidAt saidScript ScriptWithin CallWithin IfYes
 lent-falls t u a n k w = by (t .told) (k .0) (w .left) (w .unrefused)
   where

@@ -6,7 +6,7 @@ use Rattle.hardware.proofs.Prog.{going}
 use Rattle.hostif.specs.Hostif.{accessCommand, accessRequest, acquired, both, closed, commandNext, hicrRead, released, request, requested, respond, restCommand, restRequest, validCommand, validCommandNext, validRequest}
 use Rattle.sync.specs.Resource.{acquireBitsNext, validAcquireBitsNext}
 use Rattle.hostif.specs.Within.{CommandNextWithin, CommandWithin}
-use Rattle.hostif.proofs.Within.{then-last}
+use Rattle.hostif.proofs.Within.{turn-last}
 use borrow.Author.Needs.{needs}
 use mathlib.Core.Path.{refl}
 use Rattle.hostif.proofs.command.acquiring.Statement.{statement}
@@ -30,7 +30,7 @@ returns c = record { yields = λ l. rw (c .before .n .given .1) (going _ _ _); l
 
 returns-2 : tie.Need-returns-2
 unfolding accessRequest restRequest commandNext accessCommand restCommand acquireBitsNext followed _>>=_ erase word outcome byte flag hicrRead request respond both closed released requested acquired change accessUpdate restUpdate validCommand validCommandNext validRequest CommandNextWithin CommandWithin
-returns-2 c = record { yields = λ l. rw (c .before .before .before .n2 .given .1, c .enum-told .given .1); limits = λ m h. refl; within = λ m h. then-last m h }
+returns-2 c = record { yields = λ l. rw (c .before .before .before .n2 .given .1, c .enum-told .given .1); limits = λ m h. refl; within = λ m h. turn-last m h }
 
 returns-3 : tie.Need-returns-3
 unfolding commandNext acquireBitsNext followed _>>=_ erase word outcome byte flag hicrRead request respond both closed released requested acquired change accessUpdate restUpdate validCommand validCommandNext CommandNextWithin

@@ -4,7 +4,7 @@ use Rattle.hardware.specs.Prog.{_>>=_, erase}
 use Rattle.hardware.specs.Registers.{byte, flag, outcome, word}
 use Rattle.hostif.specs.Hostif.{accessCommand, accessResponse, acquired, both, closed, commandNext, hicrRead, released, request, requested, respond, restCommand, restResponse, validCommand, validCommandNext, validResponse}
 use Rattle.hostif.specs.Within.{CommandNextWithin, CommandWithin, ResponseWithin}
-use Rattle.hostif.proofs.Within.{then-ends}
+use Rattle.hostif.proofs.Within.{turn-ends}
 use borrow.Author.Needs.{needs}
 use mathlib.Core.Path.{refl}
 use Rattle.hostif.proofs.command.request_done.Statement.{statement}
@@ -25,7 +25,7 @@ returns c = record { yields = λ l. rw (c .before .w .given .1); limits = λ m. 
 
 returns-2 : tie.Need-returns-2
 unfolding word outcome byte flag hicrRead request respond both closed released requested acquired change accessUpdate restUpdate validCommand
-returns-2 c = record { yields = λ l. rw (c .before .before .w2 .given .1) (c .release .ensures .yields l); limits = c .release .ensures .limits; within = λ m h. c .release .ensures .within m (then-ends _ m h) }
+returns-2 c = record { yields = λ l. rw (c .before .before .w2 .given .1) (c .release .ensures .yields l); limits = c .release .ensures .limits; within = λ m h. c .release .ensures .within m (turn-ends _ m h) }
 
 pub request-done-spec : {M : Type 1} → statement M
 request-done-spec = tie.close (tie.spec enum-known-w enum-known-w-2 release-requires returns returns-2)

@@ -5,7 +5,7 @@ use Rattle.hardware.specs.Registers.{byte, flag, outcome, word}
 use Rattle.hardware.proofs.Prog.{going}
 use Rattle.hostif.specs.Hostif.{accessCommand, acquired, both, closed, commandNext, hicrRead, released, request, requestNext, requested, respond, restCommand, validCommand, validCommandNext, validRequestNext}
 use Rattle.hostif.specs.Within.{CommandNextWithin, CommandWithin, RequestNextWithin}
-use Rattle.hostif.proofs.Within.{then-last}
+use Rattle.hostif.proofs.Within.{turn-last}
 use borrow.Author.Needs.{needs}
 use Rattle.hostif.proofs.command.requesting.Statement.{statement}
 use Rattle.hostif.proofs.command.requesting.Tie as tie
@@ -25,7 +25,7 @@ returns c = record { yields = λ l. rw (c .before .n .given .1) (going _ _ _); l
 
 returns-2 : tie.Need-returns-2
 unfolding requestNext followed _>>=_ word outcome byte flag hicrRead request respond both closed released requested acquired change accessUpdate restUpdate validCommand
-returns-2 c = record { yields = λ l. rw (c .before .before .n2 .given .1) (c .request-done .ensures .yields l); limits = λ m h. c .request-done .ensures .limits m; within = λ m h. c .request-done .ensures .within m (then-last m h) }
+returns-2 c = record { yields = λ l. rw (c .before .before .n2 .given .1) (c .request-done .ensures .yields l); limits = λ m h. c .request-done .ensures .limits m; within = λ m h. c .request-done .ensures .within m (turn-last m h) }
 
 pub requesting-spec : {M : Type 1} → statement M
 requesting-spec = tie.close (tie.spec enum-known-n enum-known-n-2 request-done-requires returns returns-2)

@@ -5,7 +5,7 @@ use Rattle.hardware.specs.Registers.{byte, flag, outcome, word}
 use Rattle.hardware.proofs.Prog.{going}
 use Rattle.hostif.specs.Hostif.{accessCommand, acquired, both, closed, commandNext, hicrRead, released, request, requested, respond, responseNext, restCommand, validCommand, validCommandNext, validResponseNext}
 use Rattle.hostif.specs.Within.{CommandNextWithin, CommandWithin, ResponseNextWithin}
-use Rattle.hostif.proofs.Within.{then-ends}
+use Rattle.hostif.proofs.Within.{turn-ends}
 use borrow.Author.Needs.{needs}
 use Rattle.hostif.proofs.command.responding.Statement.{statement}
 use Rattle.hostif.proofs.command.responding.Tie as tie
@@ -25,7 +25,7 @@ returns c = record { yields = λ l. rw (c .before .n .given .1) (going _ _ _); l
 
 returns-2 : tie.Need-returns-2
 unfolding responseNext followed _>>=_ word outcome byte flag hicrRead request respond both closed released requested acquired change accessUpdate restUpdate validCommand
-returns-2 c = record { yields = λ l. rw (c .before .before .n2 .given .1) (c .release .ensures .yields l); limits = λ m h. c .release .ensures .limits m; within = λ m h. c .release .ensures .within m (then-ends _ m h) }
+returns-2 c = record { yields = λ l. rw (c .before .before .n2 .given .1) (c .release .ensures .yields l); limits = λ m h. c .release .ensures .limits m; within = λ m h. c .release .ensures .within m (turn-ends _ m h) }
 
 pub responding-spec : {M : Type 1} → statement M
 responding-spec = tie.close (tie.spec enum-known-n enum-known-n-2 release-requires returns returns-2)

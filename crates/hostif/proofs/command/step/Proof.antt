@@ -1,6 +1,6 @@
 -- `step` meets its contract.
 use Rattle.hardware.proofs.Ends.{ends-next}
-use Rattle.hostif.proofs.Within.{ends-then, request-some, response-some, then-next}
+use Rattle.hostif.proofs.Within.{ends-turn, request-some, response-some, turn-next}
 use Rattle.hostif.specs.Hostif.{accessCommand, restCommand, validCommand}
 use Rattle.hostif.specs.Within.{CommandWithin}
 use Rattle.sync.specs.Resource.{acquireBitsNext, releaseBitsNext}
@@ -48,18 +48,18 @@ releasing-requires c κs = search needs
 
 returns : tie.Need-returns
 unfolding restCommand validCommand CommandWithin accessCommand acquireBitsNext
-returns c = record { yields = rw (c .before .before .before .s .given .1) (over _ _ (c .acquiring .ensures .yields _) (c .before .step .ensures .0)); limits = λ v. c .acquiring .ensures .limits _ (c .before .step .ensures .1 (rw (c .before .before .before .s .given .1) at v)); within = λ m f w. c .acquiring .ensures .within m (ends-then _ _ _ m (c .before .step .ensures .0) (rw (c .before .before .before .s .given .1) at f) (rw (c .before .before .before .s .given .1) at w)) }
+returns c = record { yields = rw (c .before .before .before .s .given .1) (over _ _ (c .acquiring .ensures .yields _) (c .before .step .ensures .0)); limits = λ v. c .acquiring .ensures .limits _ (c .before .step .ensures .1 (rw (c .before .before .before .s .given .1) at v)); within = λ m f w. c .acquiring .ensures .within m (ends-turn _ _ _ m (c .before .step .ensures .0) (rw (c .before .before .before .s .given .1) at f) (rw (c .before .before .before .s .given .1) at w)) }
 
 returns-2 : tie.Need-returns-2
 unfolding restCommand validCommand CommandWithin accessCommand
-returns-2 c = record { yields = rw (c .before .before .before .s2 .given .1) (over _ _ (c .requesting .ensures .yields _) (c .before .step2 .ensures .yields _ refl)); limits = λ v. c .requesting .ensures .limits _ (c .before .step2 .ensures .limits (rw (c .before .before .before .s2 .given .1) at v)); within = λ m f w. c .requesting .ensures .within m (then-next m (request-some _) (λ k v. c .before .step2 .ensures .within _ k (rw (c .before .before .before .s2 .given .1) at f) v) (rw (c .before .before .before .s2 .given .1) at w)) }
+returns-2 c = record { yields = rw (c .before .before .before .s2 .given .1) (over _ _ (c .requesting .ensures .yields _) (c .before .step2 .ensures .yields _ refl)); limits = λ v. c .requesting .ensures .limits _ (c .before .step2 .ensures .limits (rw (c .before .before .before .s2 .given .1) at v)); within = λ m f w. c .requesting .ensures .within m (turn-next m (request-some _) (λ k v. c .before .step2 .ensures .within _ k (rw (c .before .before .before .s2 .given .1) at f) v) (rw (c .before .before .before .s2 .given .1) at w)) }
 
 same-length : tie.Need-same-length
 same-length c = search needs
 
 returns-3 : tie.Need-returns-3
 unfolding restCommand validCommand CommandWithin
-returns-3 c = record { yields = rw (c .before .before .before .before .before .before .s3 .given .1) (over _ _ (c .responding .ensures .yields _) (c .before .before .before .step3 .ensures .yields)); limits = λ v. c .responding .ensures .limits _ (c .before .before .before .step3 .ensures .limits (rw (c .before .before .before .before .before .before .s3 .given .1) at v)); within = λ m f w. c .responding .ensures .within m (then-next m (response-some _) (c .before .before .before .step3 .ensures .within) (rw (c .before .before .before .before .before .before .s3 .given .1) at w)) }
+returns-3 c = record { yields = rw (c .before .before .before .before .before .before .s3 .given .1) (over _ _ (c .responding .ensures .yields _) (c .before .before .before .step3 .ensures .yields)); limits = λ v. c .responding .ensures .limits _ (c .before .before .before .step3 .ensures .limits (rw (c .before .before .before .before .before .before .s3 .given .1) at v)); within = λ m f w. c .responding .ensures .within m (turn-next m (response-some _) (c .before .before .before .step3 .ensures .within) (rw (c .before .before .before .before .before .before .s3 .given .1) at w)) }
 
 returns-4 : tie.Need-returns-4
 unfolding restCommand validCommand CommandWithin accessCommand releaseBitsNext

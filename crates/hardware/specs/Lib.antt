@@ -1,4 +1,5 @@
 pub mod Promise
+pub mod Lent
 pub mod Prog
 pub mod Marks
 pub mod Numbers

@@ -23,7 +23,8 @@ use Rattle.hostif.specs.declared.calls.TokenCall.the-variants.{Going as 
 use Rattle.hostif.specs.declared.calls.TokenTold.{TokenTold}
 use Rattle.hostif.specs.declared.calls.TokenTold.the-variants.{Ask as TokenAsk, End as TokenEnd, Refused as TokenRefused}
 use Rattle.hostif.specs.Hostif.{Left, command, restCommand, token, restToken}
-use Rattle.hostif.specs.Calls.{goes, lent, blockFits, openCommand, stepped, stepCommand, saidCommand, standsCommand, openToken, stepToken, saidToken, standsToken, followsToken, CommandAt, asked, saidAt, followsCommand, followsBlock, CallWithin, ToldWithin, Accepted, followsOwn, followsLent}
+use Rattle.hostif.specs.Calls.{blockFits, openCommand, stepped, stepCommand, saidCommand, standsCommand, openToken, stepToken, saidToken, standsToken, followsToken, CommandAt, saidAt, followsCommand, followsBlock, CallWithin, ToldWithin, Accepted, followsOwn, followsLent}
+use Rattle.hardware.specs.Lent.{goes, lent, asked}
 use Rattle.hostif.proofs.Ends.{COMMAND-STEPS, command-ends, TOKEN-STEPS, token-ends, tokenAfter, token-rest-ends, commandAfter, command-rest-ends}
 use Rattle.hostif.proofs.Within.{command-some, command-within}
 use Rattle.hardware.specs.Promise.{Keeps}

@@ -23,23 +23,15 @@ use Rattle.hostif.specs.declared.calls.TokenTold.{TokenTold}
 use Rattle.hostif.specs.declared.calls.TokenTold.the-variants.{Ask as TokenAsk, End as TokenEnd, Refused as TokenRefused}
 use Rattle.hostif.specs.Hostif.{Left, command, accessCommand, restCommand, validCommand, token, accessToken, restToken, validToken}
 use Rattle.hostif.specs.Within.{CommandWithin}
+use Rattle.hardware.specs.Lent.{Lent, refused, goes, lent, asked}
 use Rattle.hardware.specs.Promise.{Keeps, Bounds}
-
--- a call with a lent block: refused with a number, the block as it is now, or gone on with
-pub data Lent : Type 0 where
-  refused : ℕ → List ℕ → Lent
-  goes : Prog Left → Lent
-
-unfoldable pub lent : List ℕ → Asked (Prog Left) → Lent
-lent block (no n) = refused n block
-lent block (yes p) = goes p
 
 -- Has the block 1 to 64 words?
 unfoldable pub blockFits : List ℕ → Bool
 blockFits block = pick (leb 1 (length block)) (leb (length block) 64) false
 
 -- `command`: 1 and 2, then 8
-unfoldable pub openCommand : ℕ → ℕ → ℕ → List ℕ → Lent
+unfoldable pub openCommand : ℕ → ℕ → ℕ → List ℕ → Lent Left
 openCommand family device lan block =
     lent block (andThen (openPort family device lan) (λ port. question (blockFits block) 8 (yes (erase (command port block)))))
 
@@ -53,11 +45,11 @@ stepped (CommandGoing port t) block a =
     admitting (validCommandCall port (length block) t) (accessCommand port t block) a (yes (erase (restCommand port t block a)))
 stepped CommandOver block a = no 11
 
-unfoldable pub stepCommand : CommandCall → List ℕ → Answer → Lent
+unfoldable pub stepCommand : CommandCall → List ℕ → Answer → Lent Left
 stepCommand s block a = lent block (question (blockFits block) 8 (stepped s block a))
 
 -- what was told, with the block as it is then
-unfoldable pub saidCommand : CommandTold → List ℕ → Lent
+unfoldable pub saidCommand : CommandTold → List ℕ → Lent Left
 saidCommand (CommandAsk x (CommandGoing port t)) block = goes (ask x (λ a. erase (restCommand port t block a)))
 saidCommand (CommandAsk x CommandOver) block = refused 0 block
 saidCommand (CommandEnd b) block = goes (ret (record { status = byte b; block = block }))
@@ -74,10 +66,6 @@ standsCommand (CommandRefused q) block = Unit {0}
 pub record CommandAt : Type 0 where
   pub told : CommandTold
   pub block : List ℕ
-
-unfoldable pub asked : Lent → Asked (Prog Left)
-asked (refused n block) = no n
-asked (goes p) = yes p
 
 abbrev pub saidAt : CommandAt → Asked (Prog Left)
 saidAt t = asked (saidCommand (t .told) (t .block))

@@ -21,7 +21,8 @@ ghost use Rattle.hardware.specs.Promise.{Keeps, Bounds};
 ghost use Rattle.hardware.specs.Prog.{erase};
 ghost use Rattle.hostif.specs.Hostif.{commandNext, accessCommand, restCommand, validCommand, validCommandNext, tokenNext, validTokenNext};
 ghost use Rattle.hostif.specs.Within.{OpenedWithin, CommandWithin, CommandNextWithin};
-ghost use Rattle.hostif.specs.Calls.{CallWithin, ToldWithin, goes, lent, blockFits, openCommand, validCommandCall, stepped, stepCommand, saidCommand, standsCommand, openToken, validTokenCall, stepToken, saidToken, standsToken};
+ghost use Rattle.hostif.specs.Calls.{CallWithin, ToldWithin, blockFits, openCommand, validCommandCall, stepped, stepCommand, saidCommand, standsCommand, openToken, validTokenCall, stepToken, saidToken, standsToken};
+ghost use Rattle.hardware.specs.Lent.{goes, lent};
 
 pub enum CommandCall {
     Going(Port, Command),

@@ -1,7 +1,8 @@
 -- `command_on` meets its contract.
 use Rattle.hardware.proofs.Laws.{admits-fits, admits-no, admits-valid, admits-yes, both-true}
 use Rattle.hardware.specs.Asked.{validPort}
-use Rattle.hostif.specs.Calls.{ToldWithin, lent, saidCommand, standsCommand, stepped, validCommandCall}
+use Rattle.hostif.specs.Calls.{ToldWithin, saidCommand, standsCommand, stepped, validCommandCall}
+use Rattle.hardware.specs.Lent.{lent}
 use borrow.Author.Needs.{needs}
 use mathlib.Core.Path.{_∙_, ap, sym}
 use Rattle.hostif.proofs.calls.command_on.Statement.{statement}

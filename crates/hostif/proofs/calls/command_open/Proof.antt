@@ -2,7 +2,8 @@
 use Rattle.hardware.proofs.Laws.{opened-valid}
 use Rattle.hardware.specs.declared.Port.{Port}
 use Rattle.hardware.specs.Asked.{yes, andThen, portOpened, question}
-use Rattle.hostif.specs.Calls.{ToldWithin, goes, lent, openCommand, saidCommand, standsCommand}
+use Rattle.hostif.specs.Calls.{ToldWithin, openCommand, saidCommand, standsCommand}
+use Rattle.hardware.specs.Lent.{goes, lent}
 use Rattle.hostif.specs.Within.{OpenedWithin}
 use borrow.Author.Needs.{needs}
 use mathlib.Core.Path.{_≡_, _∙_, ap, refl, subst, sym}

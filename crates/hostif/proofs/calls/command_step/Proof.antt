@@ -1,7 +1,8 @@
 -- `command_step` meets its contract.
 use Rattle.hardware.specs.Asked.{question}
 use Rattle.hostif.proofs.Laws.{block-fits}
-use Rattle.hostif.specs.Calls.{CallWithin, ToldWithin, lent, saidCommand, standsCommand, stepCommand, stepped}
+use Rattle.hostif.specs.Calls.{CallWithin, ToldWithin, saidCommand, standsCommand, stepCommand, stepped}
+use Rattle.hardware.specs.Lent.{lent}
 use borrow.Author.Needs.{needs}
 use mathlib.Core.Path.{_∙_, refl, sym}
 use Rattle.hostif.proofs.calls.command_step.Statement.{statement}

@@ -1,5 +1,5 @@
 -- `go` meets its contract.
-use Rattle.hostif.specs.Calls.{goes}
+use Rattle.hardware.specs.Lent.{goes}
 use Rattle.hostif.specs.Hostif.{validCommandNext}
 use borrow.Author.Needs.{needs}
 use mathlib.Core.Path.{_∙_, ap}

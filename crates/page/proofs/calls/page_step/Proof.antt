@@ -1,0 +1,35 @@
+-- `page_step` meets its contract.
+use Rattle.hardware.specs.Asked.{question}
+use Rattle.hardware.specs.Lent.{lent}
+use Rattle.page.specs.Calls.{bufferFits, saidPage, standsPage, stepPage, steppedPage}
+use borrow.Author.Needs.{needs}
+use borrow.Author.Tests.{le-leb, lt-leb}
+use Rattle.page.proofs.calls.page_step.Statement.{statement}
+use Rattle.page.proofs.calls.page_step.Tie as tie
+
+returns : tie.Need-returns
+unfolding stepPage lent question bufferFits saidPage standsPage
+returns c = record { yields = rw (lt-leb _ _ (c .if1 .taken)); limits = tt }
+
+enum-known-s : tie.Need-enum-known-s
+enum-known-s c = search needs
+
+page-on-requires : tie.Need-page-on-requires
+page-on-requires c κs = search needs
+
+enum-told : tie.Need-enum-told
+enum-told c = search needs
+
+same-length : tie.Need-same-length
+same-length c = search needs
+
+returns-2 : tie.Need-returns-2
+unfolding stepPage question bufferFits
+returns-2 c = record { yields = rw (le-leb _ _ (c .before .before .before .before .before .before .before .if1 .left), c .before .before .before .before .before .s .given .1) (c .before .before .page-on .ensures .yields); limits = c .before .before .page-on .ensures .limits }
+
+returns-3 : tie.Need-returns-3
+unfolding stepPage lent question bufferFits steppedPage saidPage standsPage
+returns-3 c = record { yields = rw (le-leb _ _ (c .before .before .if1 .left), c .enum-told .given .1); limits = tt }
+
+pub page-step-spec : {M : Type 1} → statement M
+page-step-spec = tie.close (tie.spec returns enum-known-s page-on-requires enum-told same-length returns-2 returns-3)

@@ -1,0 +1,86 @@
+-- What the public calls of a page yield: a refusal by its number, or what is left of the call, with the meter beside its
+-- result, and what the buffer then holds.
+use Prim.Native.Nat.{ℕ}
+use mathlib.Core.Path.{_≡_}
+use mathlib.Core.Bool.{Bool, true, false}
+use mathlib.Core.List.{List}
+use lib.Dec.{leb}
+use lib.ListN.{length}
+use Rattle.hardware.specs.declared.Answer.{Answer}
+use Rattle.hardware.specs.declared.Meter.{Meter}
+use Rattle.hardware.specs.declared.Port.{Port}
+use Rattle.hardware.specs.Asked.{Asked, no, yes, question, andThen, openPort, validPort, admitting}
+use Rattle.hardware.specs.Lent.{Lent, refused, goes, lent, asked}
+use Rattle.hardware.specs.Numbers.{refusalNumber}
+use Rattle.hardware.specs.Promise.{Keeps}
+use Rattle.hardware.specs.Prog.{Prog, ret, ask, Counted, blank, tally, pick}
+use Rattle.i2c.specs.I2c.{standard}
+use Rattle.page.specs.declared.walk.Form.{Form}
+use Rattle.page.specs.declared.walk.Form.the-variants.{Sff8472, Sff8636}
+use Rattle.page.specs.declared.walk.Page.{Page}
+use Rattle.page.specs.declared.calls.PageCall.{PageCall}
+use Rattle.page.specs.declared.calls.PageCall.the-variants.{Going, Over}
+use Rattle.page.specs.declared.calls.PageTold.{PageTold}
+use Rattle.page.specs.declared.calls.PageTold.the-variants.{Ask, End, Refused}
+use Rattle.page.specs.Page.{Filled, page, pagedOf}
+use Rattle.page.specs.Walk.{accessPage, restPage, validPage}
+
+-- Has the buffer the bytes of a page?
+unfoldable pub bufferFits : List ℕ → Bool
+bufferFits buffer = leb 96 (length buffer)
+
+-- 4 and 9
+unfoldable pub openForm : Form → ℕ → List ℕ → Port → Asked (Prog (Counted Filled))
+openForm form attempts buffer port =
+    question (leb attempts 255) 4 (question (bufferFits buffer) 9 (yes (tally blank (page standard port form attempts buffer))))
+
+-- 1, 2, 4 and 9
+unfoldable pub openPage : ℕ → ℕ → ℕ → ℕ → List ℕ → Lent (Counted Filled)
+openPage family device lan attempts buffer = lent buffer (andThen (openPort family device lan) (openForm Sff8472 attempts buffer))
+
+unfoldable pub openQsfpPage : ℕ → ℕ → ℕ → ℕ → List ℕ → Lent (Counted Filled)
+openQsfpPage family device lan attempts buffer = lent buffer (andThen (openPort family device lan) (openForm Sff8636 attempts buffer))
+
+unfoldable pub validCall : Port → Form → ℕ → Meter → Page → Bool
+validCall port form tries m s = pick (validPort port) (validPage port form tries m s) false
+
+-- a step: 9, then 10, 11, 12. The finished state is well formed
+unfoldable pub steppedPage : PageCall → List ℕ → Answer → Asked (Prog (Counted Filled))
+steppedPage (Going port q form tries m s) buffer a =
+    admitting (validCall port form tries m s) (accessPage port s) a (yes (tally m (restPage q port form tries s buffer a)))
+steppedPage Over buffer a = no 11
+
+unfoldable pub stepPage : PageCall → List ℕ → Answer → Lent (Counted Filled)
+stepPage s buffer a = lent buffer (question (bufferFits buffer) 9 (steppedPage s buffer a))
+
+-- what was told, with the buffer as it is then; 0 is none of the papers' numbers: nothing asks with a finished state
+unfoldable pub saidPage : PageTold → List ℕ → Lent (Counted Filled)
+saidPage (Ask x (Going port q form tries m s)) buffer = goes (ask x (λ a. tally m (restPage q port form tries s buffer a)))
+saidPage (Ask x Over) buffer = refused 0 buffer
+saidPage (End p m) buffer = goes (ret (record { meter = m; result = record { result = pagedOf p; buffer = buffer } }))
+saidPage (Refused q) buffer = refused (refusalNumber q) buffer
+
+-- a state to go on from comes with the access it awaits, and passes question 10
+unfoldable pub standsPage : PageTold → Type 0
+standsPage (Ask x (Going port q form tries m s)) = (x ≡ accessPage port s) × (validCall port form tries m s ≡ true)
+standsPage (Ask x Over) = ⊥
+standsPage (End p m) = Unit {0}
+standsPage (Refused q) = Unit {0}
+
+-- a telling with the buffer as it is then, which is lent to the next step
+pub record PageAt : Type 0 where
+  pub told : PageTold
+  pub buffer : List ℕ
+
+abbrev pub saidAt : PageAt → Asked (Prog (Counted Filled))
+saidAt t = asked (saidPage (t .told) (t .buffer))
+
+-- what a step told, u, with the buffer c, follows what was told before it, with the buffer b: as the step promises. A lent
+-- buffer keeps its length
+unfoldable pub followsBuffer : PageTold → List ℕ → Answer → PageTold → List ℕ → Type 0
+followsBuffer (Ask x s) b a u c = Keeps (saidPage u c ≡ stepPage s b a) (standsPage u) × (length c ≡ length b)
+followsBuffer (End p m) b a u c = ⊥
+followsBuffer (Refused q) b a u c = ⊥
+
+abbrev pub followsPage : PageAt → Answer → PageAt → Type 0
+followsPage t a u = followsBuffer (t .told) (t .buffer) a (u .told) (u .buffer)

@@ -1,0 +1,147 @@
+// The stepwise calls of a page. Its buffer, of at least 96 bytes, is lent at the opening and at every step.
+use crate::sums::Paged;
+use crate::walk::Form;
+use crate::walk::Page;
+use crate::walk::PageNext;
+use hardware::Access;
+use hardware::Admitted;
+use hardware::Answer;
+use hardware::BLANK;
+use hardware::Meter;
+use hardware::Opening;
+use hardware::Port;
+use hardware::Refusal;
+use transfer::attempt::Sequence;
+ghost use Prim.Native.Nat.{ℕ, _<_, _≤_};
+ghost use mathlib.Core.Path.{_≡_};
+ghost use mathlib.Core.Bool.{true};
+ghost use mathlib.Core.List.{List};
+ghost use lib.ListN.{length};
+ghost use Rattle.hardware.specs.Asked.{validPort};
+ghost use Rattle.hardware.specs.Lent.{lent, goes};
+ghost use Rattle.hardware.specs.Marks.{FULL};
+ghost use Rattle.hardware.specs.Promise.{Keeps};
+ghost use Rattle.hardware.specs.Prog.{tally};
+ghost use Rattle.page.specs.Walk.{pageNext, validPageNext};
+ghost use Rattle.page.specs.Calls.{openForm, validCall, steppedPage, openPage, openQsfpPage, stepPage, saidPage, standsPage};
+
+// Going: with the clearing sequence of its transfers, which page it is, the attempts for each byte, and the meter.
+pub enum PageCall {
+    Going(Port, Sequence, Form, u8, Meter, Page),
+    Over,
+}
+
+// The end: how the page ended, and the meter; the finished state is `Over`.
+pub enum PageTold {
+    Ask(Access, PageCall),
+    End(Paged, Meter),
+    Refused(Refusal),
+}
+
+fn told(port: Port, q: Sequence, form: Form, tries: u8, m: Meter, n: PageNext) -> PageTold
+    ensures { λ t. ⌜ Keeps ((l : List ℕ) → m .transfers < FULL → saidPage t l ≡ goes (tally m (pageNext q port form tries n l))) (validPort port ≡ true → validPageNext port form tries m n ≡ true → standsPage t) ⌝ }
+{
+    match n {
+        PageNext::Going(k, s) => PageTold::Ask(
+            crate::walk::access(port, s),
+            PageCall::Going(port, q, form, tries, hardware::meter_on(k, m), s),
+        ),
+        PageNext::End(p) => PageTold::End(p, m),
+    }
+}
+
+// Questions 4 and 9, where no sequence is named.
+fn opened(port: Port, form: Form, attempts: u32, buffer: &[u8]) -> PageTold
+    ensures { λ t. ⌜ Keeps (saidPage t (now (buffer .entry)) ≡ lent (now (buffer .entry)) (openForm form attempts (now (buffer .entry)) port)) (validPort port ≡ true → standsPage t) ⌝ }
+{
+    if 255 < attempts {
+        return PageTold::Refused(Refusal::Attempts);
+    }
+    if buffer.len() < 96 {
+        return PageTold::Refused(Refusal::Buffer);
+    }
+    let q = i2c::standard();
+    let tries = attempts as u8;
+    told(
+        port,
+        q,
+        form,
+        tries,
+        BLANK,
+        crate::walk::begin(port, q, form, tries, 95),
+    )
+}
+
+// SFF-8472's page. Questions 1, 2, 4 and 9.
+pub fn page_open(family: u32, device: u16, lan: u32, attempts: u32, buffer: &[u8]) -> PageTold
+    ensures { λ t. ⌜ Keeps (saidPage t (now (buffer .entry)) ≡ openPage family device lan attempts (now (buffer .entry))) (standsPage t) ⌝ }
+{
+    match hardware::open_port(family, device, lan) {
+        Opening::Port(p) => opened(p, Form::Sff8472, attempts, buffer),
+        Opening::Refused(q) => PageTold::Refused(q),
+    }
+}
+
+// SFF-8636's.
+pub fn qsfp_page_open(family: u32, device: u16, lan: u32, attempts: u32, buffer: &[u8]) -> PageTold
+    ensures { λ t. ⌜ Keeps (saidPage t (now (buffer .entry)) ≡ openQsfpPage family device lan attempts (now (buffer .entry))) (standsPage t) ⌝ }
+{
+    match hardware::open_port(family, device, lan) {
+        Opening::Port(p) => opened(p, Form::Sff8636, attempts, buffer),
+        Opening::Refused(q) => PageTold::Refused(q),
+    }
+}
+
+fn valid(port: Port, form: Form, tries: u8, m: Meter, t: Page) -> bool
+    ensures { λ b. ⌜ b ≡ validCall port form tries m t ⌝ }
+{
+    if hardware::valid_port(port) {
+        return crate::walk::valid(port, form, tries, m, t);
+    }
+    false
+}
+
+fn page_on(
+    port: Port,
+    q: Sequence,
+    form: Form,
+    tries: u8,
+    m: Meter,
+    t: Page,
+    buffer: &mut [u8],
+    a: Answer,
+) -> PageTold
+    requires { ⌜ 96 ≤ length (now buffer) ⌝ }
+    ensures { λ r. ⌜ Keeps (saidPage r (now (buffer .exit)) ≡ lent (now (buffer .entry)) (steppedPage (PageCall.Going port q form tries m t) (now (buffer .entry)) a)) (standsPage r) ⌝ }
+{
+    let ok = valid(port, form, tries, m, t);
+    match hardware::admit(ok, crate::walk::access(port, t), a) {
+        Admitted::Yes => {
+            let n = crate::walk::step(port, q, form, tries, t, buffer, a);
+            told(port, q, form, tries, m, n)
+        }
+        Admitted::No(n) => PageTold::Refused(n),
+    }
+}
+
+// Questions 9, and then 10 to 12, of both.
+pub fn page_step(s: PageCall, buffer: &mut [u8], a: Answer) -> PageTold
+    ensures { λ t. ⌜ Keeps (saidPage t (now (buffer .exit)) ≡ stepPage s (now (buffer .entry)) a) (standsPage t) ⌝ }
+{
+    if buffer.len() < 96 {
+        return PageTold::Refused(Refusal::Buffer);
+    }
+    match s {
+        PageCall::Going(port, q, form, tries, m, t) => page_on(
+            port,
+            q,
+            form,
+            tries,
+            m,
+            t,
+            buffer,
+            a,
+        ),
+        PageCall::Over => PageTold::Refused(Refusal::Finished),
+    }
+}

@@ -12,7 +12,8 @@ use Rattle.hardware.specs.declared.Port.{Port}
 use Rattle.hardware.specs.Asked.{yes, andThen, question, openPort, fits, admitting}
 use Rattle.hardware.specs.Prog.{R, erase}
 use Rattle.hardware.specs.Runs.{run, runAsked, Awaited, ended, AwaitedIn, leftAfter, leftAskedAfter, Exchange, answersOf, AllKept, driven, Asks, IfYes, Lasts}
-use Rattle.hardware.proofs.Laws.{runs-open, is-true, StepsOn, opened-runs, steps-few}
+use Rattle.hardware.proofs.Laws.{runs-open, is-true, StepsOn, opened-runs}
+use Rattle.hardware.proofs.Longest.{Falls, lasting-falls, Accepts, steps-few}
 use Rattle.hardware.proofs.Ends.{run-ends, ask-ends, ends-erase}
 use Rattle.acquire.specs.declared.acquire.Acquire.{Acquire}
 use Rattle.acquire.specs.declared.release.Release.{Release}
@@ -50,6 +51,10 @@ acquire-on (AcquireAsk y AcquireOver) u a h k w = absurd h
 acquire-on (AcquireEnd o) u a h k w = absurd k
 acquire-on (AcquireRefused q) u a h k w = absurd k
 
+-- its number falls at every accepted step
+pub acquire-falls : Falls saidAcquire followsAcquire standsAcquire
+acquire-falls = lasting-falls saidAcquire followsAcquire standsAcquire acquire-on
+
 -- from the opening on, driven by steps that keep their promises
 pub acquire-driven : (family device lan mask : ℕ) (t : AcquireTold) → Keeps (saidAcquire t ≡ openAcquire family device lan mask) (standsAcquire t) → (ks : List (Exchange AcquireTold)) → AllKept followsAcquire t ks
     → AwaitedIn (openAcquire family device lan mask) (answersOf ks) → driven saidAcquire t ks ≡ andThen (openPort family device lan) (λ port. yes (run (acquire port mask) (answersOf ks)))
@@ -76,6 +81,9 @@ release-on (ReleaseAsk y ReleaseOver) u a h k w = absurd h
 release-on (ReleaseEnd o) u a h k w = absurd k
 release-on (ReleaseRefused q) u a h k w = absurd k
 
+pub release-falls : Falls saidRelease followsRelease standsRelease
+release-falls = lasting-falls saidRelease followsRelease standsRelease release-on
+
 -- from the opening on, driven by steps that keep their promises
 pub release-driven : (family device lan mask : ℕ) (t : ReleaseTold) → Keeps (saidRelease t ≡ openRelease family device lan mask) (standsRelease t) → (ks : List (Exchange ReleaseTold)) → AllKept followsRelease t ks
     → AwaitedIn (openRelease family device lan mask) (answersOf ks) → driven saidRelease t ks ≡ andThen (openPort family device lan) (λ port. yes (run (release port mask) (answersOf ks)))
@@ -83,14 +91,14 @@ release-driven family device lan mask t k ks kept w = opened-runs saidRelease fo
 
 -- from any state that passes question 10, whoever made it, a call takes at most so many steps more
 pub acquire-lasts : (x : Access) (port : Port) (hw : ℕ) (s : Acquire) (ks : List (Exchange AcquireTold)) → standsAcquire (AcquireAsk x (AcquireGoing port hw s))
-    → AllKept followsAcquire (AcquireAsk x (AcquireGoing port hw s)) ks → AwaitedIn (saidAcquire (AcquireAsk x (AcquireGoing port hw s))) (answersOf ks) → Lasts saidAcquire (AcquireAsk x (AcquireGoing port hw s)) ks (suc (acquireAfter (port .family) s))
+    → AllKept (Accepts saidAcquire followsAcquire) (AcquireAsk x (AcquireGoing port hw s)) ks → Lasts saidAcquire (AcquireAsk x (AcquireGoing port hw s)) ks (suc (acquireAfter (port .family) s))
 unfolding saidAcquire IfYes
-acquire-lasts x port hw s ks h k w =
-    steps-few saidAcquire followsAcquire standsAcquire acquire-on (AcquireAsk x (AcquireGoing port hw s)) ks (suc (acquireAfter (port .family) s)) h k w
+acquire-lasts x port hw s ks h k =
+    steps-few saidAcquire followsAcquire standsAcquire acquire-on (AcquireAsk x (AcquireGoing port hw s)) ks (suc (acquireAfter (port .family) s)) h k
     (ask-ends x _ (acquireAfter (port .family) s) (λ a. ends-erase _ _ (acquire-rest-ends port hw s a)))
 
 pub release-lasts : (x : Access) (port : Port) (hw : ℕ) (s : Release) (ks : List (Exchange ReleaseTold)) → standsRelease (ReleaseAsk x (ReleaseGoing port hw s))
-    → AllKept followsRelease (ReleaseAsk x (ReleaseGoing port hw s)) ks → AwaitedIn (saidRelease (ReleaseAsk x (ReleaseGoing port hw s))) (answersOf ks) → Lasts saidRelease (ReleaseAsk x (ReleaseGoing port hw s)) ks (suc (releaseAfter s))
+    → AllKept (Accepts saidRelease followsRelease) (ReleaseAsk x (ReleaseGoing port hw s)) ks → Lasts saidRelease (ReleaseAsk x (ReleaseGoing port hw s)) ks (suc (releaseAfter s))
 unfolding saidRelease IfYes
-release-lasts x port hw s ks h k w =
-    steps-few saidRelease followsRelease standsRelease release-on (ReleaseAsk x (ReleaseGoing port hw s)) ks (suc (releaseAfter s)) h k w (ask-ends x _ (releaseAfter s) (λ a. ends-erase _ _ (release-rest-ends port hw s a)))
+release-lasts x port hw s ks h k =
+    steps-few saidRelease followsRelease standsRelease release-on (ReleaseAsk x (ReleaseGoing port hw s)) ks (suc (releaseAfter s)) h k (ask-ends x _ (releaseAfter s) (λ a. ends-erase _ _ (release-rest-ends port hw s a)))

@@ -5,10 +5,10 @@ use mathlib.Core.Path.{_≡_, refl}
 use mathlib.Core.Bool.{Bool, true, false}
 use native.Mathlib.Omega.{arith}
 use Rattle.hardware.specs.Failures.{Failure, I2c}
-use Rattle.hardware.specs.Prog.{R, Ok, Err, pick, erase}
+use Rattle.hardware.specs.Prog.{R, Ok, Err, pick}
 use Rattle.hardware.specs.Registers.{raw, written, flushed}
 use Rattle.hardware.specs.Runs.{Ends}
-use Rattle.hardware.proofs.Ends.{ends-more, ends-bind, ends-pick, ends-erase, ret-ends, ask-ends}
+use Rattle.hardware.proofs.Ends.{ends-more, ends-bind, ends-pick, ret-ends, ask-ends}
 use Rattle.bus.specs.declared.Layout.{Layout}
 use Rattle.bus.specs.declared.Taken.{Taken}
 use Rattle.bus.specs.Bus.{Bus, done, fail, none, orHeld, flushing, put, get, wait, sclSeen, sclTries, sclHigh, sclLow, sdaSeen, sdaFree, sda, releaseSda, look, lookSeen, start, close, stop, outBit, sample, sampleSeen, inBit, shifted, inBits, inByte, bitOf, outBits, ackSeen, ackTries, send, pulses, orQuiet, quieted, quiet, clear, clearFree, clearAgain, clearStop}

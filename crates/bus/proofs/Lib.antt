@@ -3,4 +3,4 @@ pub mod Commands
 pub mod Ends
 pub mod Spreads
 pub mod Noteless
-pub mod Within
+pub mod Left

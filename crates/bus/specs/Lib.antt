@@ -4,4 +4,4 @@ pub mod Line
 pub mod Command
 pub mod Clear
 pub mod Steps
-pub mod Within
+pub mod Left

@@ -8,7 +8,7 @@ use hardware::Answer;
 use hardware::Byte;
 use hardware::Error;
 use hardware::Outcome;
-ghost use Prim.Native.Nat.{ℕ, _+_, _*_, _≤_, suc};
+ghost use Prim.Native.Nat.{ℕ, _+_, _*_, _<_, _≤_};
 ghost use mathlib.Core.Path.{_≡_};
 ghost use mathlib.Core.Bool.{true};
 ghost use lib.Dec.{ltb, leb};
@@ -19,7 +19,8 @@ ghost use Rattle.bus.specs.Bus.{Bus};
 ghost use Rattle.bus.specs.Line.{called, lineNext, validLineNext};
 ghost use Rattle.bus.specs.Command.{callAt, callCount, finished, callsLeft, commanded, accessJob, restJob, jobNext, validJob, validJobNext};
 ghost use Rattle.bus.specs.Steps.{CALL-STEPS, JOB-STEPS};
-ghost use Rattle.bus.specs.Within.{LineWithin, JobWithin, JobNextWithin};
+ghost use Rattle.hardware.specs.Longest.{InType};
+ghost use Rattle.bus.specs.Left.{lineLeft, jobLeft, jobNextLeft};
 
 // left: the line calls after this one.
 pub struct Job {
@@ -34,7 +35,7 @@ pub enum JobNext {
 }
 
 fn finish(l: Layout, device: u8, c: Command, ctl: u32, bits: u8) -> JobNext
-    ensures { λ r. ⌜ Bounds ((k : ℕ → Bus) → jobNext l device c r k ≡ erase (finished device c k bits ctl)) (validJobNext l c r ≡ true) ((m : ℕ) → JobNextWithin l r m) ⌝ }
+    ensures { λ r. ⌜ Bounds ((k : ℕ → Bus) → jobNext l device c r k ≡ erase (finished device c k bits ctl)) (validJobNext l c r ≡ true) (jobNextLeft l r ≡ 0) ⌝ }
 {
     match c {
         Command::Start => JobNext::End(ctl, Byte::Ok(bits)),
@@ -52,7 +53,7 @@ fn finish(l: Layout, device: u8, c: Command, ctl: u32, bits: u8) -> JobNext
 
 // A line call is made, with so many after it.
 fn begin(l: Layout, c: Command, ctl: u32, bits: u8, left: u8) -> Job
-    ensures { λ r. ⌜ Bounds ((device : ℕ) (k : ℕ → Bus) → jobNext l device c (JobNext.Going r) k ≡ erase (called l (callAt l c left) bits (callsLeft l device c left k) ctl)) (ltb left (callCount l c) ≡ true → validJob l c r ≡ true) ((m : ℕ) → CALL-STEPS + left * CALL-STEPS ≤ m → JobWithin l r m) ⌝ }
+    ensures { λ r. ⌜ Bounds ((device : ℕ) (k : ℕ → Bus) → jobNext l device c (JobNext.Going r) k ≡ erase (called l (callAt l c left) bits (callsLeft l device c left k) ctl)) (ltb left (callCount l c) ≡ true → validJob l c r ≡ true) (jobLeft l r ≤ CALL-STEPS + left * CALL-STEPS) ⌝ }
 {
     Job {
         left,
@@ -62,7 +63,7 @@ fn begin(l: Layout, c: Command, ctl: u32, bits: u8, left: u8) -> Job
 
 // The last n calls.
 fn from(l: Layout, device: u8, c: Command, ctl: u32, bits: u8, n: u8) -> JobNext
-    ensures { λ r. ⌜ Bounds ((k : ℕ → Bus) → jobNext l device c r k ≡ erase (callsLeft l device c n k bits ctl)) (leb n (callCount l c) ≡ true → validJobNext l c r ≡ true) ((m : ℕ) → n * CALL-STEPS ≤ m → JobNextWithin l r m) ⌝ }
+    ensures { λ r. ⌜ Bounds ((k : ℕ → Bus) → jobNext l device c r k ≡ erase (callsLeft l device c n k bits ctl)) (leb n (callCount l c) ≡ true → validJobNext l c r ≡ true) (jobNextLeft l r ≤ n * CALL-STEPS) ⌝ }
 {
     if n == 0 {
         return finish(l, device, c, ctl, bits);
@@ -71,7 +72,7 @@ fn from(l: Layout, device: u8, c: Command, ctl: u32, bits: u8, n: u8) -> JobNext
 }
 
 fn lined(l: Layout, device: u8, c: Command, left: u8, n: LineNext) -> JobNext
-    ensures { λ r. ⌜ Bounds ((k : ℕ → Bus) → jobNext l device c r k ≡ lineNext l n (callsLeft l device c left k)) (ltb left (callCount l c) ≡ true → validLineNext n ≡ true → validJobNext l c r ≡ true) ((p m : ℕ) → LineWithin l n p → p + left * CALL-STEPS ≤ m → JobNextWithin l r m) ⌝ }
+    ensures { λ r. ⌜ Bounds ((k : ℕ → Bus) → jobNext l device c r k ≡ lineNext l n (callsLeft l device c left k)) (ltb left (callCount l c) ≡ true → validLineNext n ≡ true → validJobNext l c r ≡ true) (jobNextLeft l r ≤ lineLeft l n + left * CALL-STEPS) ⌝ }
 {
     match n {
         LineNext::Going(state) => JobNext::Going(Job { left, state }),
@@ -83,7 +84,7 @@ fn lined(l: Layout, device: u8, c: Command, left: u8, n: LineNext) -> JobNext
 }
 
 pub fn open(l: Layout, c: Command, ctl: u32) -> Job
-    ensures { λ r. ⌜ Bounds ((device : ℕ) (k : ℕ → Bus) → jobNext l device c (JobNext.Going r) k ≡ erase (commanded l device c k ctl)) (validJob l c r ≡ true) (JobWithin l r JOB-STEPS) ⌝ }
+    ensures { λ r. ⌜ Bounds ((device : ℕ) (k : ℕ → Bus) → jobNext l device c (JobNext.Going r) k ≡ erase (commanded l device c k ctl)) (validJob l c r ≡ true) (jobLeft l r ≤ JOB-STEPS) ⌝ }
 {
     begin(l, c, ctl, 0, crate::command::count(l, c) - 1)
 }
@@ -96,7 +97,7 @@ pub fn access(l: Layout, s: Job) -> Access
 }
 
 pub fn step(l: Layout, device: u8, c: Command, s: Job, a: Answer) -> JobNext
-    ensures { λ r. ⌜ Bounds ((k : ℕ → Bus) → jobNext l device c r k ≡ erase (restJob l device c s a k)) (validJob l c s ≡ true → validJobNext l c r ≡ true) ((n : ℕ) → fits (accessJob l s) a ≡ true → JobWithin l s (suc n) → JobNextWithin l r n) ⌝ }
+    ensures { λ r. ⌜ Bounds ((k : ℕ → Bus) → jobNext l device c r k ≡ erase (restJob l device c s a k)) (validJob l c s ≡ true → validJobNext l c r ≡ true) (fits (accessJob l s) a ≡ true → InType a → jobNextLeft l r < jobLeft l s) ⌝ }
 {
     let state = s.state;
     lined(l, device, c, s.left, crate::line::step(l, state, a))

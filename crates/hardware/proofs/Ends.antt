@@ -1,7 +1,7 @@
 -- How many answers bring a call to its end: the laws of `Ends`, the bounds of the calls on one register, and what
 -- `Ends` says of a run.
 use Prim.Native.Nat.{ℕ, _+_, _*_, _≤_, suc, zero}
-use mathlib.Core.Path.{_≡_, refl, ap, subst⁻¹}
+use mathlib.Core.Path.{_≡_, refl, ap}
 use mathlib.Core.Bool.{Bool, true, false}
 use mathlib.Core.List.{List, [], _∷_, _++_}
 use native.Mathlib.Nat.{suc-add}
@@ -75,15 +75,6 @@ ends-erase (ask x f) zero e = absurd e
 ends-erase (ask x f) (suc n) e = λ a t. ends-erase (f a) n (e a t)
 ends-erase (note k p) n e = ends-stays k (erase p) n (ends-erase p n e)
 ends-erase (give b p) n e = ends-erase p n e
-
--- a program that was opened
-pub ends-opened : {A : Type 0} {q : Prog A} (p : Prog A) (n m : ℕ) → q ≡ erase p → Ends p n → n ≤ m → Ends q m
-ends-opened p n m e d h = subst⁻¹ (λ q. Ends q m) e (ends-more _ n m (ends-erase p n d) h)
-
--- after an awaited answer one access fewer is enough
-pub ends-next : {A : Type 0} {q : Prog A} (x : Access) (f : Answer → Prog A) (a : Answer) (m : ℕ) → q ≡ f a → fits x a ≡ true → Ends (ask x f) (suc m) → Ends q m
-unfolding Ends
-ends-next x f a m e d h = subst⁻¹ (λ q. Ends q m) e (h a (rw d tt))
 
 -- nor does the meter
 pub ends-tally : {A : Type 0} (m : Meter) (p : Prog A) (n : ℕ) → Ends p n → Ends (tally m p) n

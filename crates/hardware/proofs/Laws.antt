@@ -1,6 +1,6 @@
 -- Laws of the register programs that the proofs cite.
 use Prim.Native.Nat.{ℕ, _+_, _-_, _<_, _≤_, suc, zero}
-use mathlib.Core.Path.{_≡_, refl, ap, sym, _∙_, subst, subst⁻¹}
+use mathlib.Core.Path.{_≡_, refl, ap, sym, _∙_, subst}
 use mathlib.Core.Bool.{Bool, true, false}
 use mathlib.Core.List.{List, [], _∷_}
 use lib.Dec.{T, ltb}
@@ -11,7 +11,7 @@ use native.Mathlib.Omega.{arith}
 use borrow.Author.Tests.{ltb-true}
 use Rattle.hardware.specs.Prog.{Note, Attempt, Acquires, Acquired, Released, Lapsed, Prog, ret, ask, note, give, erase, _>>=_, pick, attemptsAfter, metered, blank, tally}
 use Rattle.hardware.specs.Asked.{Asked, no, yes, andThen, question, openFamily, openLan, openPort, portOpened, validPort, fits, admitting, Admits}
-use Rattle.hardware.specs.Runs.{run, onAnswer, runAsked, given, answered, transfersIn, meterIn, countedStatus, counted, Awaited, AwaitedIn, leftAfter, leftAskedAfter, Exchange, answersOf, AllKept, led, driven, Refuses, Asks, IfYes, Ends, lastTold, Lasts}
+use Rattle.hardware.specs.Runs.{run, onAnswer, runAsked, given, answered, transfersIn, meterIn, countedStatus, counted, Awaited, AwaitedIn, leftAfter, leftAskedAfter, Exchange, answersOf, AllKept, led, driven, Refuses, Asks, IfYes}
 use Rattle.hardware.specs.declared.Access.{Access}
 use Rattle.hardware.specs.declared.Admitted.{Admitted}
 use Rattle.hardware.specs.declared.Admitted.the-variants.{Yes, No}
@@ -173,11 +173,6 @@ awaited-first (ask x f) a (b ∷ l) w = ((w .0, by (f a)), w .1)
 awaited-first (note n p) a l w = awaited-first p a l w
 awaited-first (give b p) a l w = awaited-first p a l w
 
-asked-first : {A : Type 0} (q : Asked (Prog A)) (a : Answer) (l : List Answer) → AwaitedIn q (a ∷ l) → AwaitedIn q (a ∷ []) × AwaitedIn (leftAskedAfter q a) l
-unfolding AwaitedIn leftAskedAfter
-asked-first (no n) a l w = (tt, tt)
-asked-first (yes p) a l w = awaited-first p a l w
-
 led-run : {A : Type 0} (p : Prog A) (a : Answer) (l : List Answer) → led p (yes (run (leftAfter p a) l)) ≡ yes (run p (a ∷ l))
 unfolding led leftAfter run onAnswer andThen
 led-run (ret v) a l = refl
@@ -203,34 +198,6 @@ driven-runs {A} said Promise Stands on t (k ∷ ks) s kept w = by (said t) refl 
         ap (led p) (h (n .1) (kept .1) (subst (λ q. AwaitedIn q (answersOf ks)) (sym tells) (a .1)) ∙ ap (λ q. runAsked q (answersOf ks)) tells)
         ∙ led-run p (k .answer) (answersOf ks)
 
--- the access is answered, and so many answers fewer end the call
-asked-ends : {A : Type 0} (p : Prog A) (a : Answer) (n : ℕ) → Asks p → Ends p n → Awaited p (a ∷ []) → (m : ℕ) × (n ≡ suc m) × Ends (leftAfter p a) m
-unfolding Asks Ends Awaited leftAfter
-asked-ends (ret v) a n k e w = absurd k
-asked-ends (ask x f) a zero k e w = absurd e
-asked-ends (ask x f) a (suc m) k e w = (m, refl, e a (w .0))
-asked-ends (note j p) a n k e w = asked-ends p a n k e w
-asked-ends (give b p) a n k e w = asked-ends p a n k e w
-
-ends-now : {A : Type 0} (p : Prog A) → Ends p 0 → Asks p → ⊥
-unfolding Asks Ends
-ends-now (ret v) e k = absurd k
-ends-now (ask x f) e k = absurd e
-ends-now (note j p) e k = ends-now p e k
-ends-now (give b p) e k = ends-now p e k
-
--- A call whose bound is one less after every step takes at most as many steps, and has ended after as many
-pub falls-few : {A Told : Type 0} (said : Told → Asked (Prog A)) (Promise : Told → Answer → Told → Type 0) (Within : Told → ℕ → Type 0)
-    → ((t u : Told) (a : Answer) (n : ℕ) → Promise t a u → Within t n → (m : ℕ) × (n ≡ suc m) × Within u m)
-    → ((t : Told) → Within t 0 → IfYes (λ p. Asks p → ⊥) (said t))
-    → (t : Told) (ks : List (Exchange Told)) (n : ℕ) → Within t n → AllKept Promise t ks → Lasts said t ks n
-unfolding AllKept lastTold
-falls-few said Promise Within falls none t [] n w kept = record { few = omega arith; over = λ z. none t (subst⁻¹ (Within t) z w) }
-falls-few said Promise Within falls none t (k ∷ ks) n w kept =
-    let s = falls t (k .told) (k .answer) n (kept .0) w in
-    let rest = falls-few said Promise Within falls none (k .told) ks (s .0) (s .2) (kept .1) in
-    record { few = omega (arith, rest .few, s .1); over = λ z. rest .over (omega (arith, z, s .1)) }
-
 -- a refused opening has no run
 pub refused-runs : {A Told : Type 0} (said : Told → Asked (Prog A)) (t : Told) (ks : List (Exchange Told)) → Refuses (said t) → driven said t ks ≡ runAsked (said t) (answersOf ks)
 unfolding driven answersOf andThen runAsked Refuses
@@ -246,40 +213,3 @@ pub opened-runs : {A Told : Type 0} {o : Asked (Prog A)} (said : Told → Asked 
     → (t : Told) (ks : List (Exchange Told)) → Keeps (said t ≡ o) (Stands t) → AllKept Promise t ks → AwaitedIn o (answersOf ks) → driven said t ks ≡ runAsked (said t) (answersOf ks)
 opened-runs said Promise Stands on t ks k kept w =
     driven-runs said Promise Stands on t ks (k .limits) kept (subst (λ q. AwaitedIn q (answersOf ks)) (sym (k .yields)) w)
-
--- an accepted step takes one of the answers within which the call ends
-pub step-falls : {A Told : Type 0} (said : Told → Asked (Prog A)) (Promise : Told → Answer → Told → Type 0) (Stands : Told → Type 0) → StepsOn said Promise Stands
-    → (t u : Told) (a : Answer) (n : ℕ) → Stands t → Promise t a u → AwaitedIn (said t) (a ∷ []) → IfYes (λ p. Ends p n) (said t)
-    → (m : ℕ) × (n ≡ suc m) × (Stands u × IfYes (λ p. Ends p m) (said u))
-unfolding AwaitedIn IfYes leftAskedAfter
-step-falls {A} said Promise Stands on t u a n s k w e = by (said t) refl w e (on t u a s k w)
-  where
-    by : (q : Asked (Prog A)) → said t ≡ q → AwaitedIn q (a ∷ []) → IfYes (λ p. Ends p n) q → (said u ≡ leftAskedAfter (said t) a) × Stands u × IfYes Asks (said t)
-        → (m : ℕ) × (n ≡ suc m) × (Stands u × IfYes (λ p. Ends p m) (said u))
-    by (no j) e w d h = absurd d
-    by (yes p) e w d h =
-        let m = asked-ends p a n (subst (IfYes Asks) e (h .2)) d w in
-        (m .0, m .1, (h .1, subst (IfYes (λ p. Ends p (m .0))) (sym (h .0 ∙ ap (λ q. leftAskedAfter q a) e)) (m .2)))
-
--- each answer is of the kind that its step awaits
-all-awaited : {A Told : Type 0} (said : Told → Asked (Prog A)) (Promise : Told → Answer → Told → Type 0) (Stands : Told → Type 0) → StepsOn said Promise Stands
-    → (t : Told) (ks : List (Exchange Told)) → Stands t → AllKept Promise t ks → AwaitedIn (said t) (answersOf ks) → AllKept (λ t a u. Promise t a u × AwaitedIn (said t) (a ∷ [])) t ks
-unfolding answersOf AllKept
-all-awaited said Promise Stands on t [] s k w = tt
-all-awaited said Promise Stands on t (k ∷ ks) s kept w =
-    let a = asked-first (said t) (k .answer) (answersOf ks) w in
-    let n = on t (k .told) (k .answer) s (kept .0) (a .0) in
-    ((kept .0, a .0), all-awaited said Promise Stands on (k .told) ks (n .1) (kept .1) (subst (λ q. AwaitedIn q (answersOf ks)) (sym (n .0)) (a .1)))
-
--- so a call that ends within n answers takes at most n steps, and has ended after n
-pub steps-few : {A Told : Type 0} (said : Told → Asked (Prog A)) (Promise : Told → Answer → Told → Type 0) (Stands : Told → Type 0) → StepsOn said Promise Stands
-    → (t : Told) (ks : List (Exchange Told)) (n : ℕ) → Stands t → AllKept Promise t ks → AwaitedIn (said t) (answersOf ks) → IfYes (λ p. Ends p n) (said t) → Lasts said t ks n
-unfolding IfYes
-steps-few {A} said Promise Stands on t ks n s kept w e =
-    falls-few said (λ t a u. Promise t a u × AwaitedIn (said t) (a ∷ [])) (λ t n. Stands t × IfYes (λ p. Ends p n) (said t))
-    (λ t u a n k w. step-falls said Promise Stands on t u a n (w .0) (k .0) (k .1) (w .1)) (λ t w. none (said t) (w .1))
-    t ks n (s, e) (all-awaited said Promise Stands on t ks s kept w)
-  where
-    none : (q : Asked (Prog A)) → IfYes (λ p. Ends p 0) q → IfYes (λ p. Asks p → ⊥) q
-    none (no j) d = absurd d
-    none (yes p) d = ends-now p d

@@ -1,5 +1,6 @@
 pub mod Promise
 pub mod Lent
+pub mod Longest
 pub mod Prog
 pub mod Marks
 pub mod Numbers

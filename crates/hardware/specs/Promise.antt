@@ -11,7 +11,7 @@ pub record Counts (Yields Limits Due : Type 0) : Type 0 where
   pub limits : Limits
   pub due : Due
 
--- within: the accesses that are left, at most, one fewer after each step
+-- within: the accesses that are left, at most, fewer after each step
 pub record Bounds (Yields Limits Within : Type 0) : Type 0 where
   pub yields : Yields
   pub limits : Limits

@@ -106,6 +106,9 @@ unfoldable pub IfYes : {A : Type 0} → (A → Type 0) → Asked A → Type 0
 IfYes P (no n) = ⊥
 IfYes P (yes a) = P a
 
+abbrev pub Unrefused : {A : Type 0} → Asked A → Type 0
+Unrefused q = IfYes (λ a. Unit {0}) q
+
 -- A step of a call as its host sees it: the answer that it was given, and what it then told
 pub record Exchange (Told : Type 0) : Type 0 where
   pub answer : Answer

@@ -10,7 +10,6 @@ use mathlib.Core.Bool.{true}
 use lib.Dec.{ltb}
 use borrow.Author.Tests.{leb-true, lt-ltb, ltb-true}
 use native.Mathlib.Nat.{div-lt-iff-lt-mul}
-use Rattle.hardware.specs.Asked.{fits}
 use Rattle.hardware.specs.Prog.{erase, _>>=_}
 use Rattle.hardware.proofs.Laws.{below, both-true}
 use Rattle.hostif.specs.Calls.{blockFits}

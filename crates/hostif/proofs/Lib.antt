@@ -1,6 +1,6 @@
 pub mod Ends
 pub mod Laws
 pub mod Plain
-pub mod Within
+pub mod Left
 pub mod Runs
 pub mod Spreads

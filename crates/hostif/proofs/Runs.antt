@@ -1,18 +1,21 @@
 -- Whole calls of `command` and `token`: for every port and block that is accepted and every list of answers the
 -- library's run is the Rust's, and every list of answers of the awaited kinds that is long enough brings it to its end.
 -- A state that was handed out is not refused at its next step.
-use Prim.Native.Nat.{ℕ, _≤_, suc, zero}
+use Prim.Native.Nat.{ℕ, _<_, _≤_, suc}
 use mathlib.Core.Path.{_≡_, ap, _∙_, subst, sym, refl}
 use mathlib.Core.Bool.{Bool, true, false}
 use mathlib.Core.List.{List, [], _∷_}
+use native.Mathlib.Omega.{arith}
 use lib.ListN.{length}
 use Rattle.hardware.specs.declared.Access.{Access}
 use Rattle.hardware.specs.declared.Answer.{Answer}
 use Rattle.hardware.specs.declared.Port.{Port}
 use Rattle.hardware.specs.Asked.{yes, andThen, question, openPort, fits, admitting, Asked, no}
 use Rattle.hardware.specs.Prog.{R, erase}
-use Rattle.hardware.specs.Runs.{run, runAsked, Awaited, ended, AwaitedIn, leftAfter, leftAskedAfter, Exchange, answersOf, AllKept, driven, Refuses, Asks, IfYes, Lasts}
-use Rattle.hardware.proofs.Laws.{runs-open, is-true, StepsOn, opened-runs, refused-runs, steps-few, falls-few}
+use Rattle.hardware.specs.Runs.{run, runAsked, Awaited, ended, AwaitedIn, leftAfter, leftAskedAfter, Exchange, answersOf, AllKept, driven, Refuses, Asks, IfYes, Lasts, Unrefused}
+use Rattle.hardware.proofs.Laws.{runs-open, is-true, StepsOn, opened-runs, refused-runs}
+use Rattle.hardware.specs.Longest.{InType}
+use Rattle.hardware.proofs.Longest.{Falls, lasting-falls, Accepts, steps-few, number-few}
 use Rattle.hardware.proofs.Ends.{run-ends, ask-ends, ends-erase}
 use Rattle.hostif.specs.declared.command.Command.{Command}
 use Rattle.hostif.specs.declared.token.Token.{Token}
@@ -23,10 +26,10 @@ use Rattle.hostif.specs.declared.calls.TokenCall.the-variants.{Going as 
 use Rattle.hostif.specs.declared.calls.TokenTold.{TokenTold}
 use Rattle.hostif.specs.declared.calls.TokenTold.the-variants.{Ask as TokenAsk, End as TokenEnd, Refused as TokenRefused}
 use Rattle.hostif.specs.Hostif.{Left, command, restCommand, token, restToken}
-use Rattle.hostif.specs.Calls.{blockFits, openCommand, stepped, stepCommand, saidCommand, standsCommand, openToken, stepToken, saidToken, standsToken, followsToken, CommandAt, saidAt, followsCommand, followsBlock, CallWithin, ToldWithin, Accepted, followsOwn, followsLent}
-use Rattle.hardware.specs.Lent.{goes, lent, asked}
+use Rattle.hostif.specs.Calls.{blockFits, openCommand, stepped, stepCommand, saidCommand, standsCommand, openToken, stepToken, saidToken, standsToken, followsToken, CommandAt, saidAt, followsCommand, followsBlock, callLeft, toldLeft, Accepted, followsOwn, followsLent}
+use Rattle.hardware.specs.Lent.{Lent, goes, lent, asked}
 use Rattle.hostif.proofs.Ends.{COMMAND-STEPS, command-ends, TOKEN-STEPS, token-ends, tokenAfter, token-rest-ends, commandAfter, command-rest-ends}
-use Rattle.hostif.proofs.Within.{command-some, command-within}
+use Rattle.hostif.proofs.Left.{command-some, command-left}
 use Rattle.hardware.specs.Promise.{Keeps}
 use Rattle.hardware.proofs.Prog.{run-erase}
 
@@ -100,45 +103,71 @@ command-driven family device lan block t k ks kept w =
 -- from any state that passes question 10, whoever made it, the call takes at most so many steps more, with a block that only
 -- the steps alter
 pub command-lasts : (x : Access) (port : Port) (s : Command) (block : List ℕ) (ks : List (Exchange CommandAt)) → standsCommand (CommandAsk x (CommandGoing port s)) block → blockFits block ≡ true
-    → AllKept followsCommand (record { told = CommandAsk x (CommandGoing port s); block = block }) ks
-    → AwaitedIn (saidAt (record { told = CommandAsk x (CommandGoing port s); block = block })) (answersOf ks) → Lasts saidAt (record { told = CommandAsk x (CommandGoing port s); block = block }) ks (suc (commandAfter (length block) s))
+    → AllKept (Accepts saidAt followsCommand) (record { told = CommandAsk x (CommandGoing port s); block = block }) ks → Lasts saidAt (record { told = CommandAsk x (CommandGoing port s); block = block }) ks (suc (commandAfter (length block) s))
 unfolding saidCommand asked IfYes
-command-lasts x port s block ks h f k w =
-    steps-few saidAt followsCommand standsAt command-on (record { told = CommandAsk x (CommandGoing port s); block = block }) ks (suc (commandAfter (length block) s)) (h, f) k w
+command-lasts x port s block ks h f k =
+    steps-few saidAt followsCommand standsAt command-on (record { told = CommandAsk x (CommandGoing port s); block = block }) ks (suc (commandAfter (length block) s)) (h, f) k
     (ask-ends x _ (commandAfter (length block) s) (λ a. ends-erase _ _ (command-rest-ends port s block a)))
 
--- Whatever block is lent to each step, one access fewer is enough after every one that is accepted
-abbrev withinAt : CommandAt → ℕ → Type 0
-withinAt t n = Accepted (t .told) × ToldWithin (t .told) n
+-- its number falls at every accepted step
+pub command-falls : Falls saidAt followsCommand standsAt
+command-falls = lasting-falls saidAt followsCommand standsAt command-on
 
-pub own-falls : (t : CommandTold) (a : Answer) (u : CommandTold) (c : List ℕ) (n : ℕ) → ToldWithin t n → followsOwn t a u c → (m : ℕ) × (n ≡ suc m) × (Accepted u × ToldWithin u m)
-unfolding followsOwn ToldWithin CallWithin
-own-falls (CommandAsk x (CommandGoing port s)) a u c zero w k = absurd (command-some port s w)
-own-falls (CommandAsk x (CommandGoing port s)) a u c (suc m) w k = (m, refl, (k .0, k .1 .1 .within m w))
-own-falls (CommandAsk x CommandOver) a u c n w k = absurd w
-own-falls (CommandEnd b) a u c n w k = absurd k
-own-falls (CommandRefused q) a u c n w k = absurd k
+-- what was told is no refusal, and hands out no finished state
+abbrev Goes : Lent Left → Type 0
+Goes q = Unrefused (asked q)
 
-own-ends : (t : CommandTold) (b : List ℕ) → Accepted t → ToldWithin t 0 → IfYes (λ p. Asks p → ⊥) (asked (saidCommand t b))
-unfolding Accepted ToldWithin CallWithin saidCommand asked IfYes Asks
-own-ends (CommandAsk x (CommandGoing port s)) b g w = absurd (command-some port s w)
-own-ends (CommandAsk x CommandOver) b g w = absurd w
-own-ends (CommandEnd v) b g w = λ z. z
-own-ends (CommandRefused q) b g w = absurd g
+accepted-goes : (u : CommandTold) (c : List ℕ) → Accepted u → standsCommand u c → Goes (saidCommand u c)
+unfolding Accepted standsCommand saidCommand asked IfYes
+accepted-goes (CommandAsk x (CommandGoing port s)) c g h = tt
+accepted-goes (CommandAsk x CommandOver) c g h = h
+accepted-goes (CommandEnd b) c g h = tt
+accepted-goes (CommandRefused q) c g h = g
 
--- so where n accesses are enough, and of an opening its contract says how many are, the call takes at most n accepted steps more, and has
--- ended after n
-pub command-lasts-within : (t : CommandAt) (ks : List (Exchange CommandAt)) (n : ℕ) → Accepted (t .told) → ToldWithin (t .told) n → AllKept followsLent t ks → Lasts saidAt t ks n
+over-refuses : (b : List ℕ) (a : Answer) → Goes (stepCommand CommandOver b a) → ⊥
+unfolding IfYes asked stepCommand stepped lent question
+over-refuses b a = by (blockFits b)
+  where
+    by : (f : Bool) → Goes (lent b (question f 8 (no 11))) → ⊥
+    by true h = h
+    by false h = h
+
+own-goes : (t : CommandTold) (a : Answer) (u : CommandTold) (c : List ℕ) → followsOwn t a u c → Goes (saidCommand u c)
+unfolding followsOwn
+own-goes (CommandAsk x s) a u c k = accepted-goes u c (k .0) (k .1 .1 .limits)
+own-goes (CommandEnd b) a u c k = absurd k
+own-goes (CommandRefused q) a u c k = absurd k
+
+-- Whatever block is lent to each step, the number falls at every one that is accepted: of the finished state none is
+pub own-falls : (t : CommandTold) (a : Answer) (u : CommandTold) (c : List ℕ) → InType a → followsOwn t a u c → toldLeft u < toldLeft t
+unfolding followsOwn toldLeft callLeft
+own-falls (CommandAsk x (CommandGoing port s)) a u c h k = omega (arith, k .1 .1 .within h, command-some port s)
+own-falls (CommandAsk x CommandOver) a u c h k =
+    absurd (over-refuses (k .1 .0) a (subst Goes (k .1 .1 .yields) (accepted-goes u c (k .0) (k .1 .1 .limits))))
+own-falls (CommandEnd b) a u c h k = absurd k
+own-falls (CommandRefused q) a u c h k = absurd k
+
+own-ends : (t : CommandTold) (b : List ℕ) → Goes (saidCommand t b) → toldLeft t ≡ 0 → IfYes (λ p. Asks p → ⊥) (asked (saidCommand t b))
+unfolding toldLeft callLeft saidCommand asked IfYes Asks
+own-ends (CommandAsk x (CommandGoing port s)) b g e = absurd (omega (arith, e, command-some port s))
+own-ends (CommandAsk x CommandOver) b g e = absurd g
+own-ends (CommandEnd v) b g e = λ z. z
+own-ends (CommandRefused q) b g e = absurd g
+
+-- so where its number is at most n, and of an opening the contract bounds it, the call takes at most n accepted steps more, and has ended
+-- after n
+pub command-lasts-within : (t : CommandAt) (ks : List (Exchange CommandAt)) (n : ℕ) → Goes (saidCommand (t .told) (t .block)) → toldLeft (t .told) ≤ n → AllKept (λ t a u. followsLent t a u × InType a) t ks → Lasts saidAt t ks n
 command-lasts-within t ks n g w k =
-    falls-few saidAt followsLent withinAt (λ t u a n k w. own-falls (t .told) a (u .told) (u .block) n (w .1) k) (λ t w. own-ends (t .told) (t .block) (w .0) (w .1))
-    t ks n (g, w) k
+    number-few saidAt (λ t a u. followsLent t a u × InType a) (λ t. Goes (saidCommand (t .told) (t .block))) (λ t. toldLeft (t .told))
+    (λ t u a s k. (own-goes (t .told) a (u .told) (u .block) (k .0), own-falls (t .told) a (u .told) (u .block) (k .1) (k .0)))
+    (λ t s e. own-ends (t .told) (t .block) s e) t ks n g w k
 
 -- from any state, whoever made it
 pub command-lasts-lent : (x : Access) (port : Port) (s : Command) (block : List ℕ) (ks : List (Exchange CommandAt))
-    → AllKept followsLent (record { told = CommandAsk x (CommandGoing port s); block = block }) ks
+    → AllKept (λ t a u. followsLent t a u × InType a) (record { told = CommandAsk x (CommandGoing port s); block = block }) ks
     → Lasts saidAt (record { told = CommandAsk x (CommandGoing port s); block = block }) ks (suc (commandAfter 64 s))
-unfolding Accepted ToldWithin CallWithin
-command-lasts-lent x port s block ks k = command-lasts-within _ ks (suc (commandAfter 64 s)) tt (command-within port s) k
+unfolding IfYes saidCommand asked toldLeft callLeft
+command-lasts-lent x port s block ks k = command-lasts-within _ ks (suc (commandAfter 64 s)) tt (command-left port s) k
 
 pub token-runs : (family device lan : ℕ) (take : Bool) (r : TokenTold) → saidToken r ≡ openToken family device lan take → (l : List Answer)
     → runAsked (saidToken r) l ≡ andThen (openPort family device lan) (λ port. yes (run (token port take) l))
@@ -161,6 +190,10 @@ token-on (TokenAsk y TokenOver) u a h k w = absurd h
 token-on (TokenEnd b) u a h k w = absurd k
 token-on (TokenRefused q) u a h k w = absurd k
 
+-- its number falls at every accepted step
+pub token-falls : Falls saidToken followsToken standsToken
+token-falls = lasting-falls saidToken followsToken standsToken token-on
+
 -- from the opening on, driven by steps that keep their promises
 pub token-driven : (family device lan : ℕ) (take : Bool) (t : TokenTold) → Keeps (saidToken t ≡ openToken family device lan take) (standsToken t) → (ks : List (Exchange TokenTold)) → AllKept followsToken t ks
     → AwaitedIn (openToken family device lan take) (answersOf ks) → driven saidToken t ks ≡ andThen (openPort family device lan) (λ port. yes (run (token port take) (answersOf ks)))
@@ -168,7 +201,7 @@ token-driven family device lan take t k ks kept w = opened-runs saidToken follow
 
 -- from any state that passes question 10, whoever made it, the call takes at most so many steps more
 pub token-lasts : (x : Access) (port : Port) (take : Bool) (s : Token) (ks : List (Exchange TokenTold)) → standsToken (TokenAsk x (TokenGoing port take s))
-    → AllKept followsToken (TokenAsk x (TokenGoing port take s)) ks → AwaitedIn (saidToken (TokenAsk x (TokenGoing port take s))) (answersOf ks) → Lasts saidToken (TokenAsk x (TokenGoing port take s)) ks (suc (tokenAfter s))
+    → AllKept (Accepts saidToken followsToken) (TokenAsk x (TokenGoing port take s)) ks → Lasts saidToken (TokenAsk x (TokenGoing port take s)) ks (suc (tokenAfter s))
 unfolding saidToken IfYes
-token-lasts x port take s ks h k w =
-    steps-few saidToken followsToken standsToken token-on (TokenAsk x (TokenGoing port take s)) ks (suc (tokenAfter s)) h k w (ask-ends x _ (tokenAfter s) (λ a. ends-erase _ _ (token-rest-ends port take s a)))
+token-lasts x port take s ks h k =
+    steps-few saidToken followsToken standsToken token-on (TokenAsk x (TokenGoing port take s)) ks (suc (tokenAfter s)) h k (ask-ends x _ (tokenAfter s) (λ a. ends-erase _ _ (token-rest-ends port take s a)))

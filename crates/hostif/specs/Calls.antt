@@ -1,5 +1,5 @@
 -- What the public calls of `command` and `token` yield: a refusal by its number, or what is left of the call.
-use Prim.Native.Nat.{ℕ, suc}
+use Prim.Native.Nat.{ℕ, _-_, _≤_}
 use mathlib.Core.Path.{_≡_}
 use mathlib.Core.Bool.{Bool, true, false}
 use mathlib.Core.List.{List}
@@ -22,7 +22,8 @@ use Rattle.hostif.specs.declared.calls.TokenCall.the-variants.{Going as 
 use Rattle.hostif.specs.declared.calls.TokenTold.{TokenTold}
 use Rattle.hostif.specs.declared.calls.TokenTold.the-variants.{Ask as TokenAsk, End as TokenEnd, Refused as TokenRefused}
 use Rattle.hostif.specs.Hostif.{Left, command, accessCommand, restCommand, validCommand, token, accessToken, restToken, validToken}
-use Rattle.hostif.specs.Within.{CommandWithin}
+use Rattle.hostif.specs.Left.{commandLeft}
+use Rattle.hardware.specs.Longest.{InType}
 use Rattle.hardware.specs.Lent.{Lent, refused, goes, lent, asked}
 use Rattle.hardware.specs.Promise.{Keeps, Bounds}
 
@@ -80,15 +81,15 @@ followsBlock (CommandRefused q) b a u c = ⊥
 abbrev pub followsCommand : CommandAt → Answer → CommandAt → Type 0
 followsCommand t a u = followsBlock (t .told) (t .block) a (u .told) (u .block)
 
--- n accesses are enough from a call's state, whatever block is lent to each step
-unfoldable pub CallWithin : CommandCall → ℕ → Type 0
-CallWithin (CommandGoing port t) n = CommandWithin port t n
-CallWithin CommandOver n = ⊥
+-- the accesses left from a call's state, at most, whatever block is lent to each step
+unfoldable pub callLeft : CommandCall → ℕ
+callLeft (CommandGoing port t) = commandLeft port t
+callLeft CommandOver = 0
 
-unfoldable pub ToldWithin : CommandTold → ℕ → Type 0
-ToldWithin (CommandAsk x s) n = CallWithin s n
-ToldWithin (CommandEnd b) n = Unit {0}
-ToldWithin (CommandRefused q) n = Unit {0}
+unfoldable pub toldLeft : CommandTold → ℕ
+toldLeft (CommandAsk x s) = callLeft s
+toldLeft (CommandEnd b) = 0
+toldLeft (CommandRefused q) = 0
 
 -- the step was not refused
 unfoldable pub Accepted : CommandTold → Type 0
@@ -100,7 +101,7 @@ Accepted (CommandRefused q) = ⊥
 -- own: accepted, so that b has 1 to 64 words and the state passes question 10 with it
 unfoldable pub followsOwn : CommandTold → Answer → CommandTold → List ℕ → Type 0
 followsOwn (CommandAsk x s) a u c =
-    Accepted u × ((b : List ℕ) × Bounds (saidCommand u c ≡ stepCommand s b a) (standsCommand u c) ((m : ℕ) → CallWithin s (suc m) → ToldWithin u m))
+    Accepted u × ((b : List ℕ) × Bounds (saidCommand u c ≡ stepCommand s b a) (standsCommand u c) (InType a → toldLeft u ≤ callLeft s - 1))
 followsOwn (CommandEnd v) a u c = ⊥
 followsOwn (CommandRefused q) a u c = ⊥
 

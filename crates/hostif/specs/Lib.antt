@@ -1,5 +1,5 @@
 pub mod Hostif
-pub mod Within
+pub mod Left
 pub mod Acquire
 pub mod Locked
 pub mod Calls

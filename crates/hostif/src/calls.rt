@@ -11,7 +11,7 @@ use hardware::Flag;
 use hardware::Opening;
 use hardware::Port;
 use hardware::Refusal;
-ghost use Prim.Native.Nat.{ℕ, suc, _≤_};
+ghost use Prim.Native.Nat.{ℕ, _-_, _<_, _≤_};
 ghost use mathlib.Core.Path.{_≡_};
 ghost use mathlib.Core.Bool.{true};
 ghost use mathlib.Core.List.{List};
@@ -20,8 +20,9 @@ ghost use Rattle.hardware.specs.Asked.{fits as fitsAnswer, yes, openPort, valid
 ghost use Rattle.hardware.specs.Promise.{Keeps, Bounds};
 ghost use Rattle.hardware.specs.Prog.{erase};
 ghost use Rattle.hostif.specs.Hostif.{commandNext, accessCommand, restCommand, validCommand, validCommandNext, tokenNext, validTokenNext};
-ghost use Rattle.hostif.specs.Within.{OpenedWithin, CommandWithin, CommandNextWithin};
-ghost use Rattle.hostif.specs.Calls.{CallWithin, ToldWithin, blockFits, openCommand, validCommandCall, stepped, stepCommand, saidCommand, standsCommand, openToken, validTokenCall, stepToken, saidToken, standsToken};
+ghost use Rattle.hardware.specs.Longest.{InType};
+ghost use Rattle.hostif.specs.Left.{openedLeft, commandLeft, commandNextLeft};
+ghost use Rattle.hostif.specs.Calls.{callLeft, toldLeft, blockFits, openCommand, validCommandCall, stepped, stepCommand, saidCommand, standsCommand, openToken, validTokenCall, stepToken, saidToken, standsToken};
 ghost use Rattle.hardware.specs.Lent.{goes, lent};
 
 pub enum CommandCall {
@@ -57,7 +58,7 @@ fn fits(n: usize) -> bool
 }
 
 fn command_told(port: Port, block: &[u32], n: CommandNext) -> CommandTold
-    ensures { λ r. ⌜ Bounds (saidCommand r (now (block .entry)) ≡ goes (commandNext port n (now (block .entry)))) (validPort port ≡ true → validCommandNext port (length (now (block .entry))) n ≡ true → standsCommand r (now (block .entry))) ((m : ℕ) → CommandNextWithin port n m → ToldWithin r m) ⌝ }
+    ensures { λ r. ⌜ Bounds (saidCommand r (now (block .entry)) ≡ goes (commandNext port n (now (block .entry)))) (validPort port ≡ true → validCommandNext port (length (now (block .entry))) n ≡ true → standsCommand r (now (block .entry))) (toldLeft r ≤ commandNextLeft port n) ⌝ }
 {
     match n {
         CommandNext::Going(t) => CommandTold::Ask(
@@ -69,7 +70,7 @@ fn command_told(port: Port, block: &[u32], n: CommandNext) -> CommandTold
 }
 
 pub fn command_open(family: u32, device: u16, lan: u32, block: &[u32]) -> CommandTold
-    ensures { λ r. ⌜ Bounds (saidCommand r (now (block .entry)) ≡ openCommand family device lan (now (block .entry))) (standsCommand r (now (block .entry))) ((port : Port) (m : ℕ) → openPort family device lan ≡ yes port → OpenedWithin port m → ToldWithin r m) ⌝ }
+    ensures { λ r. ⌜ Bounds (saidCommand r (now (block .entry)) ≡ openCommand family device lan (now (block .entry))) (standsCommand r (now (block .entry))) ((port : Port) → openPort family device lan ≡ yes port → toldLeft r ≤ openedLeft port) ⌝ }
 {
     match hardware::open_port(family, device, lan) {
         Opening::Port(p) => {
@@ -84,7 +85,7 @@ pub fn command_open(family: u32, device: u16, lan: u32, block: &[u32]) -> Comman
 
 fn go(port: Port, t: Command, block: &mut [u32], a: Answer) -> CommandTold
     requires { ⌜ length (now block) ≤ 64 ⌝ }
-    ensures { λ r. ⌜ Bounds (saidCommand r (now (block .exit)) ≡ goes (erase (restCommand port t (now (block .entry)) a))) (validPort port ≡ true → validCommand port (length (now (block .entry))) t ≡ true → standsCommand r (now (block .exit))) ((m : ℕ) → fitsAnswer (accessCommand port t (now (block .entry))) a ≡ true → CommandWithin port t (suc m) → ToldWithin r m) ⌝ }
+    ensures { λ r. ⌜ Bounds (saidCommand r (now (block .exit)) ≡ goes (erase (restCommand port t (now (block .entry)) a))) (validPort port ≡ true → validCommand port (length (now (block .entry))) t ≡ true → standsCommand r (now (block .exit))) (fitsAnswer (accessCommand port t (now (block .entry))) a ≡ true → InType a → toldLeft r < commandLeft port t) ⌝ }
 {
     let n = crate::command::step(port, t, block, a);
     command_told(port, block, n)
@@ -101,7 +102,7 @@ fn valid_command(port: Port, n: usize, t: Command) -> bool
 
 fn command_on(port: Port, t: Command, block: &mut [u32], a: Answer) -> CommandTold
     requires { ⌜ length (now block) ≤ 64 ⌝ }
-    ensures { λ r. ⌜ Bounds (saidCommand r (now (block .exit)) ≡ lent (now (block .entry)) (stepped (CommandCall.Going port t) (now (block .entry)) a)) (standsCommand r (now (block .exit))) ((m : ℕ) → CommandWithin port t (suc m) → ToldWithin r m) ⌝ }
+    ensures { λ r. ⌜ Bounds (saidCommand r (now (block .exit)) ≡ lent (now (block .entry)) (stepped (CommandCall.Going port t) (now (block .entry)) a)) (standsCommand r (now (block .exit))) (InType a → toldLeft r < commandLeft port t) ⌝ }
 {
     let valid = valid_command(port, block.len(), t);
     match hardware::admit(valid, crate::command::access(port, t, block), a) {
@@ -111,7 +112,7 @@ fn command_on(port: Port, t: Command, block: &mut [u32], a: Answer) -> CommandTo
 }
 
 pub fn command_step(s: CommandCall, block: &mut [u32], a: Answer) -> CommandTold
-    ensures { λ r. ⌜ Bounds (saidCommand r (now (block .exit)) ≡ stepCommand s (now (block .entry)) a) (standsCommand r (now (block .exit))) ((m : ℕ) → CallWithin s (suc m) → ToldWithin r m) ⌝ }
+    ensures { λ r. ⌜ Bounds (saidCommand r (now (block .exit)) ≡ stepCommand s (now (block .entry)) a) (standsCommand r (now (block .exit))) (InType a → toldLeft r ≤ callLeft s - 1) ⌝ }
 {
     if fits(block.len()) {
         return match s {

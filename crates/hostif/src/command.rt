@@ -15,7 +15,7 @@ use sync::acquire_bits::AcquireBitsNext;
 use sync::regs::SW_MNG;
 use sync::release_bits::ReleaseBits;
 use sync::release_bits::ReleaseBitsNext;
-ghost use Prim.Native.Nat.{ℕ, suc, _≤_};
+ghost use Prim.Native.Nat.{ℕ, _+_, _<_, _≤_};
 ghost use mathlib.Core.Path.{_≡_};
 ghost use mathlib.Core.Bool.{true};
 ghost use mathlib.Core.List.{List};
@@ -23,12 +23,12 @@ ghost use lib.ListN.{length};
 ghost use Rattle.hardware.specs.Asked.{fits};
 ghost use Rattle.hardware.specs.Prog.{erase, followed};
 ghost use Rattle.hardware.specs.Registers.{word, outcome, byte};
-ghost use Rattle.hardware.specs.Runs.{Ends};
+ghost use Rattle.hardware.specs.Longest.{InType, longest};
 ghost use Rattle.hardware.specs.Promise.{Bounds};
 ghost use Rattle.sync.specs.Regs.{SW-MNG};
-ghost use Rattle.sync.specs.Resource.{acquireBitsNext, validAcquireBitsNext, releaseBits, releaseBitsNext, validReleaseBitsNext};
+ghost use Rattle.sync.specs.Resource.{acquireBitsNext, validAcquireBitsNext, releaseBitsNext, validReleaseBitsNext};
 ghost use Rattle.hostif.specs.Hostif.{both, closed, requestNext, validRequestNext, responseNext, validResponseNext, released, requested, acquired, command, accessCommand, restCommand, commandNext, validCommand, validCommandNext};
-ghost use Rattle.hostif.specs.Within.{InTurn, RequestNextWithin, ResponseNextWithin, RespondWithin, AcquiredWithin, CommandWithin, CommandNextWithin, OpenedWithin};
+ghost use Rattle.hostif.specs.Left.{requestNextLeft, responseNextLeft, releaseLeft, respondLeft, acquiredLeft, openedLeft, commandLeft, commandNextLeft};
 
 // Releasing: with how the command closed.
 pub enum Command {
@@ -57,7 +57,7 @@ fn outcome_of(s: Byte, o: Outcome) -> Byte
 }
 
 fn releasing(port: Port, s: Byte, n: ReleaseBitsNext) -> CommandNext
-    ensures { λ r. ⌜ Bounds ((l : List ℕ) → commandNext port r l ≡ followed (releaseBitsNext port SW-MNG n) (closed (byte s) l)) ((m : ℕ) → validReleaseBitsNext n ≡ true → validCommandNext port m r ≡ true) ((m : ℕ) → Ends (releaseBitsNext port SW-MNG n) m → CommandNextWithin port r m) ⌝ }
+    ensures { λ r. ⌜ Bounds ((l : List ℕ) → commandNext port r l ≡ followed (releaseBitsNext port SW-MNG n) (closed (byte s) l)) ((m : ℕ) → validReleaseBitsNext n ≡ true → validCommandNext port m r ≡ true) (commandNextLeft port r ≤ longest (releaseBitsNext port SW-MNG n)) ⌝ }
 {
     match n {
         ReleaseBitsNext::Going(t) => CommandNext::Going(Command::Releasing(t, s)),
@@ -66,13 +66,13 @@ fn releasing(port: Port, s: Byte, n: ReleaseBitsNext) -> CommandNext
 }
 
 fn release(port: Port, s: Byte) -> CommandNext
-    ensures { λ r. ⌜ Bounds ((l : List ℕ) → commandNext port r l ≡ erase (released port (record { status = byte s; block = l }))) ((m : ℕ) → validCommandNext port m r ≡ true) ((m : ℕ) → Ends (releaseBits port SW-MNG) m → CommandNextWithin port r m) ⌝ }
+    ensures { λ r. ⌜ Bounds ((l : List ℕ) → commandNext port r l ≡ erase (released port (record { status = byte s; block = l }))) ((m : ℕ) → validCommandNext port m r ≡ true) (commandNextLeft port r ≤ releaseLeft port) ⌝ }
 {
     releasing(port, s, sync::release_bits::open(port, SW_MNG))
 }
 
 fn responding(port: Port, n: ResponseNext) -> CommandNext
-    ensures { λ r. ⌜ Bounds ((l : List ℕ) → commandNext port r l ≡ followed (responseNext n l) (released port)) ((m : ℕ) → validResponseNext m n ≡ true → validCommandNext port m r ≡ true) ((m : ℕ) → InTurn (ResponseNextWithin n) (Ends (releaseBits port SW-MNG)) m → CommandNextWithin port r m) ⌝ }
+    ensures { λ r. ⌜ Bounds ((l : List ℕ) → commandNext port r l ≡ followed (responseNext n l) (released port)) ((m : ℕ) → validResponseNext m n ≡ true → validCommandNext port m r ≡ true) (commandNextLeft port r ≤ responseNextLeft n + releaseLeft port) ⌝ }
 {
     match n {
         ResponseNext::Going(t) => CommandNext::Going(Command::Responding(t)),
@@ -81,7 +81,7 @@ fn responding(port: Port, n: ResponseNext) -> CommandNext
 }
 
 fn request_done(port: Port, w: Word) -> CommandNext
-    ensures { λ r. ⌜ Bounds ((l : List ℕ) → commandNext port r l ≡ erase (requested port l (word w))) ((m : ℕ) → validCommandNext port m r ≡ true) ((m : ℕ) → RespondWithin port m → CommandNextWithin port r m) ⌝ }
+    ensures { λ r. ⌜ Bounds ((l : List ℕ) → commandNext port r l ≡ erase (requested port l (word w))) ((m : ℕ) → validCommandNext port m r ≡ true) (commandNextLeft port r ≤ respondLeft port) ⌝ }
 {
     match w {
         Word::Ok(last) => CommandNext::Going(Command::Responding(Response::Head(last))),
@@ -90,7 +90,7 @@ fn request_done(port: Port, w: Word) -> CommandNext
 }
 
 fn requesting(port: Port, n: RequestNext) -> CommandNext
-    ensures { λ r. ⌜ Bounds ((l : List ℕ) → commandNext port r l ≡ followed (requestNext n l) (requested port l)) ((m : ℕ) → validRequestNext m n ≡ true → validCommandNext port m r ≡ true) ((m : ℕ) → InTurn (RequestNextWithin n) (RespondWithin port) m → CommandNextWithin port r m) ⌝ }
+    ensures { λ r. ⌜ Bounds ((l : List ℕ) → commandNext port r l ≡ followed (requestNext n l) (requested port l)) ((m : ℕ) → validRequestNext m n ≡ true → validCommandNext port m r ≡ true) (commandNextLeft port r ≤ requestNextLeft n + respondLeft port) ⌝ }
 {
     match n {
         RequestNext::Going(t) => CommandNext::Going(Command::Requesting(t)),
@@ -99,7 +99,7 @@ fn requesting(port: Port, n: RequestNext) -> CommandNext
 }
 
 fn acquiring(port: Port, n: AcquireBitsNext) -> CommandNext
-    ensures { λ r. ⌜ Bounds ((l : List ℕ) → commandNext port r l ≡ followed (acquireBitsNext port SW-MNG n) (acquired port l)) ((m : ℕ) → validAcquireBitsNext (port .family) n ≡ true → validCommandNext port m r ≡ true) ((m : ℕ) → InTurn (Ends (acquireBitsNext port SW-MNG n)) (AcquiredWithin port) m → CommandNextWithin port r m) ⌝ }
+    ensures { λ r. ⌜ Bounds ((l : List ℕ) → commandNext port r l ≡ followed (acquireBitsNext port SW-MNG n) (acquired port l)) ((m : ℕ) → validAcquireBitsNext (port .family) n ≡ true → validCommandNext port m r ≡ true) (commandNextLeft port r ≤ longest (acquireBitsNext port SW-MNG n) + acquiredLeft port) ⌝ }
 {
     match n {
         AcquireBitsNext::Going(t) => CommandNext::Going(Command::Acquiring(t)),
@@ -111,7 +111,7 @@ fn acquiring(port: Port, n: AcquireBitsNext) -> CommandNext
 }
 
 pub(crate) fn open(port: Port) -> CommandNext
-    ensures { λ r. ⌜ Bounds ((l : List ℕ) → commandNext port r l ≡ erase (command port l)) ((m : ℕ) → validCommandNext port m r ≡ true) ((m : ℕ) → OpenedWithin port m → CommandNextWithin port r m) ⌝ }
+    ensures { λ r. ⌜ Bounds ((l : List ℕ) → commandNext port r l ≡ erase (command port l)) ((m : ℕ) → validCommandNext port m r ≡ true) (commandNextLeft port r ≤ openedLeft port) ⌝ }
 {
     let family = port.family;
     acquiring(
@@ -133,7 +133,7 @@ pub(crate) fn access(port: Port, s: Command, block: &[u32]) -> Access
 
 pub(crate) fn step(port: Port, s: Command, block: &mut [u32], a: Answer) -> CommandNext
     requires { ⌜ length (now block) ≤ 64 ⌝ }
-    ensures { λ r. ⌜ Bounds (commandNext port r (now (block .exit)) ≡ erase (restCommand port s (now (block .entry)) a)) (validCommand port (length (now (block .entry))) s ≡ true → validCommandNext port (length (now (block .entry))) r ≡ true) ((m : ℕ) → fits (accessCommand port s (now (block .entry))) a ≡ true → CommandWithin port s (suc m) → CommandNextWithin port r m) ⌝ }
+    ensures { λ r. ⌜ Bounds (commandNext port r (now (block .exit)) ≡ erase (restCommand port s (now (block .entry)) a)) (validCommand port (length (now (block .entry))) s ≡ true → validCommandNext port (length (now (block .entry))) r ≡ true) (fits (accessCommand port s (now (block .entry))) a ≡ true → InType a → commandNextLeft port r < commandLeft port s) ⌝ }
 {
     match s {
         Command::Acquiring(t) => acquiring(port, sync::acquire_bits::step(port, SW_MNG, t, a)),

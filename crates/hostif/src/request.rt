@@ -13,7 +13,7 @@ use hardware::change::Change;
 use hardware::poll::Poll;
 use hardware::poll::PollNext;
 use hardware::poll::Watch;
-ghost use Prim.Native.Nat.{ℕ, suc, _+_, _*_, _-_, _≤_};
+ghost use Prim.Native.Nat.{ℕ, _+_, _*_, _-_, _<_, _≤_};
 ghost use mathlib.Core.Path.{_≡_};
 ghost use mathlib.Core.Bool.{true};
 ghost use mathlib.Core.List.{List};
@@ -23,10 +23,10 @@ ghost use Rattle.hardware.specs.Registers.{word, outcome};
 ghost use Rattle.hardware.specs.Poll.{pollNext, validPollNext};
 ghost use Rattle.hardware.specs.Change.{updateNext};
 ghost use Rattle.hardware.specs.Asked.{fits};
-ghost use Rattle.hardware.specs.Runs.{Ends};
+ghost use Rattle.hardware.specs.Longest.{InType, longest};
 ghost use Rattle.hardware.specs.Promise.{Bounds};
 ghost use Rattle.hostif.specs.Hostif.{POLLS, hicrWatch, setFwri, words, completed, polling, start, enabled, hicrRead, accessRequest, restRequest, requestNext, validRequest, validRequestNext};
-ghost use Rattle.hostif.specs.Within.{InTurn, START-WITHIN, HICR-WITHIN, RequestWithin, RequestNextWithin};
+ghost use Rattle.hostif.specs.Left.{START-LEFT, HICR-LEFT, requestLeft, requestNextLeft};
 
 pub const HICR: u32 = 0x1_5f00;
 
@@ -103,7 +103,7 @@ pub(crate) fn access(s: Request, block: &[u32]) -> Access
 }
 
 fn fwsts(n: UpdateNext) -> RequestNext
-    ensures { λ r. ⌜ Bounds ((l : List ℕ) → requestNext r l ≡ followed (updateNext setFwri n) (orErr (λ _. hicrRead l))) ((m : ℕ) → validRequestNext m r ≡ true) ((m : ℕ) → InTurn (Ends (updateNext setFwri n)) (λ k. HICR-WITHIN ≤ k) m → RequestNextWithin r m) ⌝ }
+    ensures { λ r. ⌜ Bounds ((l : List ℕ) → requestNext r l ≡ followed (updateNext setFwri n) (orErr (λ _. hicrRead l))) ((m : ℕ) → validRequestNext m r ≡ true) (requestNextLeft r ≤ longest (updateNext setFwri n) + HICR-LEFT) ⌝ }
 {
     match n {
         UpdateNext::Going(t) => RequestNext::Going(Request::Fwsts(t)),
@@ -115,7 +115,7 @@ fn fwsts(n: UpdateNext) -> RequestNext
 }
 
 fn hicr(n: usize, w: Word) -> RequestNext
-    ensures { λ r. ⌜ Bounds ((l : List ℕ) → length l ≡ n → requestNext r l ≡ erase (orErr (enabled l) (word w))) (validRequestNext n r ≡ true) ((m : ℕ) → 64 + START-WITHIN ≤ m → RequestNextWithin r m) ⌝ }
+    ensures { λ r. ⌜ Bounds ((l : List ℕ) → length l ≡ n → requestNext r l ≡ erase (orErr (enabled l) (word w))) (validRequestNext n r ≡ true) (requestNextLeft r ≤ 64 + START-LEFT) ⌝ }
 {
     match w {
         Word::Ok(v) => {
@@ -133,7 +133,7 @@ fn hicr(n: usize, w: Word) -> RequestNext
 
 fn written(n: usize, hicr: u32, at: u8, o: Outcome) -> RequestNext
     requires { ⌜ n ≤ 64 ⌝ }
-    ensures { λ r. ⌜ Bounds ((l : List ℕ) → length l ≡ n → requestNext r l ≡ erase (orErr (λ _. words (at + 1) (drop (at + 1) l) (start hicr)) (outcome o))) (validRequestNext n r ≡ true) ((m : ℕ) → 63 - at + START-WITHIN ≤ m → RequestNextWithin r m) ⌝ }
+    ensures { λ r. ⌜ Bounds ((l : List ℕ) → length l ≡ n → requestNext r l ≡ erase (orErr (λ _. words (at + 1) (drop (at + 1) l) (start hicr)) (outcome o))) (validRequestNext n r ≡ true) (requestNextLeft r ≤ 63 - at + START-LEFT) ⌝ }
 {
     match o {
         Outcome::Ok => {
@@ -147,7 +147,7 @@ fn written(n: usize, hicr: u32, at: u8, o: Outcome) -> RequestNext
 }
 
 fn complete(w: Word) -> RequestNext
-    ensures { λ r. ⌜ Bounds ((l : List ℕ) → requestNext r l ≡ erase (orErr completed (word w))) ((m : ℕ) → validRequestNext m r ≡ true) ((m : ℕ) → RequestNextWithin r m) ⌝ }
+    ensures { λ r. ⌜ Bounds ((l : List ℕ) → requestNext r l ≡ erase (orErr completed (word w))) ((m : ℕ) → validRequestNext m r ≡ true) (requestNextLeft r ≡ 0) ⌝ }
 {
     match w {
         Word::Ok(last) => {
@@ -164,7 +164,7 @@ fn complete(w: Word) -> RequestNext
 }
 
 fn poll(n: PollNext) -> RequestNext
-    ensures { λ r. ⌜ Bounds ((l : List ℕ) → requestNext r l ≡ followed (pollNext hicrWatch n) (orErr completed)) ((m : ℕ) → validPollNext POLLS n ≡ true → validRequestNext m r ≡ true) ((m : ℕ) → Ends (pollNext hicrWatch n) m → RequestNextWithin r m) ⌝ }
+    ensures { λ r. ⌜ Bounds ((l : List ℕ) → requestNext r l ≡ followed (pollNext hicrWatch n) (orErr completed)) ((m : ℕ) → validPollNext POLLS n ≡ true → validRequestNext m r ≡ true) (requestNextLeft r ≤ longest (pollNext hicrWatch n)) ⌝ }
 {
     match n {
         PollNext::Going(t) => RequestNext::Going(Request::Polling(t)),
@@ -173,7 +173,7 @@ fn poll(n: PollNext) -> RequestNext
 }
 
 fn started(hicr: u32, o: Outcome) -> RequestNext
-    ensures { λ r. ⌜ Bounds ((l : List ℕ) → requestNext r l ≡ erase (orErr (λ _. polling hicr) (outcome o))) ((m : ℕ) → validRequestNext m r ≡ true) ((m : ℕ) → 2 * POLLS ≤ m → RequestNextWithin r m) ⌝ }
+    ensures { λ r. ⌜ Bounds ((l : List ℕ) → requestNext r l ≡ erase (orErr (λ _. polling hicr) (outcome o))) ((m : ℕ) → validRequestNext m r ≡ true) (requestNextLeft r ≤ 2 * POLLS) ⌝ }
 {
     match o {
         Outcome::Ok => poll(hardware::poll::open(watch(), POLLS, hicr | HICR_C)),
@@ -184,7 +184,7 @@ fn started(hicr: u32, o: Outcome) -> RequestNext
 // n: the number of the block's words.
 pub(crate) fn step(n: usize, s: Request, a: Answer) -> RequestNext
     requires { ⌜ n ≤ 64 ⌝ }
-    ensures { λ r. ⌜ Bounds ((l : List ℕ) → length l ≡ n → requestNext r l ≡ erase (restRequest s l a)) (validRequest n s ≡ true → validRequestNext n r ≡ true) ((l : List ℕ) (m : ℕ) → fits (accessRequest s l) a ≡ true → RequestWithin s (suc m) → RequestNextWithin r m) ⌝ }
+    ensures { λ r. ⌜ Bounds ((l : List ℕ) → length l ≡ n → requestNext r l ≡ erase (restRequest s l a)) (validRequest n s ≡ true → validRequestNext n r ≡ true) ((l : List ℕ) → fits (accessRequest s l) a ≡ true → InType a → requestNextLeft r < requestLeft s) ⌝ }
 {
     match s {
         Request::Fwsts(t) => fwsts(hardware::change::step(fwri(), t, a)),

@@ -5,7 +5,7 @@ use hardware::Answer;
 use hardware::Byte;
 use hardware::Error;
 use hardware::Word;
-ghost use Prim.Native.Nat.{ℕ, suc, _-_, _<_, _≤_};
+ghost use Prim.Native.Nat.{ℕ, _-_, _<_, _≤_};
 ghost use mathlib.Core.Path.{_≡_};
 ghost use mathlib.Core.Bool.{true};
 ghost use mathlib.Core.List.{List};
@@ -14,7 +14,7 @@ ghost use Rattle.hardware.specs.Prog.{erase};
 ghost use Rattle.hardware.specs.Promise.{Bounds};
 ghost use Rattle.hardware.specs.Registers.{word};
 ghost use Rattle.hostif.specs.Hostif.{lenOf, statusOf, wordsOf, wordSeen, fill, headSeen, accessResponse, restResponse, responseNext, validResponse, validResponseNext};
-ghost use Rattle.hostif.specs.Within.{ResponseWithin, ResponseNextWithin};
+ghost use Rattle.hostif.specs.Left.{responseLeft, responseNextLeft};
 
 // Head: with HICR as last read. Rest: with the head, and the words left after this one.
 pub enum Response {
@@ -71,7 +71,7 @@ pub(crate) fn access(s: Response) -> Access
 }
 
 fn more(head: u32, left: u8) -> ResponseNext
-    ensures { λ r. ⌜ Bounds ((l : List ℕ) → responseNext r l ≡ erase (fill head left l)) ((n : ℕ) → left ≤ wordsOf head → wordsOf head < n → validResponseNext n r ≡ true) ((m : ℕ) → left ≤ m → ResponseNextWithin r m) ⌝ }
+    ensures { λ r. ⌜ Bounds ((l : List ℕ) → responseNext r l ≡ erase (fill head left l)) ((n : ℕ) → left ≤ wordsOf head → wordsOf head < n → validResponseNext n r ≡ true) (responseNextLeft r ≤ left) ⌝ }
 {
     if left == 0 {
         return ResponseNext::End(Byte::Ok(status(head)));
@@ -88,7 +88,7 @@ fn store(block: &mut [u32], at: usize, v: u32)
 }
 
 fn head(last: u32, block: &mut [u32], w: Word) -> ResponseNext
-    ensures { λ r. ⌜ Bounds (responseNext r (now (block .exit)) ≡ erase (headSeen last (now (block .entry)) (word w))) (validResponseNext (length (now (block .entry))) r ≡ true) ((m : ℕ) → 64 ≤ m → ResponseNextWithin r m) ⌝ }
+    ensures { λ r. ⌜ Bounds (responseNext r (now (block .exit)) ≡ erase (headSeen last (now (block .entry)) (word w))) (validResponseNext (length (now (block .entry))) r ≡ true) (responseNextLeft r ≤ 64) ⌝ }
 {
     match w {
         Word::Ok(head) => {
@@ -103,7 +103,7 @@ fn head(last: u32, block: &mut [u32], w: Word) -> ResponseNext
 }
 
 fn rest(head: u32, left: u8, block: &mut [u32], w: Word) -> ResponseNext
-    ensures { λ r. ⌜ Bounds (responseNext r (now (block .exit)) ≡ erase (wordSeen (fill head left) (wordsOf head - left) (now (block .entry)) (word w))) (left ≤ wordsOf head → wordsOf head < length (now (block .entry)) → validResponseNext (length (now (block .entry))) r ≡ true) ((m : ℕ) → left ≤ m → ResponseNextWithin r m) ⌝ }
+    ensures { λ r. ⌜ Bounds (responseNext r (now (block .exit)) ≡ erase (wordSeen (fill head left) (wordsOf head - left) (now (block .entry)) (word w))) (left ≤ wordsOf head → wordsOf head < length (now (block .entry)) → validResponseNext (length (now (block .entry))) r ≡ true) (responseNextLeft r ≤ left) ⌝ }
 {
     match w {
         Word::Ok(v) => {
@@ -115,7 +115,7 @@ fn rest(head: u32, left: u8, block: &mut [u32], w: Word) -> ResponseNext
 }
 
 pub(crate) fn step(s: Response, block: &mut [u32], a: Answer) -> ResponseNext
-    ensures { λ r. ⌜ Bounds (responseNext r (now (block .exit)) ≡ erase (restResponse s (now (block .entry)) a)) (validResponse (length (now (block .entry))) s ≡ true → validResponseNext (length (now (block .entry))) r ≡ true) ((m : ℕ) → ResponseWithin s (suc m) → ResponseNextWithin r m) ⌝ }
+    ensures { λ r. ⌜ Bounds (responseNext r (now (block .exit)) ≡ erase (restResponse s (now (block .entry)) a)) (validResponse (length (now (block .entry))) s ≡ true → validResponseNext (length (now (block .entry))) r ≡ true) (responseNextLeft r < responseLeft s) ⌝ }
 {
     match s {
         Response::Head(last) => head(last, block, hardware::read_raw(a)),

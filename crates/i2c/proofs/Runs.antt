@@ -16,7 +16,8 @@ use Rattle.hardware.specs.Asked.{Asked, no, yes, andThen, question, openPort, f
 use Rattle.hardware.specs.Prog.{Prog, R, blank, tally, erase}
 use Rattle.hardware.specs.Change.{change, restUpdate}
 use Rattle.hardware.specs.Runs.{run, runAsked, Awaited, ended, meterIn, countedStatus, counted, AwaitedIn, leftAfter, leftAskedAfter, Exchange, answersOf, AllKept, driven, Asks, IfYes, Lasts}
-use Rattle.hardware.proofs.Laws.{run-tally, is-true, StepsOn, opened-runs, steps-few}
+use Rattle.hardware.proofs.Laws.{run-tally, is-true, StepsOn, opened-runs}
+use Rattle.hardware.proofs.Longest.{Falls, lasting-falls, Accepts, steps-few}
 use Rattle.hardware.proofs.Ends.{run-ends, ask-ends, ends-erase, updateAfter, update-rest-ends, ends-tally, ends-more, ends-bind, ret-ends}
 use Rattle.i2c.specs.declared.How.{How}
 use Rattle.i2c.specs.declared.once.Request.{Request}
@@ -94,6 +95,10 @@ transfer-on (Ask y Over) u a h k w = absurd h
 transfer-on (End v m) u a h k w = absurd k
 transfer-on (Refused q) u a h k w = absurd k
 
+-- its number falls at every accepted step
+pub transfer-falls : Falls saidTransfer followsTransfer standsTransfer
+transfer-falls = lasting-falls saidTransfer followsTransfer standsTransfer transfer-on
+
 -- from the opening on, driven by steps that keep their promises
 pub transfer-driven : (family device lan attempts : ℕ) (r : Request) (how : How) (t : TransferTold) → Keeps (saidTransfer t ≡ openTransfer family device lan r attempts how) (standsTransfer t) → (ks : List (Exchange TransferTold)) → AllKept followsTransfer t ks
     → AwaitedIn (openTransfer family device lan r attempts how) (answersOf ks) → driven saidTransfer t ks ≡ andThen (openPort family device lan) (λ port.
@@ -113,6 +118,9 @@ setup-on (SetupAsk y SetupOver) u a h k w = absurd h
 setup-on (SetupEnd o) u a h k w = absurd k
 setup-on (SetupRefused q) u a h k w = absurd k
 
+pub setup-falls : Falls saidSetup followsSetup standsSetup
+setup-falls = lasting-falls saidSetup followsSetup standsSetup setup-on
+
 pub setup-runs : (t : SetupTold) → saidSetup t ≡ yes (erase (change setupBus)) → (l : List Answer) → runAsked (saidSetup t) l ≡ yes (run (change setupBus) l)
 unfolding runAsked
 setup-runs t e l = ap (λ x. runAsked x l) e ∙ ap (λ f. yes (f l)) (run-erase (change setupBus))
@@ -122,17 +130,16 @@ pub setup-driven : (t : SetupTold) → Keeps (saidSetup t ≡ yes (erase (change
 setup-driven t k ks kept w = opened-runs saidSetup followsSetup standsSetup setup-on t ks k kept w ∙ setup-runs t (k .yields) (answersOf ks)
 
 -- from any state, whoever made it, the call takes at most so many steps more
-pub setup-lasts : (x : Access) (s : Update) (ks : List (Exchange SetupTold)) → standsSetup (SetupAsk x (SetupGoing s)) → AllKept followsSetup (SetupAsk x (SetupGoing s)) ks
-    → AwaitedIn (saidSetup (SetupAsk x (SetupGoing s))) (answersOf ks) → Lasts saidSetup (SetupAsk x (SetupGoing s)) ks (suc (updateAfter s))
+pub setup-lasts : (x : Access) (s : Update) (ks : List (Exchange SetupTold)) → standsSetup (SetupAsk x (SetupGoing s)) → AllKept (Accepts saidSetup followsSetup) (SetupAsk x (SetupGoing s)) ks → Lasts saidSetup (SetupAsk x (SetupGoing s)) ks (suc (updateAfter s))
 unfolding saidSetup IfYes
-setup-lasts x s ks h k w =
-    steps-few saidSetup followsSetup standsSetup setup-on (SetupAsk x (SetupGoing s)) ks (suc (updateAfter s)) h k w (ask-ends x _ (updateAfter s) (λ a. ends-erase _ _ (update-rest-ends setupBus s a)))
+setup-lasts x s ks h k =
+    steps-few saidSetup followsSetup standsSetup setup-on (SetupAsk x (SetupGoing s)) ks (suc (updateAfter s)) h k (ask-ends x _ (updateAfter s) (λ a. ends-erase _ _ (update-rest-ends setupBus s a)))
 
 pub transfer-lasts : (x : Access) (port : Port) (r : Request) (how : How) (m : Meter) (s : Handshake) (ks : List (Exchange TransferTold)) → standsTransfer (Ask x (Going port r how m s))
-    → AllKept followsTransfer (Ask x (Going port r how m s)) ks → AwaitedIn (saidTransfer (Ask x (Going port r how m s))) (answersOf ks) → Lasts saidTransfer (Ask x (Going port r how m s)) ks (suc (handshakeAfter (port .family) r (how .lock) s))
+    → AllKept (Accepts saidTransfer followsTransfer) (Ask x (Going port r how m s)) ks → Lasts saidTransfer (Ask x (Going port r how m s)) ks (suc (handshakeAfter (port .family) r (how .lock) s))
 unfolding saidTransfer restCall givesValue IfYes
-transfer-lasts x port r how m s ks h k w =
-    steps-few saidTransfer followsTransfer standsTransfer transfer-on (Ask x (Going port r how m s)) ks (suc (handshakeAfter (port .family) r (how .lock) s)) h k w
+transfer-lasts x port r how m s ks h k =
+    steps-few saidTransfer followsTransfer standsTransfer transfer-on (Ask x (Going port r how m s)) ks (suc (handshakeAfter (port .family) r (how .lock) s)) h k
     (ask-ends x _ (handshakeAfter (port .family) r (how .lock) s)
     (λ a. ends-tally m _ _ (ends-more _ (handshakeAfter (port .family) r (how .lock) s + 0) (handshakeAfter (port .family) r (how .lock) s)
     (ends-bind _ _ (handshakeAfter (port .family) r (how .lock) s) 0 (handshake-rest-ends port r how s a) (λ v. ret-ends _ 0)) (omega arith))))

@@ -13,7 +13,8 @@ use Rattle.hardware.specs.declared.Port.{Port}
 use Rattle.hardware.specs.Asked.{yes, andThen, question, openPort, fits, admitting}
 use Rattle.hardware.specs.Prog.{Prog, R, blank, tally}
 use Rattle.hardware.specs.Runs.{run, runAsked, Awaited, AwaitedIn, driven, ended, meterIn, counted, leftAfter, leftAskedAfter, Exchange, answersOf, AllKept, Asks, IfYes, Lasts}
-use Rattle.hardware.proofs.Laws.{asked-runs, StepsOn, is-true, opened-runs, steps-few}
+use Rattle.hardware.proofs.Laws.{asked-runs, StepsOn, is-true, opened-runs}
+use Rattle.hardware.proofs.Longest.{Falls, lasting-falls, Accepts, steps-few}
 use Rattle.hardware.proofs.Ends.{run-ends, ask-ends, ends-tally}
 use Rattle.i2c.specs.declared.once.Request.the-variants.{ReadByte}
 use Rattle.bus.specs.Layout.{layoutOf}
@@ -72,6 +73,10 @@ identify-on (Ask y Over) u a h k w = absurd h
 identify-on (End f m) u a h k w = absurd k
 identify-on (Refused q) u a h k w = absurd k
 
+-- its number falls at every accepted step
+pub identify-falls : Falls saidIdentify followsIdentify standsIdentify
+identify-falls = lasting-falls saidIdentify followsIdentify standsIdentify identify-on
+
 -- from the opening on, driven by steps that keep their promises
 pub identify-driven : (family device lan : ℕ) (t : IdentifyTold) → Keeps (saidIdentify t ≡ openIdentify family device lan) (standsIdentify t) → (ks : List (Exchange IdentifyTold)) → AllKept followsIdentify t ks
     → AwaitedIn (openIdentify family device lan) (answersOf ks) → driven saidIdentify t ks ≡ andThen (openPort family device lan) (λ port. yes (counted (meterIn blank (identify standard port) (answersOf ks)) (run (identify standard port) (answersOf ks))))
@@ -113,8 +118,8 @@ qsfp-shown q port l = shows-shown _ _ _ l (qsfp-holds q port (Showing port) (sho
 
 -- from any state that passes question 10, whoever made it, the call takes at most so many steps more
 pub identify-lasts : (x : Access) (port : Port) (q : Sequence) (m : Meter) (s : Identify) (ks : List (Exchange IdentifyTold)) → standsIdentify (Ask x (Going port q m s))
-    → AllKept followsIdentify (Ask x (Going port q m s)) ks → AwaitedIn (saidIdentify (Ask x (Going port q m s))) (answersOf ks) → Lasts saidIdentify (Ask x (Going port q m s)) ks (suc (identifyAfter (port .family) s))
+    → AllKept (Accepts saidIdentify followsIdentify) (Ask x (Going port q m s)) ks → Lasts saidIdentify (Ask x (Going port q m s)) ks (suc (identifyAfter (port .family) s))
 unfolding saidIdentify IfYes
-identify-lasts x port q m s ks h k w =
-    steps-few saidIdentify followsIdentify standsIdentify identify-on (Ask x (Going port q m s)) ks (suc (identifyAfter (port .family) s)) h k w
+identify-lasts x port q m s ks h k =
+    steps-few saidIdentify followsIdentify standsIdentify identify-on (Ask x (Going port q m s)) ks (suc (identifyAfter (port .family) s)) h k
     (ask-ends x _ (identifyAfter (port .family) s) (λ a. ends-tally m _ _ (identify-rest-ends q port s a)))

@@ -13,7 +13,8 @@ use Rattle.hardware.specs.declared.Port.{Port}
 use Rattle.hardware.specs.Asked.{yes, andThen, question, openPort, fits, admitting}
 use Rattle.hardware.specs.Prog.{Prog, R, Ok, Err, blank, tally}
 use Rattle.hardware.specs.Runs.{run, runAsked, Awaited, AwaitedIn, driven, ended, meterIn, counted, leftAfter, leftAskedAfter, Exchange, answersOf, AllKept, Asks, IfYes, Ends, Lasts}
-use Rattle.hardware.proofs.Laws.{asked-runs, StepsOn, is-true, opened-runs, steps-few}
+use Rattle.hardware.proofs.Laws.{asked-runs, StepsOn, is-true, opened-runs}
+use Rattle.hardware.proofs.Longest.{Falls, lasting-falls, Accepts, steps-few}
 use Rattle.hardware.proofs.Ends.{run-ends, ask-ends, ends-tally, ends-more, ends-bind, ret-ends}
 use Rattle.i2c.specs.declared.once.Request.the-variants.{ReadByte, WriteByte}
 use Rattle.i2c.specs.I2c.{standard, locked, attempts}
@@ -63,6 +64,10 @@ rate-on (Ask y (Going port q ten m s)) u a h k w = (k .yields ∙ rate-accepts y
 rate-on (Ask y Over) u a h k w = absurd h
 rate-on (End f m) u a h k w = absurd k
 rate-on (Refused q) u a h k w = absurd k
+
+-- its number falls at every accepted step
+pub rate-falls : Falls saidRate followsRate standsRate
+rate-falls = lasting-falls saidRate followsRate standsRate rate-on
 
 -- from the opening on, driven by steps that keep their promises
 pub rate-driven : (family device lan : ℕ) (ten : Bool) (t : RateTold) → Keeps (saidRate t ≡ openRate family device lan ten) (standsRate t) → (ks : List (Exchange RateTold)) → AllKept followsRate t ks
@@ -144,8 +149,8 @@ module _ (q : Sequence) (port : Port) (ten : Bool) where
 
 -- from any state that passes question 10, whoever made it, the call takes at most so many steps more
 pub rate-lasts : (x : Access) (port : Port) (q : Sequence) (ten : Bool) (m : Meter) (s : Rate) (ks : List (Exchange RateTold)) → standsRate (Ask x (Going port q ten m s))
-    → AllKept followsRate (Ask x (Going port q ten m s)) ks → AwaitedIn (saidRate (Ask x (Going port q ten m s))) (answersOf ks) → Lasts saidRate (Ask x (Going port q ten m s)) ks (suc (rateAfter (port .family) ten s))
+    → AllKept (Accepts saidRate followsRate) (Ask x (Going port q ten m s)) ks → Lasts saidRate (Ask x (Going port q ten m s)) ks (suc (rateAfter (port .family) ten s))
 unfolding saidRate IfYes
-rate-lasts x port q ten m s ks h k w =
-    steps-few saidRate followsRate standsRate rate-on (Ask x (Going port q ten m s)) ks (suc (rateAfter (port .family) ten s)) h k w
+rate-lasts x port q ten m s ks h k =
+    steps-few saidRate followsRate standsRate rate-on (Ask x (Going port q ten m s)) ks (suc (rateAfter (port .family) ten s)) h k
     (ask-ends x _ (rateAfter (port .family) ten s) (λ a. ends-tally m _ _ (rate-rest-ends q port ten s a)))

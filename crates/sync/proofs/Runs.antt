@@ -12,7 +12,8 @@ use Rattle.hardware.specs.declared.Family.{Family}
 use Rattle.hardware.specs.Asked.{yes, andThen, question, openFamily, fits, admitting}
 use Rattle.hardware.specs.Prog.{R, erase}
 use Rattle.hardware.specs.Runs.{run, runAsked, Awaited, ended, AwaitedIn, leftAfter, leftAskedAfter, Exchange, answersOf, AllKept, driven, Asks, IfYes, Lasts}
-use Rattle.hardware.proofs.Laws.{runs-open, is-true, StepsOn, opened-runs, steps-few}
+use Rattle.hardware.proofs.Laws.{runs-open, is-true, StepsOn, opened-runs}
+use Rattle.hardware.proofs.Longest.{Falls, lasting-falls, Accepts, steps-few}
 use Rattle.hardware.proofs.Ends.{run-ends, ask-ends, ends-erase}
 use Rattle.sync.specs.declared.lock.Lock.{Lock}
 use Rattle.sync.specs.declared.unlock.Unlock.{Unlock}
@@ -48,6 +49,10 @@ lock-on (LockAsk y LockOver) u a h k w = absurd h
 lock-on (LockEnd o) u a h k w = absurd k
 lock-on (LockRefused q) u a h k w = absurd k
 
+-- its number falls at every accepted step
+pub lock-falls : Falls saidLock followsLock standsLock
+lock-falls = lasting-falls saidLock followsLock standsLock lock-on
+
 -- from the opening on, driven by steps that keep their promises
 pub lock-driven : (family : ℕ) (t : LockTold) → Keeps (saidLock t ≡ openLock family) (standsLock t) → (ks : List (Exchange LockTold)) → AllKept followsLock t ks
     → AwaitedIn (openLock family) (answersOf ks) → driven saidLock t ks ≡ andThen (openFamily family) (λ f. yes (run (lock f) (answersOf ks)))
@@ -73,20 +78,21 @@ unlock-on (UnlockAsk y UnlockOver) u a h k w = absurd h
 unlock-on (UnlockEnd o) u a h k w = absurd k
 unlock-on (UnlockRefused q) u a h k w = absurd k
 
+pub unlock-falls : Falls saidUnlock followsUnlock standsUnlock
+unlock-falls = lasting-falls saidUnlock followsUnlock standsUnlock unlock-on
+
 -- from the opening on, driven by steps that keep their promises
 pub unlock-driven : (family : ℕ) (t : UnlockTold) → Keeps (saidUnlock t ≡ openUnlock family) (standsUnlock t) → (ks : List (Exchange UnlockTold)) → AllKept followsUnlock t ks
     → AwaitedIn (openUnlock family) (answersOf ks) → driven saidUnlock t ks ≡ andThen (openFamily family) (λ f. yes (run (unlock f) (answersOf ks)))
 unlock-driven family t k ks kept w = opened-runs saidUnlock followsUnlock standsUnlock unlock-on t ks k kept w ∙ unlock-runs family t (k .yields) (answersOf ks)
 
 -- from any state that passes question 10, whoever made it, a call takes at most so many steps more
-pub lock-lasts : (x : Access) (f : Family) (s : Lock) (ks : List (Exchange LockTold)) → standsLock (LockAsk x (LockGoing f s)) → AllKept followsLock (LockAsk x (LockGoing f s)) ks
-    → AwaitedIn (saidLock (LockAsk x (LockGoing f s))) (answersOf ks) → Lasts saidLock (LockAsk x (LockGoing f s)) ks (suc (lockAfter s))
+pub lock-lasts : (x : Access) (f : Family) (s : Lock) (ks : List (Exchange LockTold)) → standsLock (LockAsk x (LockGoing f s)) → AllKept (Accepts saidLock followsLock) (LockAsk x (LockGoing f s)) ks → Lasts saidLock (LockAsk x (LockGoing f s)) ks (suc (lockAfter s))
 unfolding saidLock IfYes
-lock-lasts x f s ks h k w =
-    steps-few saidLock followsLock standsLock lock-on (LockAsk x (LockGoing f s)) ks (suc (lockAfter s)) h k w (ask-ends x _ (lockAfter s) (λ a. ends-erase _ _ (lock-rest-ends f s a)))
+lock-lasts x f s ks h k =
+    steps-few saidLock followsLock standsLock lock-on (LockAsk x (LockGoing f s)) ks (suc (lockAfter s)) h k (ask-ends x _ (lockAfter s) (λ a. ends-erase _ _ (lock-rest-ends f s a)))
 
-pub unlock-lasts : (x : Access) (f : Family) (s : Unlock) (ks : List (Exchange UnlockTold)) → standsUnlock (UnlockAsk x (UnlockGoing f s)) → AllKept followsUnlock (UnlockAsk x (UnlockGoing f s)) ks
-    → AwaitedIn (saidUnlock (UnlockAsk x (UnlockGoing f s))) (answersOf ks) → Lasts saidUnlock (UnlockAsk x (UnlockGoing f s)) ks (suc (unlockAfter s))
+pub unlock-lasts : (x : Access) (f : Family) (s : Unlock) (ks : List (Exchange UnlockTold)) → standsUnlock (UnlockAsk x (UnlockGoing f s)) → AllKept (Accepts saidUnlock followsUnlock) (UnlockAsk x (UnlockGoing f s)) ks → Lasts saidUnlock (UnlockAsk x (UnlockGoing f s)) ks (suc (unlockAfter s))
 unfolding saidUnlock IfYes
-unlock-lasts x f s ks h k w =
-    steps-few saidUnlock followsUnlock standsUnlock unlock-on (UnlockAsk x (UnlockGoing f s)) ks (suc (unlockAfter s)) h k w (ask-ends x _ (unlockAfter s) (λ a. ends-erase _ _ (unlock-rest-ends f s a)))
+unlock-lasts x f s ks h k =
+    steps-few saidUnlock followsUnlock standsUnlock unlock-on (UnlockAsk x (UnlockGoing f s)) ks (suc (unlockAfter s)) h k (ask-ends x _ (unlockAfter s) (λ a. ends-erase _ _ (unlock-rest-ends f s a)))

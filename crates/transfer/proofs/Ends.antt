@@ -5,10 +5,9 @@ use mathlib.Core.Path.{_≡_, refl}
 use mathlib.Core.List.{List, [], _∷_}
 use lib.ListN.{length, drop, length-drop}
 use native.Mathlib.Omega.{arith}
-use Rattle.hardware.specs.declared.Meter.{Meter}
-use Rattle.hardware.specs.Prog.{Prog, ret, ask, note, give, R, Ok, Err, erase, tally}
+use Rattle.hardware.specs.Prog.{Prog, ret, ask, note, give, R, Ok, Err}
 use Rattle.hardware.specs.Runs.{Ends}
-use Rattle.hardware.proofs.Ends.{ends-more, ends-bind, ends-try, ends-pick, ends-erase, ends-tally, ret-ends, note-ends, readRaw-ends, ends-or}
+use Rattle.hardware.proofs.Ends.{ends-more, ends-bind, ends-try, ends-pick, ret-ends, note-ends, readRaw-ends, ends-or}
 use Rattle.bus.specs.declared.Layout.{Layout}
 use Rattle.bus.specs.declared.Taken.{Taken}
 use Rattle.bus.specs.declared.command.Command.{Command}

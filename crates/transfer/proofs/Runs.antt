@@ -2,7 +2,7 @@
 -- Rust's, with the count of transfers, and every list of answers of the awaited kinds that is long enough brings it to its
 -- end. A state that was handed out is not refused at its next step. From any state the call ends, whatever accepted script is
 -- lent at each step.
-use Prim.Native.Nat.{ℕ, _+_, _*_, _≤_, suc, zero}
+use Prim.Native.Nat.{ℕ, _+_, _*_, _-_, _<_, _≤_, suc}
 use mathlib.Core.Path.{_≡_, refl, ap, _∙_, subst, sym}
 use mathlib.Core.Bool.{Bool, true, false}
 use mathlib.Core.List.{List}
@@ -14,8 +14,10 @@ use Rattle.hardware.specs.declared.Answer.{Answer}
 use Rattle.hardware.specs.declared.Port.{Port}
 use Rattle.hardware.specs.Asked.{Asked, no, yes, andThen, question, openPort, fits, admitting}
 use Rattle.hardware.specs.Prog.{Prog, R, blank, tally, _>>=_}
-use Rattle.hardware.specs.Runs.{run, runAsked, Ends, Awaited, ended, transfersIn, meterIn, counted, AwaitedIn, leftAfter, leftAskedAfter, Exchange, answersOf, AllKept, driven, Refuses, Asks, IfYes, Lasts}
-use Rattle.hardware.proofs.Laws.{run-tally, is-true, StepsOn, opened-runs, refused-runs, steps-few, falls-few}
+use Rattle.hardware.specs.Runs.{run, runAsked, Ends, Awaited, ended, transfersIn, meterIn, counted, AwaitedIn, leftAfter, leftAskedAfter, Exchange, answersOf, AllKept, driven, Refuses, Asks, IfYes, Lasts, Unrefused}
+use Rattle.hardware.proofs.Laws.{run-tally, is-true, StepsOn, opened-runs, refused-runs}
+use Rattle.hardware.specs.Longest.{InType}
+use Rattle.hardware.proofs.Longest.{Accepts, steps-few, number-few}
 use Rattle.hardware.proofs.Ends.{ends-more, ends-bind, ret-ends, run-ends, ask-ends, ends-tally}
 use Rattle.bus.specs.declared.Taken.{Taken}
 use Rattle.bus.proofs.Noteless.{Noteless, ret-noteless, bind-noteless, transfers-none}
@@ -31,10 +33,10 @@ use Rattle.transfer.specs.declared.calls.ScriptTold.the-variants.{Ask, R
 use Rattle.transfer.specs.Transfer.{handing}
 use Rattle.transfer.specs.Attempt.{attempt}
 use Rattle.transfer.specs.Calls.{dropped, script, restScript, judgedThen, openScript, steppedScript, stepScript, saidScript, standsScript, single, followsScript, ScriptAt, saidAt, followsLent}
-use Rattle.transfer.specs.Within.{AttemptWithin, CallWithin, ScriptWithin}
+use Rattle.transfer.specs.Left.{attemptLeft, callLeft, scriptLeft}
 use Rattle.transfer.proofs.Laws.{judged-yes}
 use Rattle.transfer.proofs.Ends.{COMMAND-STEPS, ATTEMPT-STEPS, attempt-steps, commands-ends, attemptAfter, attempt-rest-ends}
-use Rattle.transfer.proofs.Within.{attempt-some, attemptLeft, attempt-within}
+use Rattle.transfer.proofs.Left.{attempt-some, attemptMost, attempt-left}
 use Rattle.transfer.proofs.Noteless.{transfer-noteless, attempting-noteless}
 use Rattle.hardware.specs.Promise.{Keeps}
 use borrow.Author.Tests.{eqb-true}
@@ -133,14 +135,14 @@ script-rest-ends port s t a h =
 -- from any state that passes question 10, whoever made it, the call takes at most so many steps more with any accepted script
 -- that is lent at each of them
 pub script-lasts : (x : Access) (port : Port) (s : List ℕ) (t : Attempt) (ks : List (Exchange ScriptTold)) → judged s ≡ 0 → standsScript (Ask x (Going port t)) s
-    → AllKept (followsScript s) (Ask x (Going port t)) ks → AwaitedIn (saidScript (Ask x (Going port t)) s) (answersOf ks) → Lasts (λ u. saidScript u s) (Ask x (Going port t)) ks (suc (attemptAfter t))
+    → AllKept (Accepts (λ u. saidScript u s) (followsScript s)) (Ask x (Going port t)) ks → Lasts (λ u. saidScript u s) (Ask x (Going port t)) ks (suc (attemptAfter t))
 unfolding saidScript IfYes
-script-lasts x port s t ks j h k w =
-    steps-few (λ u. saidScript u s) (followsScript s) (λ u. standsScript u s) (script-on s j) (Ask x (Going port t)) ks (suc (attemptAfter t)) h k w
+script-lasts x port s t ks j h k =
+    steps-few (λ u. saidScript u s) (followsScript s) (λ u. standsScript u s) (script-on s j) (Ask x (Going port t)) ks (suc (attemptAfter t)) h k
     (ask-ends x _ (attemptAfter t) (λ a. ends-tally single _ _ (script-rest-ends port s t a j)))
 
 -- what one script leads on from, any does
-said-any : (u : ScriptTold) (s z : List ℕ) → IfYes (λ p. Unit {0}) (saidScript u s) → IfYes (λ p. Unit {0}) (saidScript u z)
+said-any : (u : ScriptTold) (s z : List ℕ) → Unrefused (saidScript u s) → Unrefused (saidScript u z)
 unfolding saidScript IfYes
 said-any (Ask x (Going port t)) s z h = tt
 said-any (Ask x Over) s z h = h
@@ -149,51 +151,60 @@ said-any (Read b x Over) s z h = h
 said-any (End o m) s z h = tt
 said-any (Refused q) s z h = h
 
-pub record LentWithin (t : ScriptAt) (n : ℕ) : Type 0 where
-  pub left : ScriptWithin (t .told) n
-  pub unrefused : IfYes (λ p. Unit {0}) (saidAt t)
+goes : (t u : ScriptAt) (a : Answer) → followsLent t a u → Unrefused (saidAt u)
+unfolding followsLent saidAt
+goes t u a k = said-any (u .told) (t .script) (u .script) (k .1)
 
--- an accepted step takes one access, whichever script it is lent
-pub lent-falls : (t u : ScriptAt) (a : Answer) (n : ℕ) → followsLent t a u → LentWithin t n → (m : ℕ) × (n ≡ suc m) × LentWithin u m
-unfolding followsLent followsScript saidAt saidScript ScriptWithin CallWithin IfYes
-lent-falls t u a n k w = by (t .told) (k .0) (w .left) (w .unrefused)
+never-yes : (A : Type 0) (b : Bool) (n m : ℕ) → Unrefused {A = A} (question b n (no m)) → ⊥
+unfolding IfYes question
+never-yes A true n m h = h
+never-yes A false n m h = h
+
+-- the number falls at every accepted step, whichever script it is lent
+pub lent-falls : (t u : ScriptAt) (a : Answer) → followsLent t a u → InType a → scriptLeft (u .told) < scriptLeft (t .told)
+unfolding followsLent followsScript stepScript steppedScript judgedThen scriptLeft callLeft
+lent-falls t u a k i = by (t .told) (k .0)
   where
-    on : (port : Port) (c : Attempt) (n : ℕ) → ((m : ℕ) → AttemptWithin (layoutOf (port .family)) c (suc m) → ScriptWithin (u .told) m)
-        → AttemptWithin (layoutOf (port .family)) c n → (m : ℕ) × (n ≡ suc m) × LentWithin u m
-    on port c zero f w = absurd (omega (arith, attempt-some (layoutOf (port .family)) c 0 w))
-    on port c (suc m) f w = (m, refl, record { left = f m w; unrefused = said-any (u .told) (t .script) (u .script) (k .1) })
+    less : (port : Port) (c : Attempt) → scriptLeft (u .told) ≤ callLeft (Going port c) - 1 → scriptLeft (u .told) < attemptLeft (layoutOf (port .family)) c
+    less port c h = omega (arith, attempt-some (layoutOf (port .family)) c, h)
 
-    by : (v : ScriptTold) → followsScript (t .script) v a (u .told) → ScriptWithin v n → IfYes (λ p. Unit {0}) (saidScript v (t .script))
-        → (m : ℕ) × (n ≡ suc m) × LentWithin u m
-    by (Ask x (Going port c)) k w y = on port c n (k .within) w
-    by (Ask x Over) k w y = absurd y
-    by (Read b x (Going port c)) k w y = on port c n (k .within) w
-    by (Read b x Over) k w y = absurd y
-    by (End o m) k w y = absurd k
-    by (Refused q) k w y = absurd k
+    over : saidScript (u .told) (t .script) ≡ stepScript Over (t .script) a → ⊥
+    over e = never-yes _ _ _ _ (subst Unrefused e (k .1))
 
-lent-over : (t : ScriptAt) → LentWithin t 0 → IfYes (λ p. Asks p → ⊥) (saidAt t)
-unfolding saidAt saidScript ScriptWithin CallWithin IfYes Asks
-lent-over t w = by (t .told) (w .left) (w .unrefused)
+    by : (v : ScriptTold) → followsScript (t .script) v a (u .told) → scriptLeft (u .told) < scriptLeft v
+    by (Ask x (Going port c)) k = less port c (k .within i)
+    by (Ask x Over) k = absurd (over (k .yields))
+    by (Read b x (Going port c)) k = less port c (k .within i)
+    by (Read b x Over) k = absurd (over (k .yields))
+    by (End o m) k = absurd k
+    by (Refused q) k = absurd k
+
+lent-over : (t : ScriptAt) → Unrefused (saidAt t) → scriptLeft (t .told) ≡ 0 → IfYes (λ p. Asks p → ⊥) (saidAt t)
+unfolding saidAt saidScript scriptLeft callLeft IfYes Asks
+lent-over t y e = by (t .told) y e
   where
-    none : (port : Port) (c : Attempt) → AttemptWithin (layoutOf (port .family)) c 0 → ⊥
-    none port c w = omega (arith, attempt-some (layoutOf (port .family)) c 0 w)
+    none : (port : Port) (c : Attempt) → attemptLeft (layoutOf (port .family)) c ≡ 0 → ⊥
+    none port c e = omega (arith, attempt-some (layoutOf (port .family)) c, e)
 
-    by : (v : ScriptTold) → ScriptWithin v 0 → IfYes (λ p. Unit {0}) (saidScript v (t .script)) → IfYes (λ p. Asks p → ⊥) (saidScript v (t .script))
-    by (Ask x (Going port c)) w y = absurd (none port c w)
-    by (Ask x Over) w y = absurd y
-    by (Read b x (Going port c)) w y = absurd (none port c w)
-    by (Read b x Over) w y = absurd y
-    by (End o m) w y = λ k. k
-    by (Refused q) w y = absurd y
+    by : (v : ScriptTold) → Unrefused (saidScript v (t .script)) → scriptLeft v ≡ 0 → IfYes (λ p. Asks p → ⊥) (saidScript v (t .script))
+    by (Ask x (Going port c)) y e = absurd (none port c e)
+    by (Ask x Over) y e = absurd y
+    by (Read b x (Going port c)) y e = absurd (none port c e)
+    by (Read b x Over) y e = absurd y
+    by (End o m) y e = λ k. k
+    by (Refused q) y e = absurd y
 
--- where n accesses are enough, and of an opening its contract says how many are, the call takes at most n accepted steps more, each
--- lent an accepted script of its own, and has ended after n
-pub script-lasts-within : (t : ScriptAt) (ks : List (Exchange ScriptAt)) (n : ℕ) → IfYes (λ p. Unit {0}) (saidAt t) → ScriptWithin (t .told) n → AllKept followsLent t ks → Lasts saidAt t ks n
-script-lasts-within t ks n y w kept = falls-few saidAt followsLent LentWithin lent-falls lent-over t ks n (record { left = w; unrefused = y }) kept
+-- So with at most n accesses left, and of an opening its contract says how many there are, the call takes at most n accepted steps
+-- more, each lent an accepted script of its own, and has ended after n
+pub script-lasts-within : (t : ScriptAt) (ks : List (Exchange ScriptAt)) (n : ℕ) → Unrefused (saidAt t) → scriptLeft (t .told) ≤ n
+    → AllKept (λ t a u. followsLent t a u × InType a) t ks → Lasts saidAt t ks n
+script-lasts-within t ks n y h kept =
+    number-few saidAt (λ t a u. followsLent t a u × InType a) (λ t. Unrefused (saidAt t)) (λ t. scriptLeft (t .told))
+    (λ t u a y k. (goes t u a (k .0), lent-falls t u a (k .0) (k .1))) lent-over t ks n y h kept
 
 -- from any state, whoever made it
 pub script-lasts-lent : (x : Access) (port : Port) (s : List ℕ) (t : Attempt) (ks : List (Exchange ScriptAt))
-    → AllKept followsLent (record { told = Ask x (Going port t); script = s }) ks → Lasts saidAt (record { told = Ask x (Going port t); script = s }) ks (attemptLeft t)
-unfolding saidAt saidScript ScriptWithin CallWithin IfYes
-script-lasts-lent x port s t ks kept = script-lasts-within _ ks (attemptLeft t) tt (attempt-within (layoutOf (port .family)) t) kept
+    → AllKept (λ t a u. followsLent t a u × InType a) (record { told = Ask x (Going port t); script = s }) ks
+    → Lasts saidAt (record { told = Ask x (Going port t); script = s }) ks (attemptMost t)
+unfolding saidAt saidScript scriptLeft callLeft IfYes
+script-lasts-lent x port s t ks kept = script-lasts-within _ ks (attemptMost t) tt (attempt-left (layoutOf (port .family)) t) kept

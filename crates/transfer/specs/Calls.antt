@@ -1,6 +1,6 @@
 -- What the call of a script yields: a refusal by its number, or what is left of the call. Its result has the meter beside
 -- it.
-use Prim.Native.Nat.{ℕ, suc}
+use Prim.Native.Nat.{ℕ, _-_, _≤_}
 use mathlib.Core.Path.{_≡_}
 use mathlib.Core.Bool.{Bool, true, false}
 use mathlib.Core.List.{List}
@@ -24,9 +24,10 @@ use Rattle.transfer.specs.declared.calls.ScriptTold.{ScriptTold}
 use Rattle.transfer.specs.declared.calls.ScriptTold.the-variants.{Ask, Read, End, Refused}
 use Rattle.transfer.specs.Transfer.{handing, transfer}
 use Rattle.transfer.specs.Attempt.{attempt, accessAttempt, restAttempt, validAttempt}
-use Rattle.transfer.specs.Within.{CallWithin, ScriptWithin}
+use Rattle.transfer.specs.Left.{callLeft, scriptLeft}
+use Rattle.hardware.specs.Longest.{InType}
 use Rattle.hardware.specs.Promise.{Bounds}
-use Rattle.hardware.specs.Runs.{IfYes}
+use Rattle.hardware.specs.Runs.{Unrefused}
 
 -- the result of a script has no bytes, they were handed out
 unfoldable pub without : R Taken → R (Unit {0})
@@ -90,8 +91,8 @@ standsScript (Refused q) s = Unit {0}
 
 -- what a step told, u, follows what was told before it, t, where s is lent: as the step promises
 unfoldable pub followsScript : List ℕ → ScriptTold → Answer → ScriptTold → Type 0
-followsScript s (Ask x c) a u = Bounds (saidScript u s ≡ stepScript c s a) (standsScript u s) ((n : ℕ) → CallWithin c (suc n) → ScriptWithin u n)
-followsScript s (Read b x c) a u = Bounds (saidScript u s ≡ stepScript c s a) (standsScript u s) ((n : ℕ) → CallWithin c (suc n) → ScriptWithin u n)
+followsScript s (Ask x c) a u = Bounds (saidScript u s ≡ stepScript c s a) (standsScript u s) (InType a → scriptLeft u ≤ callLeft c - 1)
+followsScript s (Read b x c) a u = Bounds (saidScript u s ≡ stepScript c s a) (standsScript u s) (InType a → scriptLeft u ≤ callLeft c - 1)
 followsScript s (End o m) a u = ⊥
 followsScript s (Refused q) a u = ⊥
 
@@ -105,4 +106,4 @@ saidAt t = saidScript (t .told) (t .script)
 
 -- a step that is lent a script of its own follows, and is accepted
 unfoldable pub followsLent : ScriptAt → Answer → ScriptAt → Type 0
-followsLent t a u = followsScript (t .script) (t .told) a (u .told) × IfYes (λ p. Unit {0}) (saidScript (u .told) (t .script))
+followsLent t a u = followsScript (t .script) (t .told) a (u .told) × Unrefused (saidScript (u .told) (t .script))

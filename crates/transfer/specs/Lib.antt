@@ -1,5 +1,5 @@
 pub mod Transfer
 pub mod Attempt
-pub mod Within
+pub mod Left
 pub mod Calls
 pub mod Bytes

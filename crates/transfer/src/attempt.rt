@@ -10,7 +10,7 @@ use hardware::Answer;
 use hardware::Error;
 use hardware::Outcome;
 use hardware::Word;
-ghost use Prim.Native.Nat.{ℕ, _≤_, suc};
+ghost use Prim.Native.Nat.{ℕ, _<_, _≤_};
 ghost use mathlib.Core.Path.{_≡_};
 ghost use mathlib.Core.Bool.{true};
 ghost use mathlib.Core.List.{List};
@@ -20,14 +20,14 @@ ghost use Rattle.hardware.specs.Failures.{failureOf};
 ghost use Rattle.hardware.specs.Prog.{erase, followed, orErr, Err};
 ghost use Rattle.hardware.specs.Promise.{Bounds};
 ghost use Rattle.hardware.specs.Registers.{word};
-ghost use Rattle.hardware.specs.Runs.{Ends};
+ghost use Rattle.hardware.specs.Longest.{InType, longest};
 ghost use Rattle.bus.specs.Clear.{clearNext, validClearNext};
 ghost use Rattle.bus.specs.Steps.{CLEAR-STEPS};
 ghost use Rattle.script.specs.Script.{commands, onCommand};
 ghost use Rattle.bus.specs.Bus.{none};
 ghost use Rattle.transfer.specs.Transfer.{Mode, transfer, transferNext, validTransferNext};
 ghost use Rattle.transfer.specs.Attempt.{clearing, orI2c, cleared, orTried, tried, begun, accessAttempt, restAttempt, attemptNext, validAttempt, validAttemptNext};
-ghost use Rattle.transfer.specs.Within.{COMMANDS-STEPS, TransferNextWithin, AttemptWithin, AttemptNextWithin};
+ghost use Rattle.transfer.specs.Left.{COMMANDS-STEPS, transferNextLeft, attemptLeft, attemptNextLeft};
 
 // The clearing sequences by name. Pulses: that of the Rust, nine pulses of SCL between two starts.
 pub enum Sequence {
@@ -72,7 +72,7 @@ fn clear_done(device: u8, e: Error) -> Error
 }
 
 fn cleared(l: Layout, device: u8, n: ClearNext) -> AttemptNext
-    ensures { λ r. ⌜ Bounds ((m : Mode) (q : Sequence) (s : List ℕ) → attemptNext m q l device s r ≡ followed (clearNext l n) (cleared device)) ((s : List ℕ) → validClearNext l n ≡ true → validAttemptNext l s r ≡ true) ((m : ℕ) → Ends (clearNext l n) m → AttemptNextWithin l r m) ⌝ }
+    ensures { λ r. ⌜ Bounds ((m : Mode) (q : Sequence) (s : List ℕ) → attemptNext m q l device s r ≡ followed (clearNext l n) (cleared device)) ((s : List ℕ) → validClearNext l n ≡ true → validAttemptNext l s r ≡ true) (attemptNextLeft l r ≤ longest (clearNext l n)) ⌝ }
 {
     match n {
         ClearNext::Going(c) => AttemptNext::Going(Attempt::Clearing(c)),
@@ -84,7 +84,7 @@ fn cleared(l: Layout, device: u8, n: ClearNext) -> AttemptNext
 }
 
 fn failed(q: Sequence, l: Layout, device: u8, ctl: u32, e: Error) -> AttemptNext
-    ensures { λ r. ⌜ Bounds ((m : Mode) (s : List ℕ) → attemptNext m q l device s r ≡ erase (orTried q l device ctl (Err (failureOf e)))) ((s : List ℕ) → validAttemptNext l s r ≡ true) ((n : ℕ) → CLEAR-STEPS ≤ n → AttemptNextWithin l r n) ⌝ }
+    ensures { λ r. ⌜ Bounds ((m : Mode) (s : List ℕ) → attemptNext m q l device s r ≡ erase (orTried q l device ctl (Err (failureOf e)))) ((s : List ℕ) → validAttemptNext l s r ≡ true) (attemptNextLeft l r ≤ CLEAR-STEPS) ⌝ }
 {
     if bus::is_i2c(e) {
         return cleared(l, device, clear(q, l, ctl));
@@ -93,7 +93,7 @@ fn failed(q: Sequence, l: Layout, device: u8, ctl: u32, e: Error) -> AttemptNext
 }
 
 fn from_transfer(q: Sequence, l: Layout, device: u8, n: TransferNext) -> AttemptNext
-    ensures { λ r. ⌜ Bounds ((m : Mode) (s : List ℕ) → attemptNext m q l device s r ≡ followed (transferNext m l device s n) (tried q l device)) ((s : List ℕ) → validTransferNext l s n ≡ true → validAttemptNext l s r ≡ true) ((m : ℕ) → TransferNextWithin l n m → AttemptNextWithin l r m) ⌝ }
+    ensures { λ r. ⌜ Bounds ((m : Mode) (s : List ℕ) → attemptNext m q l device s r ≡ followed (transferNext m l device s n) (tried q l device)) ((s : List ℕ) → validTransferNext l s n ≡ true → validAttemptNext l s r ≡ true) (attemptNextLeft l r ≤ transferNextLeft l n) ⌝ }
 {
     match n {
         TransferNext::Going(t) => AttemptNext::Going(Attempt::Moving(t)),
@@ -106,7 +106,7 @@ fn from_transfer(q: Sequence, l: Layout, device: u8, n: TransferNext) -> Attempt
 }
 
 fn begin(q: Sequence, l: Layout, device: u8, script: &[u8], w: Word) -> AttemptNext
-    ensures { λ r. ⌜ Bounds ((m : Mode) → attemptNext m q l device (now (script .entry)) r ≡ erase (orErr (begun q l device (transfer m l device (commands (now (script .entry))) none)) (word w))) (onCommand (now (script .entry)) 0 ≡ true → validAttemptNext l (now (script .entry)) r ≡ true) ((n : ℕ) → COMMANDS-STEPS ≤ n → AttemptNextWithin l r n) ⌝ }
+    ensures { λ r. ⌜ Bounds ((m : Mode) → attemptNext m q l device (now (script .entry)) r ≡ erase (orErr (begun q l device (transfer m l device (commands (now (script .entry))) none)) (word w))) (onCommand (now (script .entry)) 0 ≡ true → validAttemptNext l (now (script .entry)) r ≡ true) (attemptNextLeft l r ≤ COMMANDS-STEPS) ⌝ }
 {
     match w {
         Word::Ok(ctl) => {
@@ -132,7 +132,7 @@ pub fn access(l: Layout, s: Attempt) -> Access
 }
 
 pub fn step(q: Sequence, l: Layout, device: u8, script: &[u8], s: Attempt, a: Answer) -> AttemptNext
-    ensures { λ r. ⌜ Bounds ((m : Mode) → attemptNext m q l device (now (script .entry)) r ≡ erase (restAttempt m q l device (now (script .entry)) s a)) (onCommand (now (script .entry)) 0 ≡ true → validAttempt l (now (script .entry)) s ≡ true → validAttemptNext l (now (script .entry)) r ≡ true) ((n : ℕ) → length (now (script .entry)) ≤ 64 → fits (accessAttempt l s) a ≡ true → AttemptWithin l s (suc n) → AttemptNextWithin l r n) ⌝ }
+    ensures { λ r. ⌜ Bounds ((m : Mode) → attemptNext m q l device (now (script .entry)) r ≡ erase (restAttempt m q l device (now (script .entry)) s a)) (onCommand (now (script .entry)) 0 ≡ true → validAttempt l (now (script .entry)) s ≡ true → validAttemptNext l (now (script .entry)) r ≡ true) (length (now (script .entry)) ≤ 64 → fits (accessAttempt l s) a ≡ true → InType a → attemptNextLeft l r < attemptLeft l s) ⌝ }
 {
     match s {
         Attempt::New => begin(q, l, device, script, hardware::read_raw(a)),

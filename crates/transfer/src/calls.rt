@@ -14,7 +14,7 @@ use hardware::Outcome;
 use hardware::Port;
 use hardware::Refusal;
 use script::cursor::Judged;
-ghost use Prim.Native.Nat.{ℕ, _+_, _≤_, suc};
+ghost use Prim.Native.Nat.{ℕ, _+_, _-_, _<_, _≤_};
 ghost use mathlib.Core.Path.{_≡_};
 ghost use mathlib.Core.Bool.{true};
 ghost use mathlib.Core.List.{List};
@@ -29,7 +29,8 @@ ghost use Rattle.transfer.specs.declared.attempt.Sequence.the-variants.{
 ghost use Rattle.transfer.specs.Transfer.{handing};
 ghost use Rattle.transfer.specs.Attempt.{got, attemptNext, validAttemptNext};
 ghost use Rattle.transfer.specs.Calls.{without, dropped, single, openScript, validScript, steppedScript, stepScript, saidScript, standsScript};
-ghost use Rattle.transfer.specs.Within.{COMMANDS-STEPS, AttemptNextWithin, CallWithin, ScriptWithin};
+ghost use Rattle.hardware.specs.Longest.{InType};
+ghost use Rattle.transfer.specs.Left.{COMMANDS-STEPS, attemptNextLeft, callLeft, scriptLeft};
 
 pub enum ScriptCall {
     Going(Port, Attempt),
@@ -54,7 +55,7 @@ fn outcome_of(g: Got) -> Outcome
 }
 
 fn told(port: Port, n: AttemptNext) -> ScriptTold
-    ensures { λ r. ⌜ Bounds ((s : List ℕ) → saidScript r s ≡ yes (tally single (followed (attemptNext handing Pulses (layoutOf (port .family)) (device s) s n) dropped))) ((s : List ℕ) → validPort port ≡ true → validAttemptNext (layoutOf (port .family)) s n ≡ true → standsScript r s) ((m : ℕ) → AttemptNextWithin (layoutOf (port .family)) n m → ScriptWithin r m) ⌝ }
+    ensures { λ r. ⌜ Bounds ((s : List ℕ) → saidScript r s ≡ yes (tally single (followed (attemptNext handing Pulses (layoutOf (port .family)) (device s) s n) dropped))) ((s : List ℕ) → validPort port ≡ true → validAttemptNext (layoutOf (port .family)) s n ≡ true → standsScript r s) (scriptLeft r ≤ attemptNextLeft (layoutOf (port .family)) n) ⌝ }
 {
     let family = port.family;
     let l = bus::layout_of(family);
@@ -73,7 +74,7 @@ fn told(port: Port, n: AttemptNext) -> ScriptTold
 }
 
 pub fn script_open(family: u32, device: u16, lan: u32, script: &[u8]) -> ScriptTold
-    ensures { λ r. ⌜ Bounds (saidScript r (now (script .entry)) ≡ openScript family device lan (now (script .entry))) (standsScript r (now (script .entry))) (ScriptWithin r (1 + COMMANDS-STEPS)) ⌝ }
+    ensures { λ r. ⌜ Bounds (saidScript r (now (script .entry)) ≡ openScript family device lan (now (script .entry))) (standsScript r (now (script .entry))) (scriptLeft r ≤ 1 + COMMANDS-STEPS) ⌝ }
 {
     match hardware::open_port(family, device, lan) {
         Opening::Port(p) => match script::cursor::judge(script) {
@@ -95,7 +96,7 @@ fn valid(port: Port, script: &[u8], t: Attempt) -> bool
 }
 
 fn script_on(port: Port, t: Attempt, script: &[u8], a: Answer) -> ScriptTold
-    ensures { λ r. ⌜ Bounds (saidScript r (now (script .entry)) ≡ steppedScript (ScriptCall.Going port t) (now (script .entry)) a) (onCommand (now (script .entry)) 0 ≡ true → standsScript r (now (script .entry))) ((n : ℕ) → length (now (script .entry)) ≤ 64 → CallWithin (ScriptCall.Going port t) (suc n) → ScriptWithin r n) ⌝ }
+    ensures { λ r. ⌜ Bounds (saidScript r (now (script .entry)) ≡ steppedScript (ScriptCall.Going port t) (now (script .entry)) a) (onCommand (now (script .entry)) 0 ≡ true → standsScript r (now (script .entry))) (length (now (script .entry)) ≤ 64 → InType a → scriptLeft r < callLeft (ScriptCall.Going port t)) ⌝ }
 {
     let family = port.family;
     let l = bus::layout_of(family);
@@ -112,7 +113,7 @@ fn script_on(port: Port, t: Attempt, script: &[u8], a: Answer) -> ScriptTold
 }
 
 pub fn script_step(s: ScriptCall, script: &[u8], a: Answer) -> ScriptTold
-    ensures { λ r. ⌜ Bounds (saidScript r (now (script .entry)) ≡ stepScript s (now (script .entry)) a) (standsScript r (now (script .entry))) ((n : ℕ) → CallWithin s (suc n) → ScriptWithin r n) ⌝ }
+    ensures { λ r. ⌜ Bounds (saidScript r (now (script .entry)) ≡ stepScript s (now (script .entry)) a) (standsScript r (now (script .entry))) (InType a → scriptLeft r ≤ callLeft s - 1) ⌝ }
 {
     match script::cursor::judge(script) {
         Judged::Accepted => match s {

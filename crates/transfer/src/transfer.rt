@@ -8,7 +8,7 @@ use hardware::Access;
 use hardware::Answer;
 use hardware::Byte;
 use hardware::Outcome;
-ghost use Prim.Native.Nat.{ℕ, _+_, _<_, _≤_, suc};
+ghost use Prim.Native.Nat.{ℕ, _+_, _<_, _≤_};
 ghost use mathlib.Core.Path.{_≡_};
 ghost use mathlib.Core.Bool.{true};
 ghost use lib.ListN.{length, drop};
@@ -18,10 +18,11 @@ ghost use Rattle.hardware.specs.Promise.{Bounds};
 ghost use mathlib.Core.List.{List};
 ghost use Rattle.bus.specs.Command.{jobNext, validJobNext};
 ghost use Rattle.bus.specs.Steps.{CLEAR-STEPS, JOB-STEPS};
-ghost use Rattle.bus.specs.Within.{JobNextWithin};
+ghost use Rattle.hardware.specs.Longest.{InType};
+ghost use Rattle.bus.specs.Left.{jobNextLeft};
 ghost use Rattle.script.specs.Script.{commands, commandAt, onCommand};
 ghost use Rattle.transfer.specs.Transfer.{Mode, isRead, tookBy, tells, transfer, ranOn, accessTransfer, restTransfer, transferNext, validTransfer, validTransferNext};
-ghost use Rattle.transfer.specs.Within.{behind, TransferWithin, TransferNextWithin};
+ghost use Rattle.transfer.specs.Left.{behind, transferLeft, transferNextLeft};
 
 // at: the position of the command in the script.
 pub struct Transfer {
@@ -64,7 +65,7 @@ fn took(c: Command, t: Taken, b: u8) -> Taken
 
 // What is left of a script from a position on.
 pub fn from(l: Layout, script: &[u8], at: usize, taken: Taken, ctl: u32) -> TransferNext
-    ensures { λ r. ⌜ Bounds ((m : Mode) (device : ℕ) → transferNext m l device (now (script .entry)) r ≡ erase (transfer m l device (commands (drop at (now (script .entry)))) taken ctl)) ((at < length (now (script .entry)) → onCommand (now (script .entry)) at ≡ true) → validTransferNext l (now (script .entry)) r ≡ true) ((n : ℕ) → CLEAR-STEPS ≤ n → (at < length (now (script .entry)) → JOB-STEPS + behind at ≤ n) → TransferNextWithin l r n) ⌝ }
+    ensures { λ r. ⌜ Bounds ((m : Mode) (device : ℕ) → transferNext m l device (now (script .entry)) r ≡ erase (transfer m l device (commands (drop at (now (script .entry)))) taken ctl)) ((at < length (now (script .entry)) → onCommand (now (script .entry)) at ≡ true) → validTransferNext l (now (script .entry)) r ≡ true) ((n : ℕ) → CLEAR-STEPS ≤ n → (at < length (now (script .entry)) → JOB-STEPS + behind at ≤ n) → transferNextLeft l r ≤ n) ⌝ }
 {
     if at < script.len() {
         let here = script::reader::at(script, at);
@@ -80,7 +81,7 @@ pub fn from(l: Layout, script: &[u8], at: usize, taken: Taken, ctl: u32) -> Tran
 
 // A byte was read; it is handed out with the access that follows.
 fn told(b: u8, n: TransferNext) -> TransferNext
-    ensures { λ r. ⌜ Bounds ((m : Mode) (l : Layout) (device : ℕ) (s : List ℕ) → transferNext m l device s r ≡ tells m b (transferNext m l device s n)) ((l : Layout) (s : List ℕ) → validTransferNext l s n ≡ true → validTransferNext l s r ≡ true) ((l : Layout) (m : ℕ) → TransferNextWithin l n m → TransferNextWithin l r m) ⌝ }
+    ensures { λ r. ⌜ Bounds ((m : Mode) (l : Layout) (device : ℕ) (s : List ℕ) → transferNext m l device s r ≡ tells m b (transferNext m l device s n)) ((l : Layout) (s : List ℕ) → validTransferNext l s n ≡ true → validTransferNext l s r ≡ true) ((l : Layout) → transferNextLeft l r ≡ transferNextLeft l n) ⌝ }
 {
     match n {
         TransferNext::Going(t) => TransferNext::Read(b, t),
@@ -91,7 +92,7 @@ fn told(b: u8, n: TransferNext) -> TransferNext
 
 // The command at a position is done, with the byte that was heard.
 fn after(l: Layout, script: &[u8], at: usize, taken: Taken, b: u8, ctl: u32) -> TransferNext
-    ensures { λ r. ⌜ Bounds ((m : Mode) (device : ℕ) → transferNext m l device (now (script .entry)) r ≡ erase (ranOn m l device (now (script .entry)) at taken b ctl)) (onCommand (now (script .entry)) at ≡ true → validTransferNext l (now (script .entry)) r ≡ true) ((n : ℕ) → length (now (script .entry)) ≤ 64 → behind at ≤ n → TransferNextWithin l r n) ⌝ }
+    ensures { λ r. ⌜ Bounds ((m : Mode) (device : ℕ) → transferNext m l device (now (script .entry)) r ≡ erase (ranOn m l device (now (script .entry)) at taken b ctl)) (onCommand (now (script .entry)) at ≡ true → validTransferNext l (now (script .entry)) r ≡ true) (length (now (script .entry)) ≤ 64 → transferNextLeft l r ≤ behind at) ⌝ }
 {
     let here = script::reader::at(script, at);
     let c = here.command;
@@ -104,7 +105,7 @@ fn after(l: Layout, script: &[u8], at: usize, taken: Taken, b: u8, ctl: u32) -> 
 }
 
 fn jobbed(l: Layout, device: u8, script: &[u8], at: usize, taken: Taken, n: JobNext) -> TransferNext
-    ensures { λ r. ⌜ Bounds ((m : Mode) → transferNext m l device (now (script .entry)) r ≡ jobNext l device (commandAt (now (script .entry)) at) n (ranOn m l device (now (script .entry)) at taken)) (onCommand (now (script .entry)) at ≡ true → validJobNext l (commandAt (now (script .entry)) at) n ≡ true → validTransferNext l (now (script .entry)) r ≡ true) ((p m : ℕ) → length (now (script .entry)) ≤ 64 → JobNextWithin l n p → p + behind at ≤ m → TransferNextWithin l r m) ⌝ }
+    ensures { λ r. ⌜ Bounds ((m : Mode) → transferNext m l device (now (script .entry)) r ≡ jobNext l device (commandAt (now (script .entry)) at) n (ranOn m l device (now (script .entry)) at taken)) (onCommand (now (script .entry)) at ≡ true → validJobNext l (commandAt (now (script .entry)) at) n ≡ true → validTransferNext l (now (script .entry)) r ≡ true) (length (now (script .entry)) ≤ 64 → transferNextLeft l r ≤ jobNextLeft l n + behind at) ⌝ }
 {
     match n {
         JobNext::Going(job) => TransferNext::Going(Transfer { at, taken, job }),
@@ -123,7 +124,7 @@ pub fn access(l: Layout, s: Transfer) -> Access
 }
 
 pub fn step(l: Layout, device: u8, script: &[u8], s: Transfer, a: Answer) -> TransferNext
-    ensures { λ r. ⌜ Bounds ((m : Mode) → transferNext m l device (now (script .entry)) r ≡ erase (restTransfer m l device (now (script .entry)) s a)) (validTransfer l (now (script .entry)) s ≡ true → validTransferNext l (now (script .entry)) r ≡ true) ((n : ℕ) → length (now (script .entry)) ≤ 64 → fits (accessTransfer l s) a ≡ true → TransferWithin l s (suc n) → TransferNextWithin l r n) ⌝ }
+    ensures { λ r. ⌜ Bounds ((m : Mode) → transferNext m l device (now (script .entry)) r ≡ erase (restTransfer m l device (now (script .entry)) s a)) (validTransfer l (now (script .entry)) s ≡ true → validTransferNext l (now (script .entry)) r ≡ true) (length (now (script .entry)) ≤ 64 → fits (accessTransfer l s) a ≡ true → InType a → transferNextLeft l r < transferLeft l s) ⌝ }
 {
     let at = s.at;
     let taken = s.taken;

@@ -1,10 +1,11 @@
 -- `begin` meets its contract.
 use Rattle.bus.proofs.Laws.{picked, valid-calls}
-use Rattle.bus.proofs.Within.{line-opens}
+use Rattle.bus.proofs.Left.{line-opens}
 use Rattle.bus.specs.Command.{accessJob, callsLeft, jobNext, restJob, validJob}
 use Rattle.bus.specs.Line.{lineNext}
-use Rattle.bus.specs.Steps.{CALL-STEPS}
+use Rattle.bus.specs.Left.{jobLeft}
 use borrow.Author.Needs.{needs}
+use native.Mathlib.Omega.{arith}
 use Rattle.bus.proofs.job.begin.Statement.{statement}
 use Rattle.bus.proofs.job.begin.Tie as tie
 
@@ -15,12 +16,12 @@ open-requires : tie.Need-open-requires
 open-requires c κs = search needs
 
 returns : tie.Need-returns
-unfolding jobNext accessJob restJob lineNext validJob
+unfolding jobNext accessJob restJob lineNext validJob jobLeft
 returns c =
     record {
       yields = λ device k. rw (c .before .call .ensures) at (c .«open» .ensures .0 (callsLeft (c .before .before .args .l) device (c .before .before .args .c) (c .before .before .args .left) k));
       limits = λ h. picked _ _ h (c .«open» .ensures .1 (rw (c .before .call .ensures) (valid-calls (c .before .before .args .l) (c .before .before .args .c) (c .before .before .args .left))));
-      within = λ m h. record { line = CALL-STEPS; within = line-opens (c .before .before .args .l) _ (c .before .before .args .ctl) (c .before .before .args .bits) _ (c .«open» .ensures .0); calls = h };
+      within = omega (arith, line-opens (c .before .before .args .l) _ (c .before .before .args .ctl) (c .before .before .args .bits) _ (c .«open» .ensures .0));
     }
 
 pub begin-spec : {M : Type 1} → statement M

@@ -1,10 +1,11 @@
 -- `from` meets its contract.
 use Rattle.bus.proofs.Laws.{calls-more, fewer-than}
-use Rattle.bus.proofs.Within.{one-call}
+use Rattle.bus.proofs.Left.{one-call}
 use Rattle.bus.specs.Command.{callCount, callsLeft, validJobNext}
-use Rattle.bus.specs.Within.{JobNextWithin}
+use Rattle.bus.specs.Left.{jobNextLeft}
 use borrow.Author.Needs.{needs}
 use mathlib.Core.Path.{_∙_}
+use native.Mathlib.Omega.{arith}
 use Rattle.bus.proofs.job.from.Statement.{statement}
 use Rattle.bus.proofs.job.from.Tie as tie
 
@@ -17,7 +18,7 @@ returns c =
     record {
       yields = λ k. rw (c .before .if1 .taken) (c .finish .ensures .yields k);
       limits = λ h. c .finish .ensures .limits;
-      within = λ m h. c .finish .ensures .within m;
+      within = omega (arith, c .finish .ensures .within);
     }
 
 sub-begin : tie.Need-sub-begin
@@ -27,12 +28,12 @@ begin-requires : tie.Need-begin-requires
 begin-requires c κs = search needs
 
 returns-2 : tie.Need-returns-2
-unfolding validJobNext JobNextWithin
+unfolding validJobNext jobNextLeft
 returns-2 c =
     record {
       yields = λ k. c .begin .ensures .yields (c .before .before .args .device) k ∙ calls-more (c .before .before .args .l) (c .before .before .args .device) (c .before .before .args .c) (c .before .before .args .n) k (c .before .before .args .bits) (c .before .before .args .ctl) (c .before .if1 .left);
       limits = λ h. c .begin .ensures .limits (fewer-than (c .before .before .args .n) (callCount (c .before .before .args .l) (c .before .before .args .c)) (c .before .if1 .left) h);
-      within = λ m h. c .begin .ensures .within m (one-call (c .before .before .args .n) m (c .before .if1 .left) h);
+      within = omega (arith, c .begin .ensures .within, one-call (c .before .before .args .n) (c .before .if1 .left));
     }
 
 pub from-spec : {M : Type 1} → statement M

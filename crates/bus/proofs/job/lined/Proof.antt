@@ -3,7 +3,7 @@ use Rattle.bus.proofs.Laws.{picked, under}
 use Rattle.bus.specs.Bus.{orHeld}
 use Rattle.bus.specs.Command.{accessJob, callCount, jobNext, restJob, validJob, validJobNext}
 use Rattle.bus.specs.Line.{lineNext, validLineNext}
-use Rattle.bus.specs.Within.{JobNextWithin}
+use Rattle.bus.specs.Left.{jobLeft, jobNextLeft}
 use Rattle.hardware.specs.Prog.{erase}
 use Rattle.hardware.specs.Registers.{byte, outcome}
 use borrow.Author.Needs.{needs}
@@ -28,12 +28,12 @@ enum-known-o : tie.Need-enum-known-o
 enum-known-o c = search needs
 
 returns : tie.Need-returns
-unfolding jobNext accessJob restJob lineNext validJobNext validJob validLineNext JobNextWithin
+unfolding jobNext accessJob restJob lineNext validJobNext validJob validLineNext jobLeft jobNextLeft
 returns c =
     record {
       yields = λ k. rw (c .before .n .given .1);
       limits = λ h g. picked _ _ h (rw (c .before .n .given .1) at g);
-      within = λ p m w h. record { line = p; within = rw (c .before .n .given .1) at w; calls = h };
+      within = rw (c .before .n .given .1) (omega arith);
     }
 
 returns-2 : tie.Need-returns-2
@@ -42,16 +42,16 @@ returns-2 c =
     record {
       yields = λ k. rw (c .before .before .before .before .n2 .given .1, c .before .enum-told .given .1) (c .from .ensures .yields k);
       limits = λ h g. c .from .ensures .limits (under (c .before .before .before .before .before .before .args .left) (callCount (c .before .before .before .before .before .before .args .l) (c .before .before .before .before .before .before .args .c)) h);
-      within = λ p m w h. c .from .ensures .within m (omega arith);
+      within = omega (arith, c .from .ensures .within);
     }
 
 returns-3 : tie.Need-returns-3
-unfolding jobNext lineNext orHeld outcome byte erase validJobNext JobNextWithin
+unfolding jobNext lineNext orHeld outcome byte erase validJobNext jobNextLeft
 returns-3 c =
     record {
       yields = λ k. rw (c .before .before .before .before .n2 .given .1, c .before .o .given .1);
       limits = λ h g. refl;
-      within = λ p m w h. tt;
+      within = omega arith;
     }
 
 pub lined-spec : {M : Type 1} → statement M

@@ -1,6 +1,7 @@
 -- `step` meets its contract.
 use Rattle.bus.proofs.Laws.{picked-first, picked-second}
-use Rattle.bus.proofs.Within.{line-falls}
+use Rattle.bus.proofs.Left.{line-falls}
+use Rattle.bus.specs.Left.{jobLeft}
 use Rattle.bus.specs.Command.{accessJob, restJob, validJob}
 use borrow.Author.Needs.{needs}
 use mathlib.Core.Path.{_∙_}
@@ -15,15 +16,14 @@ lined-requires : tie.Need-lined-requires
 lined-requires c κs = search needs
 
 returns : tie.Need-returns
-unfolding restJob validJob accessJob
+unfolding restJob validJob accessJob jobLeft
 returns c =
     record {
       yields = λ k. c .lined .ensures .yields k ∙ c .before .step .ensures .0 _;
       limits = λ h. c .lined .ensures .limits (picked-first _ _ h) (c .before .step .ensures .1 (picked-second _ _ h));
-      within = λ n f w.
+      within = λ f h.
           let args = c .before .before .before .args in
-          let q = line-falls (args .l) (args .s .state) (args .a) _ (w .line) f (c .before .step .ensures .0) (w .within) in
-          c .lined .ensures .within (q .0) n (q .2) (omega (arith, q .1, w .calls));
+          omega (arith, line-falls (args .l) (args .s .state) (args .a) _ f h (c .before .step .ensures .0), c .lined .ensures .within);
     }
 
 pub step-spec : {M : Type 1} → statement M

@@ -1,10 +1,13 @@
 -- `open` meets its contract.
+use Rattle.hardware.specs.Longest.{longest}
 use Rattle.hardware.specs.Prog.{erase}
-use Rattle.hardware.proofs.Ends.{ends-opened}
+use Rattle.hardware.proofs.Longest.{longest-erase}
 use Rattle.hardware.proofs.Prog.{over}
 use Rattle.hostif.specs.Hostif.{command}
+use Rattle.sync.specs.Regs.{SW-MNG}
 use Rattle.sync.specs.Resource.{acquireBits}
 use borrow.Author.Needs.{needs}
+use mathlib.Core.Path.{_∙_, ap}
 use native.Mathlib.Omega.{arith}
 use Rattle.hostif.proofs.command.open.Statement.{statement}
 use Rattle.hostif.proofs.command.open.Tie as tie
@@ -25,7 +28,7 @@ returns c =
     record {
       yields = λ l. over _ _ (c .acquiring .ensures .yields l) opened;
       limits = λ m. c .acquiring .ensures .limits m (c .before .«open» .ensures .1 (omega (arith, c .before .before .tries .ensures)));
-      within = λ m w. c .acquiring .ensures .within m (record { first = w .first; second = w .second; before = ends-opened _ (w .first) (w .first) opened (w .before) (omega arith); after = w .after; few = w .few });
+      within = omega (arith, c .acquiring .ensures .within, ap longest opened ∙ longest-erase (acquireBits (c .before .before .before .args .port) SW-MNG));
     }
 
 pub open-spec : {M : Type 1} → statement M

@@ -4,9 +4,9 @@ use Rattle.hardware.specs.Prog.{_>>=_, followed}
 use Rattle.hardware.specs.Registers.{byte, flag, outcome, word}
 use Rattle.hardware.proofs.Prog.{going}
 use Rattle.hostif.specs.Hostif.{accessCommand, acquired, both, closed, commandNext, hicrRead, released, request, requestNext, requested, respond, restCommand, validCommand, validCommandNext, validRequestNext}
-use Rattle.hostif.specs.Within.{CommandNextWithin, CommandWithin, RequestNextWithin}
-use Rattle.hostif.proofs.Within.{turn-last}
+use Rattle.hostif.specs.Left.{commandLeft, commandNextLeft, requestNextLeft}
 use borrow.Author.Needs.{needs}
+use native.Mathlib.Omega.{arith}
 use Rattle.hostif.proofs.command.requesting.Statement.{statement}
 use Rattle.hostif.proofs.command.requesting.Tie as tie
 
@@ -20,12 +20,12 @@ request-done-requires : tie.Need-request-done-requires
 request-done-requires c κs = search needs
 
 returns : tie.Need-returns
-unfolding requestNext commandNext accessCommand restCommand validCommandNext validCommand validRequestNext CommandNextWithin CommandWithin RequestNextWithin
-returns c = record { yields = λ l. rw (c .before .n .given .1) (going _ _ _); limits = λ m h. rw (c .before .n .given .1) at h; within = λ m h. rw (c .before .n .given .1) at h }
+unfolding requestNext commandNext accessCommand restCommand validCommandNext validCommand validRequestNext commandNextLeft commandLeft requestNextLeft
+returns c = record { yields = λ l. rw (c .before .n .given .1) (going _ _ _); limits = λ m h. rw (c .before .n .given .1) at h; within = rw (c .before .n .given .1) (omega arith) }
 
 returns-2 : tie.Need-returns-2
 unfolding requestNext followed _>>=_ word outcome byte flag hicrRead request respond both closed released requested acquired change accessUpdate restUpdate validCommand
-returns-2 c = record { yields = λ l. rw (c .before .before .n2 .given .1) (c .request-done .ensures .yields l); limits = λ m h. c .request-done .ensures .limits m; within = λ m h. c .request-done .ensures .within m (turn-last m h) }
+returns-2 c = record { yields = λ l. rw (c .before .before .n2 .given .1) (c .request-done .ensures .yields l); limits = λ m h. c .request-done .ensures .limits m; within = omega (arith, c .request-done .ensures .within) }
 
 pub requesting-spec : {M : Type 1} → statement M
 requesting-spec = tie.close (tie.spec enum-known-n enum-known-n-2 request-done-requires returns returns-2)

@@ -1,11 +1,13 @@
 -- `step` meets its contract.
-use Rattle.hardware.proofs.Ends.{ends-next}
-use Rattle.hostif.proofs.Within.{ends-turn, request-some, response-some, turn-next}
+use Rattle.hardware.proofs.Longest.{longest-next}
+use Rattle.hostif.proofs.Left.{sum-falls}
 use Rattle.hostif.specs.Hostif.{accessCommand, restCommand, validCommand}
-use Rattle.hostif.specs.Within.{CommandWithin}
+use Rattle.hostif.specs.Left.{commandLeft}
 use Rattle.sync.specs.Resource.{acquireBitsNext, releaseBitsNext}
 use borrow.Author.Needs.{needs}
 use mathlib.Core.Path.{refl}
+use native.Mathlib.Nat.{lt-of-le-of-lt}
+use native.Mathlib.Omega.{arith}
 use Rattle.hostif.proofs.command.step.Statement.{statement}
 use Rattle.hostif.proofs.command.step.Tie as tie
 use Rattle.hardware.proofs.Prog.{over}
@@ -47,23 +49,23 @@ releasing-requires : tie.Need-releasing-requires
 releasing-requires c κs = search needs
 
 returns : tie.Need-returns
-unfolding restCommand validCommand CommandWithin accessCommand acquireBitsNext
-returns c = record { yields = rw (c .before .before .before .s .given .1) (over _ _ (c .acquiring .ensures .yields _) (c .before .step .ensures .0)); limits = λ v. c .acquiring .ensures .limits _ (c .before .step .ensures .1 (rw (c .before .before .before .s .given .1) at v)); within = λ m f w. c .acquiring .ensures .within m (ends-turn _ _ _ m (c .before .step .ensures .0) (rw (c .before .before .before .s .given .1) at f) (rw (c .before .before .before .s .given .1) at w)) }
+unfolding restCommand validCommand commandLeft accessCommand acquireBitsNext
+returns c = record { yields = rw (c .before .before .before .s .given .1) (over _ _ (c .acquiring .ensures .yields _) (c .before .step .ensures .0)); limits = λ v. c .acquiring .ensures .limits _ (c .before .step .ensures .1 (rw (c .before .before .before .s .given .1) at v)); within = λ f h. rw (c .before .before .before .s .given .1) (sum-falls _ (c .acquiring .ensures .within) (longest-next _ _ _ (c .before .step .ensures .0) (rw (c .before .before .before .s .given .1) at f) h)) }
 
 returns-2 : tie.Need-returns-2
-unfolding restCommand validCommand CommandWithin accessCommand
-returns-2 c = record { yields = rw (c .before .before .before .s2 .given .1) (over _ _ (c .requesting .ensures .yields _) (c .before .step2 .ensures .yields _ refl)); limits = λ v. c .requesting .ensures .limits _ (c .before .step2 .ensures .limits (rw (c .before .before .before .s2 .given .1) at v)); within = λ m f w. c .requesting .ensures .within m (turn-next m (request-some _) (λ k v. c .before .step2 .ensures .within _ k (rw (c .before .before .before .s2 .given .1) at f) v) (rw (c .before .before .before .s2 .given .1) at w)) }
+unfolding restCommand validCommand commandLeft accessCommand
+returns-2 c = record { yields = rw (c .before .before .before .s2 .given .1) (over _ _ (c .requesting .ensures .yields _) (c .before .step2 .ensures .yields _ refl)); limits = λ v. c .requesting .ensures .limits _ (c .before .step2 .ensures .limits (rw (c .before .before .before .s2 .given .1) at v)); within = λ f h. rw (c .before .before .before .s2 .given .1) (omega (arith, c .requesting .ensures .within, c .before .step2 .ensures .within _ (rw (c .before .before .before .s2 .given .1) at f) h)) }
 
 same-length : tie.Need-same-length
 same-length c = search needs
 
 returns-3 : tie.Need-returns-3
-unfolding restCommand validCommand CommandWithin
-returns-3 c = record { yields = rw (c .before .before .before .before .before .before .s3 .given .1) (over _ _ (c .responding .ensures .yields _) (c .before .before .before .step3 .ensures .yields)); limits = λ v. c .responding .ensures .limits _ (c .before .before .before .step3 .ensures .limits (rw (c .before .before .before .before .before .before .s3 .given .1) at v)); within = λ m f w. c .responding .ensures .within m (turn-next m (response-some _) (c .before .before .before .step3 .ensures .within) (rw (c .before .before .before .before .before .before .s3 .given .1) at w)) }
+unfolding restCommand validCommand commandLeft
+returns-3 c = record { yields = rw (c .before .before .before .before .before .before .s3 .given .1) (over _ _ (c .responding .ensures .yields _) (c .before .before .before .step3 .ensures .yields)); limits = λ v. c .responding .ensures .limits _ (c .before .before .before .step3 .ensures .limits (rw (c .before .before .before .before .before .before .s3 .given .1) at v)); within = λ f h. rw (c .before .before .before .before .before .before .s3 .given .1) (omega (arith, c .responding .ensures .within, c .before .before .before .step3 .ensures .within)) }
 
 returns-4 : tie.Need-returns-4
-unfolding restCommand validCommand CommandWithin accessCommand releaseBitsNext
-returns-4 c = record { yields = rw (c .before .before .before .s4 .given .1) (over _ _ (c .releasing .ensures .yields _) (c .before .step4 .ensures .0)); limits = λ v. c .releasing .ensures .limits _ (c .before .step4 .ensures .1 (rw (c .before .before .before .s4 .given .1) at v)); within = λ m f w. c .releasing .ensures .within m (ends-next _ _ _ m (c .before .step4 .ensures .0) (rw (c .before .before .before .s4 .given .1) at f) (rw (c .before .before .before .s4 .given .1) at w)) }
+unfolding restCommand validCommand commandLeft accessCommand releaseBitsNext
+returns-4 c = record { yields = rw (c .before .before .before .s4 .given .1) (over _ _ (c .releasing .ensures .yields _) (c .before .step4 .ensures .0)); limits = λ v. c .releasing .ensures .limits _ (c .before .step4 .ensures .1 (rw (c .before .before .before .s4 .given .1) at v)); within = λ f h. rw (c .before .before .before .s4 .given .1) (lt-of-le-of-lt (c .releasing .ensures .within) (longest-next _ _ _ (c .before .step4 .ensures .0) (rw (c .before .before .before .s4 .given .1) at f) h)) }
 
 pub step-spec : {M : Type 1} → statement M
 step-spec =

@@ -3,9 +3,9 @@ use Rattle.hardware.specs.Failures.{failureOf}
 use Rattle.hardware.specs.Prog.{erase, pick}
 use Rattle.hardware.specs.Registers.{byte, word}
 use Rattle.hostif.proofs.Laws.{words-fit}
-use Rattle.hostif.proofs.Within.{words-few}
+use Rattle.hostif.proofs.Left.{words-few}
 use Rattle.hostif.specs.Hostif.{headSeen, responseNext, statusOf, validResponse, validResponseNext, wordsOf}
-use Rattle.hostif.specs.Within.{ResponseNextWithin}
+use Rattle.hostif.specs.Left.{responseNextLeft}
 use borrow.Author.Needs.{needs}
 use borrow.Author.Tests.{le-ltb, lt-ltb}
 use mathlib.Core.Path.{refl}
@@ -29,8 +29,8 @@ add-if1 : tie.Need-add-if1
 add-if1 c = search needs
 
 returns : tie.Need-returns
-unfolding word headSeen pick erase responseNext byte validResponseNext failureOf ResponseNextWithin
-returns c = record { yields = rw (c .before .before .before .w .given .1, lt-ltb _ _ (rw (c .before .len .ensures) at (c .if1 .taken))); limits = refl; within = λ m h. tt }
+unfolding word headSeen pick erase responseNext byte validResponseNext failureOf responseNextLeft
+returns c = record { yields = rw (c .before .before .before .w .given .1, lt-ltb _ _ (rw (c .before .len .ensures) at (c .if1 .taken))); limits = refl; within = omega arith }
 
 store-requires : tie.Need-store-requires
 store-requires c κs = search needs
@@ -49,11 +49,11 @@ same-length c = search needs
 
 returns-2 : tie.Need-returns-2
 unfolding word headSeen pick
-returns-2 c = record { yields = rw (c .before .before .before .before .before .before .before .before .before .w .given .1, le-ltb _ _ (rw (c .before .before .before .before .before .before .before .len .ensures) at (c .before .before .before .before .before .before .if1 .left)), ← c .before .words .ensures, ← c .before .before .before .before .store .ensures) (c .more .ensures .yields _); limits = c .more .ensures .limits _ (omega (arith, c .before .words .ensures)) (words-fit _ _ (rw (c .before .before .before .before .before .before .before .len .ensures) at (c .before .before .before .before .before .before .if1 .left))); within = λ m h. c .more .ensures .within m (omega (arith, h, words-few _ _ (c .before .words .ensures))) }
+returns-2 c = record { yields = rw (c .before .before .before .before .before .before .before .before .before .w .given .1, le-ltb _ _ (rw (c .before .before .before .before .before .before .before .len .ensures) at (c .before .before .before .before .before .before .if1 .left)), ← c .before .words .ensures, ← c .before .before .before .before .store .ensures) (c .more .ensures .yields _); limits = c .more .ensures .limits _ (omega (arith, c .before .words .ensures)) (words-fit _ _ (rw (c .before .before .before .before .before .before .before .len .ensures) at (c .before .before .before .before .before .before .if1 .left))); within = omega (arith, c .more .ensures .within, words-few _ _ (c .before .words .ensures)) }
 
 returns-3 : tie.Need-returns-3
-unfolding responseNext erase word byte headSeen statusOf wordsOf validResponse validResponseNext ResponseNextWithin
-returns-3 c = record { yields = rw (c .before .w2 .given .1); limits = refl; within = λ m h. tt }
+unfolding responseNext erase word byte headSeen statusOf wordsOf validResponse validResponseNext responseNextLeft
+returns-3 c = record { yields = rw (c .before .w2 .given .1); limits = refl; within = omega arith }
 
 pub head-spec : {M : Type 1} → statement M
 head-spec =

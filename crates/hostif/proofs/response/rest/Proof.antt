@@ -2,9 +2,10 @@
 use Rattle.hardware.specs.Prog.{erase}
 use Rattle.hardware.specs.Registers.{byte, word}
 use Rattle.hostif.specs.Hostif.{responseNext, statusOf, validResponse, validResponseNext, wordSeen, wordsOf}
-use Rattle.hostif.specs.Within.{ResponseNextWithin}
+use Rattle.hostif.specs.Left.{responseNextLeft}
 use borrow.Author.Needs.{needs}
 use mathlib.Core.Path.{refl}
+use native.Mathlib.Omega.{arith}
 use Rattle.hostif.proofs.response.rest.Statement.{statement}
 use Rattle.hostif.proofs.response.rest.Tie as tie
 
@@ -34,8 +35,8 @@ unfolding word wordSeen
 returns c = record { yields = rw (c .before .before .before .before .before .before .before .w .given .1, ← c .before .before .before .before .place .ensures, ← c .before .before .before .store .ensures) (c .more .ensures .yields _); limits = c .more .ensures .limits _; within = c .more .ensures .within }
 
 returns-2 : tie.Need-returns-2
-unfolding responseNext erase word byte wordSeen statusOf wordsOf validResponse validResponseNext ResponseNextWithin
-returns-2 c = record { yields = rw (c .before .w2 .given .1); limits = λ h k. refl; within = λ m h. tt }
+unfolding responseNext erase word byte wordSeen statusOf wordsOf validResponse validResponseNext responseNextLeft
+returns-2 c = record { yields = rw (c .before .w2 .given .1); limits = λ h k. refl; within = omega arith }
 
 pub rest-spec : {M : Type 1} → statement M
 rest-spec =

@@ -1,7 +1,7 @@
 -- `step` meets its contract.
 use Rattle.hostif.proofs.Laws.{rest-fits}
 use Rattle.hostif.specs.Hostif.{restResponse}
-use Rattle.hostif.specs.Within.{ResponseWithin}
+use Rattle.hostif.specs.Left.{responseLeft}
 use borrow.Author.Needs.{needs}
 use native.Mathlib.Omega.{arith}
 use Rattle.hostif.proofs.response.step.Statement.{statement}
@@ -29,15 +29,15 @@ same-length : tie.Need-same-length
 same-length c = search needs
 
 returns : tie.Need-returns
-unfolding restResponse ResponseWithin
-returns c = record { yields = rw (c .before .before .before .before .before .before .s .given .1, ← c .before .before .before .read-raw .ensures) (c .before .before .head .ensures .yields); limits = λ v. c .before .before .head .ensures .limits; within = λ m w. c .before .before .head .ensures .within m (omega (arith, rw (c .before .before .before .before .before .before .s .given .1) at w)) }
+unfolding restResponse responseLeft
+returns c = record { yields = rw (c .before .before .before .before .before .before .s .given .1, ← c .before .before .before .read-raw .ensures) (c .before .before .head .ensures .yields); limits = λ v. c .before .before .head .ensures .limits; within = rw (c .before .before .before .before .before .before .s .given .1) (omega (arith, c .before .before .head .ensures .within)) }
 
 same-length-2 : tie.Need-same-length-2
 same-length-2 c = search needs
 
 returns-2 : tie.Need-returns-2
-unfolding restResponse ResponseWithin
-returns-2 c = record { yields = rw (c .before .before .before .before .before .before .s2 .given .1, ← c .before .before .before .read-raw2 .ensures) (c .before .before .rest .ensures .yields); limits = λ v. c .before .before .rest .ensures .limits (rest-fits _ _ _ (rw (c .before .before .before .before .before .before .s2 .given .1) at v) .0) (rest-fits _ _ _ (rw (c .before .before .before .before .before .before .s2 .given .1) at v) .1); within = λ m w. c .before .before .rest .ensures .within m (omega (arith, rw (c .before .before .before .before .before .before .s2 .given .1) at w)) }
+unfolding restResponse responseLeft
+returns-2 c = record { yields = rw (c .before .before .before .before .before .before .s2 .given .1, ← c .before .before .before .read-raw2 .ensures) (c .before .before .rest .ensures .yields); limits = λ v. c .before .before .rest .ensures .limits (rest-fits _ _ _ (rw (c .before .before .before .before .before .before .s2 .given .1) at v) .0) (rest-fits _ _ _ (rw (c .before .before .before .before .before .before .s2 .given .1) at v) .1); within = rw (c .before .before .before .before .before .before .s2 .given .1) (omega (arith, c .before .before .rest .ensures .within)) }
 
 pub step-spec : {M : Type 1} → statement M
 step-spec =

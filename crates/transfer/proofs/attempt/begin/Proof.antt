@@ -3,7 +3,7 @@ use Rattle.hardware.specs.Prog.{erase, orErr}
 use Rattle.hardware.specs.Registers.{word}
 use Rattle.hardware.proofs.Prog.{over}
 use Rattle.transfer.specs.Attempt.{attemptNext, begun, got, validAttemptNext}
-use Rattle.transfer.specs.Within.{AttemptNextWithin}
+use Rattle.transfer.specs.Left.{COMMANDS-STEPS, attemptNextLeft}
 use borrow.Author.Needs.{needs}
 use mathlib.Core.Path.{refl}
 use native.Mathlib.Omega.{arith}
@@ -28,16 +28,16 @@ returns c =
     record {
       yields = λ m. rw (c .before .before .before .w .given .1) (over _ _ (c .from-transfer .ensures .yields m (c .before .before .before .before .before .before .args .script .now)) (c .before .from .ensures .yields m (c .before .before .before .before .before .before .args .device)));
       limits = λ h. c .from-transfer .ensures .limits (c .before .before .before .before .before .before .args .script .now) (c .before .from .ensures .limits (λ lt. h));
-      within = λ n h. c .from-transfer .ensures .within n (c .before .from .ensures .within n (omega (arith, h)) (λ lt. omega (arith, h)));
+      within = omega (arith, c .from-transfer .ensures .within, c .before .from .ensures .within COMMANDS-STEPS (omega arith) (λ lt. omega arith));
     }
 
 returns-2 : tie.Need-returns-2
-unfolding orErr word attemptNext got erase validAttemptNext AttemptNextWithin
+unfolding orErr word attemptNext got erase validAttemptNext attemptNextLeft
 returns-2 c =
     record {
       yields = λ m. rw (c .before .w2 .given .1);
       limits = λ h. refl;
-      within = λ n h. tt;
+      within = omega arith;
     }
 
 pub begin-spec : {M : Type 1} → statement M

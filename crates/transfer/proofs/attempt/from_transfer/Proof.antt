@@ -4,9 +4,10 @@ use Rattle.hardware.proofs.Prog.{going}
 use Rattle.transfer.proofs.Laws.{told-on}
 use Rattle.transfer.specs.Attempt.{accessAttempt, attemptNext, awaiting, got, orTried, restAttempt, tried, validAttempt, validAttemptNext}
 use Rattle.transfer.specs.Transfer.{asking, transferNext, validTransferNext}
-use Rattle.transfer.specs.Within.{AttemptNextWithin, AttemptWithin, TransferNextWithin}
+use Rattle.transfer.specs.Left.{attemptNextLeft, attemptLeft, transferNextLeft}
 use borrow.Author.Needs.{needs}
 use mathlib.Core.Path.{refl}
+use native.Mathlib.Omega.{arith}
 use Rattle.transfer.proofs.attempt.from_transfer.Statement.{statement}
 use Rattle.transfer.proofs.attempt.from_transfer.Tie as tie
 
@@ -29,39 +30,39 @@ failed-requires : tie.Need-failed-requires
 failed-requires c κs = search needs
 
 returns : tie.Need-returns
-unfolding attemptNext awaiting accessAttempt restAttempt validAttemptNext validAttempt transferNext asking validTransferNext AttemptNextWithin AttemptWithin TransferNextWithin
+unfolding attemptNext awaiting accessAttempt restAttempt validAttemptNext validAttempt transferNext asking validTransferNext attemptNextLeft attemptLeft transferNextLeft
 returns c =
     record {
       yields = λ m s. rw (c .before .n .given .1) (going _ _ _);
       limits = λ s h. rw (c .before .n .given .1) at h;
-      within = λ m w. rw (c .before .n .given .1) at w;
+      within = rw (c .before .n .given .1) (omega arith);
     }
 
 returns-2 : tie.Need-returns-2
-unfolding attemptNext awaiting accessAttempt restAttempt validAttemptNext validAttempt transferNext asking validTransferNext AttemptNextWithin AttemptWithin TransferNextWithin
+unfolding attemptNext awaiting accessAttempt restAttempt validAttemptNext validAttempt transferNext asking validTransferNext attemptNextLeft attemptLeft transferNextLeft
 returns-2 c =
     record {
       yields = λ m s. rw (c .before .n2 .given .1) (told-on m _ _ _ _);
       limits = λ s h. rw (c .before .n2 .given .1) at h;
-      within = λ m w. rw (c .before .n2 .given .1) at w;
+      within = rw (c .before .n2 .given .1) (omega arith);
     }
 
 returns-3 : tie.Need-returns-3
-unfolding attemptNext got followed _>>=_ erase validAttemptNext transferNext tried orTried AttemptNextWithin
+unfolding attemptNext got followed _>>=_ erase validAttemptNext transferNext tried orTried attemptNextLeft
 returns-3 c =
     record {
       yields = λ m s. rw (c .before .before .before .n3 .given .1, c .enum-told .given .1);
       limits = λ s h. refl;
-      within = λ m w. tt;
+      within = omega arith;
     }
 
 returns-4 : tie.Need-returns-4
-unfolding transferNext followed _>>=_ tried TransferNextWithin
+unfolding transferNext followed _>>=_ tried transferNextLeft
 returns-4 c =
     record {
       yields = λ m s. rw (c .before .before .before .before .before .n3 .given .1, c .before .before .o .given .1) (c .failed .ensures .yields m s);
       limits = λ s h. c .failed .ensures .limits s;
-      within = λ m w. c .failed .ensures .within m (rw (c .before .before .before .before .before .n3 .given .1) at w);
+      within = rw (c .before .before .before .before .before .n3 .given .1) (c .failed .ensures .within);
     }
 
 pub from-transfer-spec : {M : Type 1} → statement M

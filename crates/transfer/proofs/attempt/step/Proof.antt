@@ -1,12 +1,12 @@
 -- `step` meets its contract.
-use Rattle.bus.proofs.Within.{clear-falls}
-use Rattle.transfer.proofs.Within.{first-falls}
+use Rattle.bus.proofs.Left.{clear-falls}
+use native.Mathlib.Omega.{arith}
 use Rattle.transfer.specs.Attempt.{accessAttempt, restAttempt, validAttempt}
 use borrow.Author.Needs.{needs}
 use Rattle.transfer.proofs.attempt.step.Statement.{statement}
 use Rattle.transfer.proofs.attempt.step.Tie as tie
 use Rattle.hardware.proofs.Prog.{fed, over}
-use Rattle.transfer.specs.Within.{AttemptWithin}
+use Rattle.transfer.specs.Left.{attemptLeft}
 
 enum-told : tie.Need-enum-told
 enum-told c = search needs
@@ -36,30 +36,30 @@ cleared-requires : tie.Need-cleared-requires
 cleared-requires c κs = search needs
 
 returns : tie.Need-returns
-unfolding restAttempt AttemptWithin
+unfolding restAttempt attemptLeft
 returns c =
     record {
       yields = λ m. rw (c .before .before .enum-told .given .1) (fed _ (c .begin .ensures .yields m) (c .before .read-raw .ensures));
       limits = λ h g. c .begin .ensures .limits h;
-      within = λ n h f w. c .begin .ensures .within n (first-falls n (rw (c .before .before .enum-told .given .1) at w));
+      within = λ h f i. rw (c .before .before .enum-told .given .1) (omega (arith, c .begin .ensures .within));
     }
 
 returns-2 : tie.Need-returns-2
-unfolding restAttempt validAttempt AttemptWithin accessAttempt
+unfolding restAttempt validAttempt attemptLeft accessAttempt
 returns-2 c =
     record {
       yields = λ m. rw (c .before .before .before .s .given .1) (over _ _ (c .from-transfer .ensures .yields m (c .before .before .before .before .before .before .args .script .now)) (c .before .step .ensures .yields m));
       limits = λ h g. c .from-transfer .ensures .limits (c .before .before .before .before .before .before .args .script .now) (c .before .step .ensures .limits (rw (c .before .before .before .s .given .1) at g));
-      within = λ n h f w. c .from-transfer .ensures .within n (c .before .step .ensures .within n h (rw (c .before .before .before .s .given .1) at f) (rw (c .before .before .before .s .given .1) at w));
+      within = λ h f i. rw (c .before .before .before .s .given .1) (omega (arith, c .from-transfer .ensures .within, c .before .step .ensures .within h (rw (c .before .before .before .s .given .1) at f) i));
     }
 
 returns-3 : tie.Need-returns-3
-unfolding restAttempt validAttempt AttemptWithin accessAttempt
+unfolding restAttempt validAttempt attemptLeft accessAttempt
 returns-3 c =
     record {
       yields = λ m. rw (c .before .before .before .s2 .given .1) (over _ _ (c .cleared .ensures .yields m (c .before .before .before .before .before .before .args .q) (c .before .before .before .before .before .before .args .script .now)) (c .before .step2 .ensures .0));
       limits = λ h g. c .cleared .ensures .limits (c .before .before .before .before .before .before .args .script .now) (c .before .step2 .ensures .1 (rw (c .before .before .before .s2 .given .1) at g));
-      within = λ n h f w. c .cleared .ensures .within n (clear-falls (c .before .before .before .before .before .before .args .l) _ (c .before .before .before .before .before .before .args .a) _ n (rw (c .before .before .before .s2 .given .1) at f) (c .before .step2 .ensures .0) (rw (c .before .before .before .s2 .given .1) at w));
+      within = λ h f i. rw (c .before .before .before .s2 .given .1) (omega (arith, c .cleared .ensures .within, clear-falls (c .before .before .before .before .before .before .args .l) _ (c .before .before .before .before .before .before .args .a) _ (rw (c .before .before .before .s2 .given .1) at f) i (c .before .step2 .ensures .0)));
     }
 
 pub step-spec : {M : Type 1} → statement M

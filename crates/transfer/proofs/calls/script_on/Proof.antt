@@ -4,7 +4,10 @@ use Rattle.hardware.specs.Asked.{validPort, yes}
 use Rattle.transfer.proofs.Laws.{script-rest}
 use Rattle.transfer.specs.Calls.{saidScript, standsScript, steppedScript, validScript}
 use Rattle.transfer.specs.Transfer.{handing}
-use Rattle.transfer.specs.Within.{CallWithin, ScriptWithin}
+use Rattle.bus.specs.Layout.{layoutOf}
+use Rattle.transfer.proofs.Left.{attempt-some}
+use native.Mathlib.Omega.{arith}
+use Rattle.transfer.specs.Left.{callLeft, scriptLeft}
 use borrow.Author.Needs.{needs}
 use mathlib.Core.Path.{_∙_, ap, sym}
 use Rattle.transfer.proofs.calls.script_on.Statement.{statement}
@@ -38,7 +41,7 @@ enum-known-q : tie.Need-enum-known-q
 enum-known-q c = search needs
 
 returns : tie.Need-returns
-unfolding steppedScript validScript CallWithin
+unfolding steppedScript validScript callLeft
 returns c =
     let args = c .before .before .before .before .before .before .before .before .before .before .args in
     let l = c .before .before .before .before .before .before .before .before .layout-of .ensures in
@@ -48,14 +51,15 @@ returns c =
     record {
       yields = c .told .ensures .yields (args .script .now) ∙ ap yes (script-rest (args .port) (args .script .now) (args .t) (args .a) _ (rw (l, c .before .before .device .ensures) at (c .before .step .ensures .yields handing))) ∙ sym (admits-yes _ _ _ _ e h);
       limits = λ f. c .told .ensures .limits (args .script .now) (v .0) (rw l at (c .before .step .ensures .limits f (rw l (v .1))));
-      within = λ n g w. c .told .ensures .within n (rw l at (c .before .step .ensures .within n g (rw l (admits-fits _ _ _ e h)) (rw l w)));
+      within = λ g i. omega (arith, c .told .ensures .within, rw l at (c .before .step .ensures .within g (rw l (admits-fits _ _ _ e h)) i));
     }
 
 returns-2 : tie.Need-returns-2
-unfolding steppedScript saidScript standsScript ScriptWithin
+unfolding steppedScript saidScript standsScript callLeft scriptLeft
 returns-2 c =
+    let args = c .before .before .before .before .before .before .before .before .args in
     let h = rw (c .before .before .before .before .before .valid .ensures, c .before .before .before .before .access .ensures, c .before .before .before .before .before .before .layout-of .ensures) at (c .before .before .before .admit .ensures) in
-    record { yields = sym (admits-no _ _ _ _ (c .before .q .given .1) h); limits = λ f. tt; within = λ n g w. tt }
+    record { yields = sym (admits-no _ _ _ _ (c .before .q .given .1) h); limits = λ f. tt; within = λ g i. attempt-some (layoutOf (args .port .family)) (args .t) }
 
 pub script-on-spec : {M : Type 1} → statement M
 script-on-spec =

@@ -4,7 +4,7 @@ use Rattle.hardware.specs.Asked.{andThen, portOpened, yes}
 use Rattle.transfer.proofs.Laws.{judged-accepted, judged-no, judged-yes, script-begins}
 use Rattle.transfer.specs.Attempt.{validAttempt, validAttemptNext}
 use Rattle.transfer.specs.Calls.{openScript, saidScript, standsScript}
-use Rattle.transfer.specs.Within.{AttemptNextWithin, AttemptWithin, ScriptWithin}
+use Rattle.transfer.specs.Left.{attemptNextLeft, attemptLeft, scriptLeft}
 use borrow.Author.Needs.{needs}
 use native.Mathlib.Omega.{arith}
 use mathlib.Core.Path.{_∙_, ap, refl, sym}
@@ -33,16 +33,16 @@ enum-known-q-2 : tie.Need-enum-known-q-2
 enum-known-q-2 c = search needs
 
 returns : tie.Need-returns
-unfolding openScript andThen portOpened validAttemptNext validAttempt AttemptNextWithin AttemptWithin
-returns c = record { yields = rw (← c .before .before .before .before .before .before .before .open-port .ensures, c .before .before .before .before .before .p .given .1) (c .told .ensures .yields (c .before .before .before .before .before .before .before .before .before .args .script .now) ∙ ap yes (script-begins _ (c .before .before .before .before .before .before .before .before .before .args .script .now)) ∙ sym (judged-yes (c .before .before .before .before .before .before .before .before .before .args .script .now) _ (judged-accepted (c .before .before .before .before .before .before .before .before .before .args .script .now) (c .before .enum-told .given .1) (c .before .before .before .judge .ensures)))); limits = c .told .ensures .limits (c .before .before .before .before .before .before .before .before .before .args .script .now) (opened-valid _ _ _ (c .before .before .before .before .before .p .given .1) (c .before .before .before .before .before .before .before .open-port .ensures)) refl; within = c .told .ensures .within _ (omega arith) }
+unfolding openScript andThen portOpened validAttemptNext validAttempt attemptNextLeft attemptLeft
+returns c = record { yields = rw (← c .before .before .before .before .before .before .before .open-port .ensures, c .before .before .before .before .before .p .given .1) (c .told .ensures .yields (c .before .before .before .before .before .before .before .before .before .args .script .now) ∙ ap yes (script-begins _ (c .before .before .before .before .before .before .before .before .before .args .script .now)) ∙ sym (judged-yes (c .before .before .before .before .before .before .before .before .before .args .script .now) _ (judged-accepted (c .before .before .before .before .before .before .before .before .before .args .script .now) (c .before .enum-told .given .1) (c .before .before .before .judge .ensures)))); limits = c .told .ensures .limits (c .before .before .before .before .before .before .before .before .before .args .script .now) (opened-valid _ _ _ (c .before .before .before .before .before .p .given .1) (c .before .before .before .before .before .before .before .open-port .ensures)) refl; within = c .told .ensures .within }
 
 returns-2 : tie.Need-returns-2
-unfolding openScript andThen portOpened saidScript standsScript ScriptWithin
-returns-2 c = record { yields = rw (← c .before .before .before .before .before .before .before .open-port .ensures, c .before .before .before .before .before .p .given .1) (sym (judged-no (c .before .before .before .before .before .before .before .before .before .args .script .now) _ (c .before .q .given .1) (c .before .before .before .judge .ensures))); limits = tt; within = tt }
+unfolding openScript andThen portOpened saidScript standsScript scriptLeft
+returns-2 c = record { yields = rw (← c .before .before .before .before .before .before .before .open-port .ensures, c .before .before .before .before .before .p .given .1) (sym (judged-no (c .before .before .before .before .before .before .before .before .before .args .script .now) _ (c .before .q .given .1) (c .before .before .before .judge .ensures))); limits = tt; within = omega arith }
 
 returns-3 : tie.Need-returns-3
-unfolding openScript andThen portOpened saidScript standsScript ScriptWithin
-returns-3 c = record { yields = rw (← c .before .before .before .open-port .ensures, c .before .q2 .given .1); limits = tt; within = tt }
+unfolding openScript andThen portOpened saidScript standsScript scriptLeft
+returns-3 c = record { yields = rw (← c .before .before .before .open-port .ensures, c .before .q2 .given .1); limits = tt; within = omega arith }
 
 pub script-open-spec : {M : Type 1} → statement M
 script-open-spec =

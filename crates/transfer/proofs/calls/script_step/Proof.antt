@@ -1,9 +1,10 @@
 -- `script_step` meets its contract.
 use Rattle.script.proofs.Laws.{on-first}
 use Rattle.transfer.proofs.Laws.{judged-accepted, judged-no, judged-yes}
-use Rattle.transfer.proofs.Within.{accepted-length}
+use Rattle.transfer.proofs.Left.{accepted-length}
 use Rattle.transfer.specs.Calls.{saidScript, standsScript, stepScript, steppedScript}
-use Rattle.transfer.specs.Within.{ScriptWithin}
+use native.Mathlib.Omega.{arith}
+use Rattle.transfer.specs.Left.{scriptLeft}
 use borrow.Author.Needs.{needs}
 use mathlib.Core.Path.{_∙_, sym}
 use Rattle.transfer.proofs.calls.script_step.Statement.{statement}
@@ -33,25 +34,25 @@ returns c =
     record {
       yields = rw (c .before .before .s .given .1) (c .script-on .ensures .yields ∙ sym (judged-yes (c .before .before .before .before .before .before .before .before .args .script .now) _ (judged-accepted (c .before .before .before .before .before .before .before .before .args .script .now) (c .before .before .before .before .enum-told .given .1) (c .before .before .before .before .before .before .judge .ensures))));
       limits = c .script-on .ensures .limits (on-first (c .before .before .before .before .before .before .before .before .args .script .now) (judged-accepted (c .before .before .before .before .before .before .before .before .args .script .now) (c .before .before .before .before .enum-told .given .1) (c .before .before .before .before .before .before .judge .ensures)));
-      within = λ n w. c .script-on .ensures .within n (accepted-length (c .before .before .before .before .before .before .before .before .args .script .now) (judged-accepted (c .before .before .before .before .before .before .before .before .args .script .now) (c .before .before .before .before .enum-told .given .1) (c .before .before .before .before .before .before .judge .ensures))) (rw (c .before .before .s .given .1) at w);
+      within = λ i. rw (c .before .before .s .given .1) (omega (arith, c .script-on .ensures .within (accepted-length (c .before .before .before .before .before .before .before .before .args .script .now) (judged-accepted (c .before .before .before .before .before .before .before .before .args .script .now) (c .before .before .before .before .enum-told .given .1) (c .before .before .before .before .before .before .judge .ensures))) i));
     }
 
 returns-2 : tie.Need-returns-2
-unfolding stepScript steppedScript saidScript standsScript ScriptWithin
+unfolding stepScript steppedScript saidScript standsScript scriptLeft
 returns-2 c =
     record {
       yields = rw (c .enum-told2 .given .1) (sym (judged-yes (c .before .before .before .before .before .before .args .script .now) _ (judged-accepted (c .before .before .before .before .before .before .args .script .now) (c .before .before .enum-told .given .1) (c .before .before .before .before .judge .ensures))));
       limits = tt;
-      within = λ n w. tt;
+      within = λ i. omega arith;
     }
 
 returns-3 : tie.Need-returns-3
-unfolding stepScript saidScript standsScript ScriptWithin
+unfolding stepScript saidScript standsScript scriptLeft
 returns-3 c =
     record {
       yields = sym (judged-no (c .before .before .before .before .before .args .script .now) _ (c .before .q .given .1) (c .before .before .before .judge .ensures));
       limits = tt;
-      within = λ n w. tt;
+      within = λ i. omega arith;
     }
 
 pub script-step-spec : {M : Type 1} → statement M

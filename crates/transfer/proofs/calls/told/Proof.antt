@@ -5,7 +5,8 @@ use Rattle.hardware.proofs.Prog.{going-tally}
 use Rattle.transfer.proofs.Laws.{told-tally}
 use Rattle.transfer.specs.Attempt.{attemptNext, awaiting, validAttemptNext}
 use Rattle.transfer.specs.Calls.{dropped, restScript, saidScript, standsScript, single, validScript}
-use Rattle.transfer.specs.Within.{AttemptNextWithin, CallWithin, ScriptWithin}
+use native.Mathlib.Omega.{arith}
+use Rattle.transfer.specs.Left.{attemptNextLeft, callLeft, scriptLeft}
 use borrow.Author.Needs.{needs}
 use mathlib.Core.Path.{ap}
 use Rattle.transfer.proofs.calls.told.Statement.{statement}
@@ -33,30 +34,30 @@ outcome-of-requires : tie.Need-outcome-of-requires
 outcome-of-requires c κs = search needs
 
 returns : tie.Need-returns
-unfolding saidScript restScript attemptNext awaiting standsScript validAttemptNext validScript pick ScriptWithin CallWithin AttemptNextWithin
+unfolding saidScript restScript attemptNext awaiting standsScript validAttemptNext validScript pick scriptLeft callLeft attemptNextLeft
 returns c =
     record {
       yields = λ s. rw (c .before .before .n .given .1, (rw (c .before .before .before .before .layout-of .ensures) at (c .access .ensures))) (ap yes (going-tally single _ _ _));
       limits = λ s p h. ((rw (c .before .before .before .before .layout-of .ensures) at (c .access .ensures)), rw p (rw (c .before .before .n .given .1) at h));
-      within = λ m w. rw (c .before .before .n .given .1) at w;
+      within = rw (c .before .before .n .given .1) (omega arith);
     }
 
 returns-2 : tie.Need-returns-2
-unfolding saidScript restScript attemptNext awaiting standsScript validAttemptNext validScript pick ScriptWithin CallWithin AttemptNextWithin
+unfolding saidScript restScript attemptNext awaiting standsScript validAttemptNext validScript pick scriptLeft callLeft attemptNextLeft
 returns-2 c =
     record {
       yields = λ s. rw (c .before .before .n2 .given .1, (rw (c .before .before .before .before .layout-of .ensures) at (c .access2 .ensures))) (ap yes (told-tally single _ _ _ _));
       limits = λ s p h. ((rw (c .before .before .before .before .layout-of .ensures) at (c .access2 .ensures)), rw p (rw (c .before .before .n2 .given .1) at h));
-      within = λ m w. rw (c .before .before .n2 .given .1) at w;
+      within = rw (c .before .before .n2 .given .1) (omega arith);
     }
 
 returns-3 : tie.Need-returns-3
-unfolding saidScript attemptNext followed _>>=_ erase dropped tally standsScript ScriptWithin
+unfolding saidScript attemptNext followed _>>=_ erase dropped tally standsScript scriptLeft
 returns-3 c =
     record {
       yields = λ s. rw (c .before .before .n3 .given .1, c .outcome-of .ensures);
       limits = λ s p h. tt;
-      within = λ m w. tt;
+      within = omega arith;
     }
 
 pub told-spec : {M : Type 1} → statement M

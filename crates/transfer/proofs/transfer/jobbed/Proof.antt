@@ -2,11 +2,11 @@
 use Rattle.bus.proofs.Laws.{picked}
 use Rattle.bus.specs.Bus.{orHeld}
 use Rattle.bus.specs.Command.{jobNext, validJobNext}
-use Rattle.bus.specs.Within.{JobNextWithin}
+use Rattle.bus.specs.Left.{jobNextLeft}
 use Rattle.hardware.specs.Prog.{erase}
 use Rattle.hardware.specs.Registers.{byte}
 use Rattle.transfer.specs.Transfer.{accessTransfer, asking, restTransfer, transferNext, validTransfer, validTransferNext}
-use Rattle.transfer.specs.Within.{TransferNextWithin}
+use Rattle.transfer.specs.Left.{transferLeft, transferNextLeft}
 use borrow.Author.Needs.{needs}
 use mathlib.Core.Path.{refl}
 use native.Mathlib.Omega.{arith}
@@ -29,12 +29,12 @@ enum-known-o-2 : tie.Need-enum-known-o-2
 enum-known-o-2 c = search needs
 
 returns : tie.Need-returns
-unfolding transferNext asking accessTransfer restTransfer jobNext validTransferNext validTransfer validJobNext JobNextWithin TransferNextWithin
+unfolding transferNext asking accessTransfer restTransfer jobNext validTransferNext validTransfer validJobNext jobNextLeft transferLeft transferNextLeft
 returns c =
     record {
       yields = λ m. rw (c .before .n .given .1);
       limits = λ h g. picked _ _ h (rw (c .before .n .given .1) at g);
-      within = λ p m h w g. record { job = p; within = rw (c .before .n .given .1) at w; rest = g };
+      within = λ h. rw (c .before .n .given .1) (omega arith);
     }
 
 returns-2 : tie.Need-returns-2
@@ -43,16 +43,16 @@ returns-2 c =
     record {
       yields = λ m. rw (c .before .before .before .before .before .n2 .given .1, c .before .before .o .given .1) (c .after .ensures .yields m (c .before .before .before .before .before .before .before .before .args .device));
       limits = λ h g. c .after .ensures .limits h;
-      within = λ p m h w g. c .after .ensures .within m h (omega (arith, g));
+      within = λ h. omega (arith, c .after .ensures .within h);
     }
 
 returns-3 : tie.Need-returns-3
-unfolding transferNext jobNext orHeld byte erase validTransferNext TransferNextWithin
+unfolding transferNext jobNext orHeld byte erase validTransferNext transferNextLeft
 returns-3 c =
     record {
       yields = λ m. rw (c .before .before .before .before .n2 .given .1, c .before .o2 .given .1);
       limits = λ h g. refl;
-      within = λ p m h w g. omega (arith, g);
+      within = λ h. omega arith;
     }
 
 pub jobbed-spec : {M : Type 1} → statement M

@@ -5,8 +5,8 @@ use mathlib.Core.Bool.{Bool, true, false}
 use native.Mathlib.Omega.{arith}
 use lib.Dec.{eqb}
 use Rattle.hardware.specs.declared.Answer.{Answer}
-use Rattle.hardware.specs.Asked.{fits}
-use Rattle.hardware.specs.Longest.{InType, longest}
+use Rattle.hardware.specs.Asked.{fits, InType}
+use Rattle.hardware.specs.Longest.{longest}
 use Rattle.hardware.specs.Prog.{erase, pick}
 use Rattle.hardware.proofs.Ends.{ends-more, ends-erase, ask-ends}
 use Rattle.hardware.proofs.Longest.{longest-next, longest-few, longest-opened}

@@ -12,14 +12,13 @@ ghost use Prim.Native.Nat.{ℕ, _+_, _*_, _<_, _≤_};
 ghost use mathlib.Core.Path.{_≡_};
 ghost use mathlib.Core.Bool.{true};
 ghost use lib.Dec.{ltb, leb};
-ghost use Rattle.hardware.specs.Asked.{fits};
+ghost use Rattle.hardware.specs.Asked.{fits, InType};
 ghost use Rattle.hardware.specs.Prog.{erase};
 ghost use Rattle.hardware.specs.Promise.{Bounds};
 ghost use Rattle.bus.specs.Bus.{Bus};
 ghost use Rattle.bus.specs.Line.{called, lineNext, validLineNext};
 ghost use Rattle.bus.specs.Command.{callAt, callCount, finished, callsLeft, commanded, accessJob, restJob, jobNext, validJob, validJobNext};
 ghost use Rattle.bus.specs.Steps.{CALL-STEPS, JOB-STEPS};
-ghost use Rattle.hardware.specs.Longest.{InType};
 ghost use Rattle.bus.specs.Left.{lineLeft, jobLeft, jobNextLeft};
 
 // left: the line calls after this one.

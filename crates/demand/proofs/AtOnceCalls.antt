@@ -1,10 +1,12 @@
--- With the answers of `atOnce`, and any of I2CCTL, no lock and no grant of a transfer or of an identification runs out.
+-- With the answers of `atOnce`, and any of I2CCTL, no lock and no grant of a transfer, of an identification or of a page runs
+-- out.
 use Prim.Native.Nat.{ℕ, suc, zero}
 use mathlib.Core.Path.{_≡_, refl}
 use mathlib.Core.Bool.{Bool, true}
+use mathlib.Core.List.{List}
 use Rattle.hardware.specs.declared.Port.{Port}
 use Rattle.hardware.specs.declared.change.Change.{Change}
-use Rattle.hardware.specs.Prog.{Prog, ret, Attempt, R, Ok, _>>=_, pick}
+use Rattle.hardware.specs.Prog.{Prog, ret, Attempt, R, Ok, Err, _>>=_, pick}
 use Rattle.hardware.specs.Registers.{ESDP, noneOf}
 use Rattle.hardware.specs.Change.{change}
 use Rattle.hostif.specs.Acquire.{acquire, release}
@@ -16,6 +18,8 @@ use Rattle.i2c.specs.declared.once.Request.{Request}
 use Rattle.i2c.specs.declared.once.Request.the-variants.{ReadByte, WriteByte, ReadCombined, WriteCombined}
 use Rattle.i2c.specs.I2c.{standard, locked, mask, once, whenLock, readJudged, readTries, writeTries, givenUp, writes, retried, askBus, giveBus, granting, granted, givenBus, onGrant, withBus, handshaken, givesValue, transferred}
 use Rattle.sfp.specs.Identify.{EEPROM, identify}
+use Rattle.page.specs.declared.walk.Form.{Form}
+use Rattle.page.specs.Page.{Filled, byteSeen, requestAt, pageFrom, page}
 use Rattle.demand.specs.Fine.{AtOnce}
 use Rattle.bench.specs.AtOnce.{atOnceAt, atOnce}
 use Rattle.demand.proofs.Locks.{aside}
@@ -112,3 +116,18 @@ module _ (port : Port) where
   identify-at-once =
       identify-holds standard port (λ p. AtOnces port p)
       (record { ends = λ v. ret-at-once v; requests = λ offset n k h. bind-at-once _ k (transferred-at-once (ReadByte EEPROM offset) (locked standard) n) h })
+
+  seen-at-once : (again : List ℕ → Prog Filled) (place : ℕ) (buffer : List ℕ) (r : R ℕ) → ((l : List ℕ) → AtOnces port (again l)) → AtOnces port (byteSeen again place buffer r)
+  unfolding byteSeen
+  seen-at-once again place buffer (Ok v) h = h _
+  seen-at-once again place buffer (Err e) h = ret-at-once _
+
+  bytes-at-once : (form : Form) (tries n : ℕ) (buffer : List ℕ) → AtOnces port (pageFrom standard port form tries n buffer)
+  unfolding pageFrom
+  bytes-at-once form tries zero buffer = ret-at-once _
+  bytes-at-once form tries (suc left) buffer =
+      bind-at-once _ _ (transferred-at-once (requestAt form left) (locked standard) tries) (λ r. seen-at-once _ _ _ r (bytes-at-once form tries left))
+
+  pub page-at-once : (form : Form) (tries : ℕ) (buffer : List ℕ) → AtOnces port (page standard port form tries buffer)
+  unfolding page
+  page-at-once form tries buffer = bytes-at-once form tries 96 buffer

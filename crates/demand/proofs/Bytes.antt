@@ -13,7 +13,7 @@ use Rattle.wire.proofs.Commands as Commands
 use Rattle.bench.specs.declared.receiver.Receiver.{Receiver}
 use Rattle.bench.specs.declared.receiver.Stage.{Stage}
 use Rattle.bench.specs.declared.receiver.Stage.the-variants.{Address}
-use Rattle.bench.specs.Receiver.{at, stopped, taken, rise}
+use Rattle.bench.specs.Receiver.{stopped, taken, rise}
 use Rattle.bench.specs.Bench.{nextOffset, under}
 use Rattle.demand.specs.Claim.{CountedBench, machine}
 use Rattle.demand.proofs.Bits.{tookBits, shifted-taken}

@@ -14,4 +14,5 @@ pub mod Identify
 pub mod Runs
 pub mod Claim
 pub mod Possible
+pub mod Page
 pub mod Library

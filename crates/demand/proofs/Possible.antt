@@ -1,4 +1,4 @@
--- The premises of the claim can be met: for every port and every start there is a list of answers, as long as one likes.
+-- The premises of the claims can be met: for every port and every start there is a list of answers, as long as one likes.
 use Prim.Native.Nat.{ℕ, _≤_, suc, zero}
 use mathlib.Core.Path.{_≡_, refl, ap, subst⁻¹}
 use mathlib.Core.Bool.{Bool, true, false}
@@ -16,17 +16,19 @@ use Rattle.bus.specs.declared.Layout.{Layout}
 use Rattle.bus.specs.Layout.{layoutOf}
 use Rattle.wire.specs.Lines.{Each}
 use Rattle.wire.specs.Machine.{Side, World, modelled, reply, noted}
-use Rattle.wire.specs.Run.{fixed, BenchRun, proceed, run, answersIn}
+use Rattle.wire.specs.Run.{fixed, Finished, BenchRun, proceed, run, answersIn}
 use Rattle.wire.proofs.Run.{replayed, fixed-finishes}
 use Rattle.bench.specs.declared.Bench.{Bench}
 use Rattle.bench.specs.AtOnce.{atOnce}
 use Rattle.sfp.specs.declared.Identity.{Identity}
 use Rattle.sfp.specs.Identify.{identify}
 use Rattle.sfp.specs.Steps.{IDENTIFY-STEPS}
+use Rattle.page.specs.declared.walk.Form.{Form}
 use Rattle.demand.specs.Fine.{AtOnce}
 use Rattle.demand.specs.Claim.{machine, benchRun, Works, Premise, atStart, Premises}
+use Rattle.demand.specs.PageClaim.{pageCall, PagePremises}
 use Rattle.demand.proofs.AtOnce.{at-once-stays}
-use Rattle.demand.proofs.AtOnceCalls.{identify-at-once}
+use Rattle.demand.proofs.AtOnceCalls.{AtOnces, identify-at-once, page-at-once}
 
 -- each of the atOnce answers works
 at-once-works : (x : Access) → Works x (atOnce x)
@@ -64,32 +66,60 @@ dones-length : (n : ℕ) → length (dones n) ≡ n
 dones-length zero = refl
 dones-length (suc n) = ap suc (dones-length n)
 
+-- a run with the atOnce answers
+abbrev pub promptRun : {A : Type 0} → Port → Prog A → Bench → ℕ → BenchRun machine A
+promptRun port p b word = run (layoutOf (port .family)) machine (fixed atOnce) p (atStart word b) []
+
+module _ {A : Type 0} (port : Port) (p : Prog A) (b : Bench) (word more : ℕ) where
+  -- the answers in it, and so many more
+  abbrev pub promptList : List Answer
+  promptList = answersIn (promptRun port p b word .trace) ++ dones more
+
+  pub list-replayed : benchRun port p b word promptList ≡ promptRun port p b word
+  list-replayed =
+      replayed (layoutOf (port .family)) machine (fixed atOnce) (dones more) p (atStart word b) []
+      (fixed-finishes (layoutOf (port .family)) machine atOnce p (atStart word b) [])
+
+  pub list-meets : AtOnces port p → Each Premise (benchRun port p b word promptList .trace)
+  list-meets h =
+      subst⁻¹ (λ r. Each Premise (r .trace)) list-replayed (at-once-premises (layoutOf (port .family)) machine (λ _. Unit {0}) p (atStart word b) [] h)
+
+  pub list-finishes : Finished (benchRun port p b word promptList .outcome)
+  list-finishes = subst⁻¹ (λ r. Finished (r .outcome)) list-replayed (fixed-finishes (layoutOf (port .family)) machine atOnce p (atStart word b) [])
+
+  pub list-long : more ≤ length promptList
+  list-long = omega (arith, length-append (answersIn (promptRun port p b word .trace)) (dones more), dones-length more)
+
 module _ (port : Port) (b : Bench) (word : ℕ) where
   -- a whole identification with the atOnce answers
   abbrev pub prompt : BenchRun machine (R Identity)
-  prompt = run (layoutOf (port .family)) machine (fixed atOnce) (identify standard port) (atStart word b) []
+  prompt = promptRun port (identify standard port) b word
 
   -- the answers in it, and more
   abbrev pub promptAnswers : List Answer
-  promptAnswers = answersIn (prompt .trace) ++ dones (IDENTIFY-STEPS (port .family))
+  promptAnswers = promptList port (identify standard port) b word (IDENTIFY-STEPS (port .family))
 
   pub prompt-replayed : benchRun port (identify standard port) b word promptAnswers ≡ prompt
-  prompt-replayed =
-      replayed (layoutOf (port .family)) machine (fixed atOnce) (dones (IDENTIFY-STEPS (port .family))) (identify standard port) (atStart word b) []
-      (fixed-finishes (layoutOf (port .family)) machine atOnce (identify standard port) (atStart word b) [])
+  prompt-replayed = list-replayed port (identify standard port) b word (IDENTIFY-STEPS (port .family))
 
   pub at-once-meets : Premises port b word promptAnswers
   unfolding Premises
-  at-once-meets =
-      subst⁻¹ (λ r. Each Premise (r .trace)) prompt-replayed
-      (at-once-premises (layoutOf (port .family)) machine (λ _. Unit {0}) (identify standard port) (atStart word b) [] (identify-at-once port))
+  at-once-meets = list-meets port (identify standard port) b word (IDENTIFY-STEPS (port .family)) (identify-at-once port)
 
   pub at-once-long : IDENTIFY-STEPS (port .family) ≤ length promptAnswers
-  at-once-long = long (answersIn (prompt .trace)) (IDENTIFY-STEPS (port .family))
-    where
-      long : (s : List Answer) (n : ℕ) → n ≤ length (s ++ dones n)
-      long s n = omega (arith, length-append s (dones n), dones-length n)
+  at-once-long = list-long port (identify standard port) b word (IDENTIFY-STEPS (port .family))
 
   -- For every port and every start, AckWrite included, a list of answers that meets the premises and is long enough
   pub possible : (answers : List Answer) × Premises port b word answers × (IDENTIFY-STEPS (port .family) ≤ length answers)
   possible = (promptAnswers, at-once-meets, at-once-long)
+
+  -- For a page too, on whatever buffer and with any number of attempts, and as long as one likes; its run comes to its end
+  pub page-possible : (form : Form) (tries : ℕ) (buffer : List ℕ) (n : ℕ)
+      → (answers : List Answer) × PagePremises port form tries buffer b word answers × (n ≤ length answers) × Finished (benchRun port (pageCall port form tries buffer) b word answers .outcome)
+  unfolding PagePremises
+  page-possible form tries buffer n = (
+    promptList port (pageCall port form tries buffer) b word n,
+    list-meets port (pageCall port form tries buffer) b word n (page-at-once port form tries buffer),
+    list-long port (pageCall port form tries buffer) b word n,
+    list-finishes port (pageCall port form tries buffer) b word n,
+  )

@@ -1,12 +1,12 @@
 -- A request of one byte of page A0: its lock, its handshake, its attempts, and the module at its end.
 use Prim.Native.Nat.{ℕ, _+_, _<_, suc, zero}
-use mathlib.Core.Path.{_≡_, _∙_}
+use mathlib.Core.Path.{_≡_, ap, _∙_, subst}
 use mathlib.Core.Bool.{Bool, true, false}
 use native.Mathlib.Omega.{arith}
 use lib.ListN.{getD}
 use Rattle.hardware.specs.declared.Port.{Port}
 use Rattle.hardware.specs.Failures.{I2c}
-use Rattle.hardware.specs.Prog.{Prog, R, Ok, Err, pick}
+use Rattle.hardware.specs.Prog.{Prog, R, Ok, Err, pick, _>>=_, blank}
 use Rattle.bus.specs.declared.Layout.{Layout}
 use Rattle.bus.specs.declared.Taken.{Taken}
 use Rattle.bus.specs.Layout.{layoutOf}
@@ -16,12 +16,12 @@ use Rattle.wire.specs.Machine.{World}
 use Rattle.wire.specs.Always.{Always}
 use Rattle.wire.proofs.Always.{always-bind}
 use Rattle.wire.proofs.Distinct.{distinct}
+use Rattle.bench.specs.declared.Bench.{Bench}
 use Rattle.bench.specs.declared.receiver.Stage.the-variants.{Idle, AckWrite}
 use Rattle.i2c.specs.declared.once.Request.the-variants.{ReadByte}
 use Rattle.i2c.specs.I2c.{standard, locked, deviceOf, isWrite, body, read-off, valueOf, givesValue, failedI2c, once, pauses, readJudged, readTries, retried, withBus, handshaken, transferred}
-use Rattle.sfp.specs.declared.Identity.{Identity}
-use Rattle.sfp.specs.Identify.{EEPROM, absent, orAbsent, byte}
-use Rattle.demand.specs.Claim.{CountedBench, machine}
+use Rattle.sfp.specs.Identify.{EEPROM}
+use Rattle.demand.specs.Claim.{CountedBench, machine, Leaves}
 use Rattle.demand.proofs.Receiver.{idle-free}
 use Rattle.demand.proofs.ReadByte.{Kept}
 use Rattle.demand.proofs.Clearing.{ack-pulls}
@@ -47,8 +47,36 @@ pub record After (l : Layout) (m : CountedBench) (j : ℕ) (n : CountedBench) (w
 pub later : {l : Layout} {m n o : CountedBench} {j w v : ℕ} → After l m j n w → After l n 1 o v → After l m (suc j) o v
 later h k = record { idle = k .idle; a0 = k .a0 ∙ h .a0; a2 = k .a2 ∙ h .a2; made = omega (arith, k .made, h .made); rests = k .rests }
 
+-- a count of transfers, written otherwise
+pub counted-as : {l : Layout} {m o : CountedBench} {i j v : ℕ} → i ≡ j → After l m i o v → After l m j o v
+counted-as {l} {m} {o} {v = v} e h = subst (λ i. After l m i o v) e h
+
+-- the module at the start, no transfer made yet
+abbrev pub begun : Bench → CountedBench
+begun b = record { bench = b; meter = blank }
+
+-- what a call leaves that began there, where all went well
+pub after-leaves : {l : Layout} (b : Bench) {i j w : ℕ} {n : CountedBench} → After l (begun b) i n w → i ≡ j → Leaves l b j (world w n)
+after-leaves b {n = n} a e =
+    record {
+      a0 = a .a0;
+      a2 = a .a2;
+      idle = a .idle;
+      master-released = a .rests .lines;
+      module-released = ap (λ t. drawn t false) (idle-free (n .bench .receiver) n (a .idle));
+      transfers = omega (arith, a .made, e);
+    }
+
 kept-after : {l : Layout} {m n : CountedBench} {v : ℕ} → n .bench .receiver .stage ≡ Idle → Kept (more m) n → Rests l (drawn false false) v → After l m 1 n v
 kept-after idle kept rests = record { idle = idle; a0 = kept .a0; a2 = kept .a2; made = omega (arith, kept .made); rests = rests }
+
+-- what holds after j transfers since m, whatever the module's state and I2CCTL then are, as long as all went well
+abbrev pub Continues : {A : Type 0} → Port → CountedBench → (A → World machine → Type 0) → ℕ → Prog A → Type 0
+Continues port m Q j p = (n : CountedBench) (w : ℕ) → After (layoutOf (port .family)) m j n w → Always (layoutOf (port .family)) machine p (world w n) Q
+
+-- the count written otherwise
+pub counts : {A : Type 0} (port : Port) (m : CountedBench) (Q : A → World machine → Type 0) {i j : ℕ} (p : Prog A) → i ≡ j → Continues port m Q j p → Continues port m Q i p
+counts port m Q p e h n w a = h n w (counted-as e a)
 
 module _ (port : Port) (offset : ℕ) (small : offset < 256) where
   -- with SDA free one attempt does
@@ -96,43 +124,44 @@ module _ (port : Port) (offset : ℕ) (small : offset < 256) where
       (λ n u ack made rests. Handshake.unlock-alone port (world u n) Q true _ (Handshake.pause-alone port (world u n) Q 100 _
       (tries-fail left u n false false Q rests ack (λ o v made′. h o v (omega (arith, made′, made))))))))
 
-  -- around the attempts: the handshake, and what the Rust makes of the result
-  around : (tries : ℕ) (w : World machine) (k : ℕ → Prog (R Identity)) (Q : R Identity → World machine → Type 0)
+  -- around the attempts: the handshake, and what comes after the request
+  around : {A : Type 0} (tries : ℕ) (w : World machine) (k : R ℕ → Prog A) (Q : A → World machine → Type 0)
       → Always (layoutOf (port .family)) machine (readTries port (ReadByte EEPROM offset) (locked standard) tries) w
-      (λ r v. Always (layoutOf (port .family)) machine (orAbsent k (valueOf (ReadByte EEPROM offset) r)) v Q)
-      → Always (layoutOf (port .family)) machine (byte standard port offset tries k) w Q
-  unfolding byte transferred handshaken retried isWrite pick givesValue Always
+      (λ r v. Always (layoutOf (port .family)) machine (k (valueOf (ReadByte EEPROM offset) r)) v Q)
+      → Always (layoutOf (port .family)) machine (transferred port (ReadByte EEPROM offset) (locked standard) tries >>= k) w Q
+  unfolding transferred handshaken retried isWrite pick givesValue Always
   around tries w k Q h =
-      always-bind _ machine (transferred port (ReadByte EEPROM offset) (locked standard) tries) (orAbsent k) w Q
+      always-bind _ machine (transferred port (ReadByte EEPROM offset) (locked standard) tries) k w Q
       (always-bind _ machine (withBus port EEPROM (readTries port (ReadByte EEPROM offset) (locked standard) tries)) (givesValue (ReadByte EEPROM offset)) w _
       (Handshake.bus-alone port EEPROM (readTries port (ReadByte EEPROM offset) (locked standard) tries) w _ h))
 
   -- a request, by the module's state at its beginning
-  pub request-read : (left w : ℕ) (m : CountedBench) (a b : Bool) (k : ℕ → Prog (R Identity)) (Q : R Identity → World machine → Type 0)
+  pub request-read : {A : Type 0} (tries left w : ℕ) (m : CountedBench) (a b : Bool) (k : R ℕ → Prog A) (Q : A → World machine → Type 0) → tries ≡ suc left
       → Rests (layoutOf (port .family)) (drawn a b) w → bytes m offset < 256 → machine .pulls m .sda ≡ false
-      → ((n : CountedBench) (v : ℕ) → After (layoutOf (port .family)) m 1 n v → Always (layoutOf (port .family)) machine (k (bytes m offset)) (world v n) Q)
-      → Always (layoutOf (port .family)) machine (byte standard port offset (suc left) k) (world w m) Q
-  unfolding valueOf read-off orAbsent
-  request-read left w m a b k Q r v free h = around (suc left) (world w m) k Q (tries-read left w m a b _ r v free h)
+      → Continues port m Q 1 (k (Ok (bytes m offset)))
+      → Always (layoutOf (port .family)) machine (transferred port (ReadByte EEPROM offset) (locked standard) tries >>= k) (world w m) Q
+  unfolding valueOf read-off
+  request-read tries left w m a b k Q e r v free h = rw e (around (suc left) (world w m) k Q (tries-read left w m a b _ r v free h))
 
-  pub request-clears : (left w : ℕ) (m : CountedBench) (a b : Bool) (k : ℕ → Prog (R Identity)) (Q : R Identity → World machine → Type 0)
+  pub request-clears : {A : Type 0} (tries left w : ℕ) (m : CountedBench) (a b : Bool) (k : R ℕ → Prog A) (Q : A → World machine → Type 0)
+      → tries ≡ suc (suc left)
       → Rests (layoutOf (port .family)) (drawn a b) w → bytes m offset < 256 → machine .pulls m .sda ≡ true → Stuck (m .bench .receiver)
-      → ((n : CountedBench) (v : ℕ) → After (layoutOf (port .family)) m 2 n v → Always (layoutOf (port .family)) machine (k (bytes m offset)) (world v n) Q)
-      → Always (layoutOf (port .family)) machine (byte standard port offset (suc (suc left)) k) (world w m) Q
-  unfolding valueOf read-off orAbsent
-  request-clears left w m a b k Q r v held s h = around (suc (suc left)) (world w m) k Q (tries-clear left w m a b _ r v held s h)
+      → Continues port m Q 2 (k (Ok (bytes m offset)))
+      → Always (layoutOf (port .family)) machine (transferred port (ReadByte EEPROM offset) (locked standard) tries >>= k) (world w m) Q
+  unfolding valueOf read-off
+  request-clears tries left w m a b k Q e r v held s h = rw e (around (suc (suc left)) (world w m) k Q (tries-clear left w m a b _ r v held s h))
 
-  pub request-fails : (tries w : ℕ) (m : CountedBench) (a b : Bool) (k : ℕ → Prog (R Identity)) (Q : R Identity → World machine → Type 0)
+  pub request-fails : {A : Type 0} (tries w : ℕ) (m : CountedBench) (a b : Bool) (k : R ℕ → Prog A) (Q : A → World machine → Type 0)
       → Rests (layoutOf (port .family)) (drawn a b) w → m .bench .receiver .stage ≡ AckWrite
-      → ((n : CountedBench) (v : ℕ) → n .meter .transfers ≡ tries + m .meter .transfers → Q (Ok absent) (world v n))
-      → Always (layoutOf (port .family)) machine (byte standard port offset tries k) (world w m) Q
-  unfolding valueOf orAbsent isI2c pick Always
+      → ((n : CountedBench) (v : ℕ) → n .meter .transfers ≡ tries + m .meter .transfers → Always (layoutOf (port .family)) machine (k (Err (I2c EEPROM))) (world v n) Q)
+      → Always (layoutOf (port .family)) machine (transferred port (ReadByte EEPROM offset) (locked standard) tries >>= k) (world w m) Q
+  unfolding valueOf
   request-fails tries w m a b k Q r e h = around tries (world w m) k Q (tries-fail tries w m a b _ r e h)
 
   -- the next request
-  pub request-next : {m n : CountedBench} (tries left j w : ℕ) (k : ℕ → Prog (R Identity)) (Q : R Identity → World machine → Type 0) → tries ≡ suc left
+  pub request-next : {A : Type 0} {m n : CountedBench} (tries left j w : ℕ) (k : R ℕ → Prog A) (Q : A → World machine → Type 0) → tries ≡ suc left
       → After (layoutOf (port .family)) m j n w → bytes m offset < 256
-      → ((o : CountedBench) (v : ℕ) → After (layoutOf (port .family)) m (suc j) o v → Always (layoutOf (port .family)) machine (k (bytes m offset)) (world v o) Q)
-      → Always (layoutOf (port .family)) machine (byte standard port offset tries k) (world w n) Q
+      → Continues port m Q (suc j) (k (Ok (bytes m offset)))
+      → Always (layoutOf (port .family)) machine (transferred port (ReadByte EEPROM offset) (locked standard) tries >>= k) (world w n) Q
   request-next {m} {n} tries left j w k Q e h v f =
-      rw e (request-read left w n false false k Q (h .rests) (rw (h .a0) v) (idle-free (n .bench .receiver) n (h .idle)) (λ o u g. rw (h .a0) (f o u (later h g))))
+      request-read tries left w n false false k Q e (h .rests) (rw (h .a0) v) (idle-free (n .bench .receiver) n (h .idle)) (λ o u g. rw (h .a0) (f o u (later h g)))

@@ -1,6 +1,6 @@
 -- From what always holds of a call to its runs on the bench, wherever the other registers' answers come from.
 use Prim.Native.Nat.{ℕ, _≤_, suc, zero}
-use mathlib.Core.Path.{_≡_, refl, ap, _∙_, sym}
+use mathlib.Core.Path.{_≡_, refl, ap, _∙_, sym, subst}
 use mathlib.Core.Bool.{Bool, true, false}
 use mathlib.Core.List.{List, [], _∷_}
 use native.Mathlib.Omega.{arith}
@@ -10,16 +10,19 @@ use Rattle.hardware.specs.declared.Access.{Access}
 use Rattle.hardware.specs.declared.Access.the-variants.{Read, Write, Wait}
 use Rattle.hardware.specs.declared.Answer.{Answer}
 use Rattle.hardware.specs.declared.Answer.the-variants.{Value, Done, Failed}
+use Rattle.hardware.specs.declared.Port.{Port}
 use Rattle.hardware.specs.Asked.{fits}
-use Rattle.hardware.specs.Prog.{Prog, ret, ask, note, give, Note, Attempt, Acquires, Acquired, Released, Lapsed, pick, Counted, metered, tally}
+use Rattle.hardware.specs.Prog.{Prog, ret, ask, note, give, Note, Attempt, Acquires, Acquired, Released, Lapsed, pick, Counted, metered, tally, blank}
 use Rattle.hardware.specs.Runs.{Ends}
 use Rattle.bus.specs.declared.Layout.{Layout}
+use Rattle.bus.specs.Layout.{layoutOf}
 use Rattle.wire.specs.Lines.{Edge, OneMoves, master, Each}
 use Rattle.wire.specs.Machine.{Side, World, takesAll, turn, wrote, reading, modelled, reply, after, noted}
 use Rattle.wire.specs.Always.{ByKind, Answered, Always}
 use Rattle.wire.specs.Run.{Given, given, nothing, refused, Source, listed, Event, atMachine, answered, noticed, BenchOutcome, ended, short, stopped, Finished, BenchRun, proceed, run}
 use Rattle.wire.proofs.Run.{reply-fits}
-use Rattle.demand.specs.Claim.{CountedBench, machine, staysIn, Works, Premise}
+use Rattle.bench.specs.declared.Bench.{Bench}
+use Rattle.demand.specs.Claim.{CountedBench, machine, staysIn, Works, Premise, atStart, benchRun, Told}
 
 -- Q holds at the end, if the run comes to it
 unfoldable pub Ending : {A : Type 0} → (A → World machine → Type 0) → BenchOutcome machine A → Type 0
@@ -194,3 +197,34 @@ module _ (o : Side) (see : CountedBench → o .State) (same : Sees o see) where
         ap (λ t. run l o s (tally (metered k (w .other .meter)) p) (record { word = w .word; other = t }) answers .outcome) (sym (same .notes k (w .other)))
         ∙ tally-run p (noted machine k w) answers
     tally-run (give b p) w answers = tally-run p w answers
+
+-- the count of the result beside a machine that counts none
+abbrev pub recount : CountedBench → CountedBench
+recount m = record { bench = m .bench; meter = blank }
+
+pub recount-sees : Sees machine recount
+recount-sees = record { pulls = λ m. refl; takes = λ e m. refl; notes = λ n m. refl }
+
+-- both runs of a call on the bench, from what always holds of it
+module _ {A : Type 0} (port : Port) (p : Prog A) (b : Bench) (word : ℕ) (answers : List Answer) (Q : A → World machine → Type 0)
+    (always : Always (layoutOf (port .family)) machine p (atStart word b) Q) (m : Each Premise (benchRun port p b word answers .trace)) where
+  sound : Sound (layoutOf (port .family)) Q (benchRun port p b word answers)
+  sound = always-run (layoutOf (port .family)) listed Q p (atStart word b) answers always m
+
+  pub run-steady : Each (Steady (layoutOf (port .family))) (benchRun port p b word answers .trace)
+  run-steady = sound .steady
+
+  pub run-ended : (a : A) (w : World machine) → benchRun port p b word answers .outcome ≡ ended a w → Q a w
+  unfolding Ending
+  run-ended a w e = subst (Ending Q) e (sound .ending)
+
+  both-told : (o : BenchOutcome machine A) (c : BenchOutcome machine (Counted A)) → Ending Q o → Finished o → c ≡ told machine recount recount-sees o → Told Q o c
+  unfolding Told Ending Finished told
+  both-told (ended a w) c h k e = rw e (refl, h)
+  both-told (short w) c h k e = absurd k
+  both-told (stopped n w) c h k e = absurd k
+
+  pub run-told : (n : ℕ) → Ends p n → n ≤ length answers → Told Q (benchRun port p b word answers .outcome) (benchRun port (tally blank p) b word answers .outcome)
+  run-told n e long =
+      both-told _ _ (sound .ending) (ends-run (layoutOf (port .family)) p n e (atStart word b) answers long m)
+      (tally-run machine recount recount-sees (layoutOf (port .family)) listed p (atStart word b) answers)

@@ -81,9 +81,27 @@ atStart word b = record { word = word; other = record { bench = b; meter = blank
 abbrev pub benchRun : {A : Type 0} → Port → Prog A → Bench → ℕ → List Answer → BenchRun machine A
 benchRun port p b word answers = run (layoutOf (port .family)) machine listed p (atStart word b) answers
 
+-- Of two runs over the same answers, both at their end: that of a call, whose notes tell the transfers made, and that of the
+-- library's, whose result tells them (`tally`)
+unfoldable pub Told : {A : Type 0} → (A → World machine → Type 0) → BenchOutcome machine A → BenchOutcome machine (Counted A) → Type 0
+Told Q (ended a w) (ended c v) = (c ≡ record { meter = w .other .meter; result = a }) × Q a w
+Told Q (ended a w) (short v) = ⊥
+Told Q (ended a w) (stopped n v) = ⊥
+Told Q (short w) o = ⊥
+Told Q (stopped n w) o = ⊥
+
 -- byte n of a page
 abbrev pub byteOf : Page → Bytes
 byteOf p n = getD (p .bytes) n 0
+
+-- what a call leaves, with so many transfers made: the module's bytes as they were, its receiver idle, both lines released
+pub record Leaves (l : Layout) (b : Bench) (made : ℕ) (w : World machine) : Type 0 where
+  pub a0 : w .other .bench .a0 .bytes ≡ b .a0 .bytes
+  pub a2 : w .other .bench .a2 .bytes ≡ b .a2 .bytes
+  pub idle : w .other .bench .receiver .stage ≡ Idle
+  pub master-released : master l (w .word) ≡ nobody
+  pub module-released : benchPulls (w .other .bench) ≡ nobody
+  pub transfers : w .other .meter .transfers ≡ made
 
 -- the four facts, of the module at the start, the result, and I2CCTL and the module at the end
 unfoldable pub Says : R Identity → Class → Type 0
@@ -95,12 +113,7 @@ extra b = pick (pullsLow b) 1 0
 
 pub record Facts (l : Layout) (b : Bench) (result : R Identity) (w : World machine) : Type 0 where
   pub class : Says result (classOf (byteOf (b .a0)))
-  pub a0 : w .other .bench .a0 .bytes ≡ b .a0 .bytes
-  pub a2 : w .other .bench .a2 .bytes ≡ b .a2 .bytes
-  pub idle : w .other .bench .receiver .stage ≡ Idle
-  pub master-released : master l (w .word) ≡ nobody
-  pub module-released : benchPulls (w .other .bench) ≡ nobody
-  pub transfers : w .other .meter .transfers ≡ requests (byteOf (b .a0)) + extra b
+  pub leaves : Leaves l b (requests (byteOf (b .a0)) + extra b) w
 
 -- the record of no module: NotPresent, every other field zero or false
 unfoldable pub Absent : R Identity → Type 0

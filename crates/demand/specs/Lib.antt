@@ -1,3 +1,4 @@
 pub mod Claim
+pub mod PageClaim
 pub mod Fine
 pub mod Library

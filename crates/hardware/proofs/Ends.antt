@@ -20,7 +20,7 @@ use Rattle.hardware.specs.Prog.{Note, isTold, noteIf, Prog, ret, ask, no
 use Rattle.hardware.specs.Registers.{read, readRaw, write, flush, delay}
 use Rattle.hardware.specs.Change.{settled, stored, change, restUpdate}
 use Rattle.hardware.specs.Poll.{polled, poll, restPoll}
-use Rattle.hardware.specs.Runs.{Ends, Awaited, run, onAnswer, ended}
+use Rattle.hardware.specs.Runs.{Ends, EndsOver, Awaited, run, onAnswer, ended}
 use Rattle.hardware.specs.declared.Update.{Update}
 use Rattle.hardware.specs.declared.Update.the-variants.{Reading, Writing, Flushing}
 use Rattle.hardware.specs.declared.poll.Poll.{Poll}
@@ -208,3 +208,15 @@ run-then (ask x f) k v [] m e h = let z : _≡_ {A = ℕ} 0 1 = cc in absurd (om
 run-then (ask x f) k v (a ∷ l) m e h = let r = run-then (f a) k v l m e (omega arith) in (ap (λ t. x ∷ t) (r .0), r .1)
 run-then (note n p) k v l m e h = run-then p k v l m e h
 run-then (give b p) k v l m e h = run-then p k v l m e h
+
+-- where one call after another has ended, the first has over a front part of the answers, and the second over those behind
+pub run-parted : {A B : Type 0} (p : Prog A) (k : A → Prog B) (l : List Answer) (v : B) → (run (p >>= k) l) .status ≡ ended v
+    → (a : A) × (front : List Answer) × (behind : List Answer) × (l ≡ front ++ behind) × EndsOver p front a × ((run (k a) behind) .status ≡ ended v)
+unfolding EndsOver run onAnswer _>>=_
+run-parted (ret a) k l v e = (a, [], l, refl, (refl, refl), e)
+run-parted (ask x f) k [] v e = let z : _≡_ {A = ℕ} 0 1 = cc in absurd (omega arith)
+run-parted (ask x f) k (a ∷ l) v e =
+    let (b, front, behind, parts, (ends, uses), after) = run-parted (f a) k l v e in
+    (b, a ∷ front, behind, ap (λ t. a ∷ t) parts, (ends, ap suc uses), after)
+run-parted (note n p) k l v e = run-parted p k l v e
+run-parted (give b p) k l v e = run-parted p k l v e

@@ -10,7 +10,7 @@ use native.Mathlib.Numerals.{sub-one}
 use native.Mathlib.Omega.{arith}
 use borrow.Author.Tests.{ltb-true}
 use Rattle.hardware.specs.Prog.{Note, Attempt, Acquires, Acquired, Released, Lapsed, Prog, ret, ask, note, give, erase, _>>=_, pick, attemptsAfter, metered, blank, tally}
-use Rattle.hardware.specs.Asked.{Asked, no, yes, andThen, question, openFamily, openLan, openPort, portOpened, validPort, fits, admitting, Admits}
+use Rattle.hardware.specs.Asked.{Asked, no, yes, andThen, question, openFamily, openLan, openPort, portOpened, validPort, fits, admitting, Admits, InType}
 use Rattle.hardware.specs.Runs.{run, onAnswer, runAsked, given, answered, transfersIn, meterIn, countedStatus, counted, Awaited, AwaitedIn, leftAfter, leftAskedAfter, Exchange, answersOf, AllKept, led, driven, Refuses, Asks, IfYes}
 use Rattle.hardware.specs.declared.Access.{Access}
 use Rattle.hardware.specs.declared.Admitted.{Admitted}
@@ -70,15 +70,19 @@ both-true false b h = (h, cc)
 -- a step that is admitted goes on, and one that is refused does so whatever would follow
 pub admits-yes : {A : Type 0} {r : Admitted} (valid : Bool) (x : Access) (a : Answer) (k : Asked A) → r ≡ Yes → Admits valid x a r → admitting valid x a k ≡ k
 unfolding Admits admitting question
-admits-yes valid x a k e h = let g : (valid ≡ true) × (fits x a ≡ true) = rw e at h in rw (g .0, g .1)
+admits-yes valid x a k e h = let g : (valid ≡ true) × (fits x a ≡ true) × InType a = rw e at h in rw (g .0, g .1)
 
 pub admits-valid : {r : Admitted} (valid : Bool) (x : Access) (a : Answer) → r ≡ Yes → Admits valid x a r → valid ≡ true
 unfolding Admits
-admits-valid valid x a e h = let g : (valid ≡ true) × (fits x a ≡ true) = rw e at h in g .0
+admits-valid valid x a e h = let g : (valid ≡ true) × (fits x a ≡ true) × InType a = rw e at h in g .0
 
 pub admits-fits : {r : Admitted} (valid : Bool) (x : Access) (a : Answer) → r ≡ Yes → Admits valid x a r → fits x a ≡ true
 unfolding Admits
-admits-fits valid x a e h = let g : (valid ≡ true) × (fits x a ≡ true) = rw e at h in g .1
+admits-fits valid x a e h = let g : (valid ≡ true) × (fits x a ≡ true) × InType a = rw e at h in g .1
+
+pub admits-typed : {r : Admitted} (valid : Bool) (x : Access) (a : Answer) → r ≡ Yes → Admits valid x a r → InType a
+unfolding Admits
+admits-typed valid x a e h = let g : (valid ≡ true) × (fits x a ≡ true) × InType a = rw e at h in g .2
 
 pub admits-no : {A : Type 0} {r : Admitted} {q : Refusal} (valid : Bool) (x : Access) (a : Answer) (k : Asked A) → r ≡ No q → Admits valid x a r
     → admitting valid x a k ≡ no (refusalNumber q)

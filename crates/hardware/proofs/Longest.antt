@@ -11,10 +11,11 @@ use Rattle.hardware.specs.declared.Access.{Access}
 use Rattle.hardware.specs.declared.Access.the-variants.{Read, Write, Wait}
 use Rattle.hardware.specs.declared.Answer.{Answer}
 use Rattle.hardware.specs.declared.Answer.the-variants.{Value, Done, Failed}
-use Rattle.hardware.specs.Asked.{Asked, no, yes, fits}
-use Rattle.hardware.specs.Prog.{Note, isTold, noteIf, stays, Prog, ret, ask, note, give, erase}
+use Rattle.hardware.specs.declared.Meter.{Meter}
+use Rattle.hardware.specs.Asked.{Asked, no, yes, fits, InType}
+use Rattle.hardware.specs.Prog.{Note, isTold, noteIf, stays, Prog, ret, ask, note, give, erase, metered, tally, _>>=_}
 use Rattle.hardware.specs.Runs.{Ends, Asks, IfYes, Awaited, AwaitedIn, leftAfter, leftAskedAfter, Exchange, AllKept, Lasts, lastTold, Unrefused}
-use Rattle.hardware.specs.Longest.{InType, greatest, overAnswers, longest, lasting}
+use Rattle.hardware.specs.Longest.{greatest, overAnswers, longest, lasting}
 use Rattle.hardware.proofs.Ends.{ends-erase}
 use Rattle.hardware.proofs.Laws.{StepsOn}
 
@@ -84,6 +85,22 @@ longest-erase (ask x f) = λ i. suc (overAnswers x (λ a. longest-erase (f a) i)
 longest-erase (note n p) = longest-stays n (erase p) ∙ longest-erase p
 longest-erase (give b p) = longest-erase p
 
+-- the meter is no access either
+pub longest-tally : {A : Type 0} (m : Meter) (p : Prog A) → longest (tally m p) ≡ longest p
+unfolding longest tally
+longest-tally m (ret v) = refl
+longest-tally m (ask x f) = λ i. suc (overAnswers x (λ a. longest-tally m (f a) i))
+longest-tally m (note n p) = longest-tally (metered n m) p
+longest-tally m (give b p) = longest-tally m p
+
+-- what follows counts by its number alone
+pub longest-same : {A B : Type 0} (p : Prog A) (f g : A → Prog B) → ((a : A) → longest (f a) ≡ longest (g a)) → longest (p >>= f) ≡ longest (p >>= g)
+unfolding longest _>>=_
+longest-same (ret a) f g h = h a
+longest-same (ask x k) f g h = λ i. suc (overAnswers x (λ a. longest-same (k a) f g h i))
+longest-same (note n p) f g h = longest-same p f g h
+longest-same (give b p) f g h = longest-same p f g h
+
 -- with none to come the call has ended
 pub longest-over : {A : Type 0} (p : Prog A) → longest p ≡ 0 → Asks p → ⊥
 unfolding longest Asks
@@ -99,7 +116,8 @@ longest-falls (ask x f) a k w h = omega (arith, over-above x (λ b. longest (f b
 longest-falls (note n p) a k w h = longest-falls p a k w h
 longest-falls (give b p) a k w h = longest-falls p a k w h
 
--- A call's number falls at every accepted step: one that keeps its promise, after an answer of the awaited kind
+-- A call's number falls at every accepted step: one that keeps its promise, after an answer of the awaited kind and within its
+-- type
 abbrev pub Falls : {A Told : Type 0} → (Told → Asked (Prog A)) → (Told → Answer → Told → Type 0) → (Told → Type 0) → Type 0
 Falls {A} {Told} said Promise Stands =
     (t u : Told) (a : Answer) → Stands t → Promise t a u → AwaitedIn (said t) (a ∷ []) → InType a → lasting (said u) < lasting (said t)
@@ -127,7 +145,7 @@ number-few said Promise Stands left falls none t (k ∷ ks) n s h kept =
     let rest = number-few said Promise Stands left falls none (k .told) ks (n - 1) (f .0) (omega (arith, f .1, h)) (kept .1) in
     record { few = omega (arith, rest .few, f .1, h); over = λ z. rest .over (omega (arith, z, f .1, h)) }
 
--- an accepted step: it keeps its promise, and its answer is of the awaited kind
+-- an accepted step: it keeps its promise, and its answer is of the awaited kind and within its type
 abbrev pub Accepts : {A Told : Type 0} → (Told → Asked (Prog A)) → (Told → Answer → Told → Type 0) → Told → Answer → Told → Type 0
 Accepts said Promise t a u = Promise t a u × AwaitedIn (said t) (a ∷ []) × InType a
 

@@ -1,5 +1,5 @@
 -- The questions that are put to arguments, to a state and to an answer.
-use Prim.Native.Nat.{ℕ, suc, zero}
+use Prim.Native.Nat.{ℕ, _^_, _<_, suc, zero}
 use mathlib.Core.Bool.{Bool, true, false}
 use mathlib.Core.Path.{_≡_}
 use lib.Dec.{eqb, ltb}
@@ -89,7 +89,13 @@ fits (Wait t) Failed = false
 unfoldable pub admitting : {A : Type 0} → Bool → Access → Answer → Asked A → Asked A
 admitting valid x a k = question valid 10 (question (fits x a) 12 k)
 
--- what the questions came to
+-- a value that was read is a word of 32 bits
+unfoldable pub InType : Answer → Type 0
+InType (Value v) = v < 2 ^ 32
+InType Done = Unit {0}
+InType Failed = Unit {0}
+
+-- what the questions came to. That the answer is within its type is no question
 unfoldable pub Admits : Bool → Access → Answer → Admitted → Type 0
-Admits valid x a Yes = (valid ≡ true) × (fits x a ≡ true)
+Admits valid x a Yes = (valid ≡ true) × (fits x a ≡ true) × InType a
 Admits valid x a (No q) = admitting valid x a (yes (tt {0})) ≡ no (refusalNumber q)

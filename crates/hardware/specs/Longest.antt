@@ -1,17 +1,11 @@
 -- How long a call can last: a number of what is left of it.
-use Prim.Native.Nat.{ℕ, _^_, _<_, suc, zero, max}
+use Prim.Native.Nat.{ℕ, _^_, suc, zero, max}
 use Rattle.hardware.specs.declared.Access.{Access}
 use Rattle.hardware.specs.declared.Access.the-variants.{Read, Write, Wait}
 use Rattle.hardware.specs.declared.Answer.{Answer}
 use Rattle.hardware.specs.declared.Answer.the-variants.{Value, Done, Failed}
 use Rattle.hardware.specs.Asked.{Asked, no, yes}
 use Rattle.hardware.specs.Prog.{Prog, ret, ask, note, give}
-
--- a value that was read is a word of 32 bits
-unfoldable pub InType : Answer → Type 0
-InType (Value v) = v < 2 ^ 32
-InType Done = Unit {0}
-InType Failed = Unit {0}
 
 -- the greatest of g 0 to g (n - 1)
 unfoldable pub greatest : (ℕ → ℕ) → ℕ → ℕ

@@ -16,3 +16,9 @@ pub record Bounds (Yields Limits Within : Type 0) : Type 0 where
   pub yields : Yields
   pub limits : Limits
   pub within : Within
+
+-- holds: what a lent buffer then holds
+pub record Stores (Yields Limits Holds : Type 0) : Type 0 where
+  pub yields : Yields
+  pub limits : Limits
+  pub holds : Holds

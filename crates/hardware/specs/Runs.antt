@@ -38,6 +38,10 @@ run (ask x f) = onAnswer x (λ a. run (f a))
 run (note n p) = run p
 run (give b p) = λ l. given b (run p l)
 
+-- a call ends with v over these answers, and needs all of them
+unfoldable pub EndsOver : {A : Type 0} → Prog A → List Answer → A → Type 0
+EndsOver p l v = ((run p l) .status ≡ ended v) × (length ((run p l) .accesses) ≡ length l)
+
 -- n answers of the awaited kinds bring the call to its end, whatever they are
 unfoldable pub Ends : {A : Type 0} → Prog A → ℕ → Type 0
 Ends (ret v) n = Unit {0}
@@ -106,6 +110,7 @@ unfoldable pub IfYes : {A : Type 0} → (A → Type 0) → Asked A → Type 0
 IfYes P (no n) = ⊥
 IfYes P (yes a) = P a
 
+-- it did not refuse
 abbrev pub Unrefused : {A : Type 0} → Asked A → Type 0
 Unrefused q = IfYes (λ a. Unit {0}) q
 

@@ -1,6 +1,7 @@
 -- Whole calls of `command` and `token`: for every port and block that is accepted and every list of answers the
 -- library's run is the Rust's, and every list of answers of the awaited kinds that is long enough brings it to its end.
--- A state that was handed out is not refused at its next step.
+-- A state that was handed out is not refused at its next step. From any state a command ends, whatever block is lent to each
+-- step.
 use Prim.Native.Nat.{ℕ, _<_, _≤_, suc}
 use mathlib.Core.Path.{_≡_, ap, _∙_, subst, sym, refl}
 use mathlib.Core.Bool.{Bool, true, false}
@@ -11,10 +12,9 @@ use Rattle.hardware.specs.declared.Access.{Access}
 use Rattle.hardware.specs.declared.Answer.{Answer}
 use Rattle.hardware.specs.declared.Port.{Port}
 use Rattle.hardware.specs.Asked.{yes, andThen, question, openPort, fits, admitting, Asked, no}
-use Rattle.hardware.specs.Prog.{R, erase}
+use Rattle.hardware.specs.Prog.{Prog, R, erase}
 use Rattle.hardware.specs.Runs.{run, runAsked, Awaited, ended, AwaitedIn, leftAfter, leftAskedAfter, Exchange, answersOf, AllKept, driven, Refuses, Asks, IfYes, Lasts, Unrefused}
 use Rattle.hardware.proofs.Laws.{runs-open, is-true, StepsOn, opened-runs, refused-runs}
-use Rattle.hardware.specs.Longest.{InType}
 use Rattle.hardware.proofs.Longest.{Falls, lasting-falls, Accepts, steps-few, number-few}
 use Rattle.hardware.proofs.Ends.{run-ends, ask-ends, ends-erase}
 use Rattle.hostif.specs.declared.command.Command.{Command}
@@ -26,8 +26,9 @@ use Rattle.hostif.specs.declared.calls.TokenCall.the-variants.{Going as 
 use Rattle.hostif.specs.declared.calls.TokenTold.{TokenTold}
 use Rattle.hostif.specs.declared.calls.TokenTold.the-variants.{Ask as TokenAsk, End as TokenEnd, Refused as TokenRefused}
 use Rattle.hostif.specs.Hostif.{Left, command, restCommand, token, restToken}
-use Rattle.hostif.specs.Calls.{blockFits, openCommand, stepped, stepCommand, saidCommand, standsCommand, openToken, stepToken, saidToken, standsToken, followsToken, CommandAt, saidAt, followsCommand, followsBlock, callLeft, toldLeft, Accepted, followsOwn, followsLent}
-use Rattle.hardware.specs.Lent.{Lent, goes, lent, asked}
+use Rattle.hostif.specs.Left.{callLeft, toldLeft}
+use Rattle.hostif.specs.Calls.{blockFits, openCommand, stepped, stepCommand, saidCommand, standsCommand, openToken, stepToken, saidToken, standsToken, followsToken, CommandAt, saidAt, followsCommand, followsBlock, followsOwn, followsLent}
+use Rattle.hardware.specs.Lent.{goes, lent, asked}
 use Rattle.hostif.proofs.Ends.{COMMAND-STEPS, command-ends, TOKEN-STEPS, token-ends, tokenAfter, token-rest-ends, commandAfter, command-rest-ends}
 use Rattle.hostif.proofs.Left.{command-some, command-left}
 use Rattle.hardware.specs.Promise.{Keeps}
@@ -113,58 +114,39 @@ command-lasts x port s block ks h f k =
 pub command-falls : Falls saidAt followsCommand standsAt
 command-falls = lasting-falls saidAt followsCommand standsAt command-on
 
--- what was told is no refusal, and hands out no finished state
-abbrev Goes : Lent Left → Type 0
-Goes q = Unrefused (asked q)
-
-accepted-goes : (u : CommandTold) (c : List ℕ) → Accepted u → standsCommand u c → Goes (saidCommand u c)
-unfolding Accepted standsCommand saidCommand asked IfYes
-accepted-goes (CommandAsk x (CommandGoing port s)) c g h = tt
-accepted-goes (CommandAsk x CommandOver) c g h = h
-accepted-goes (CommandEnd b) c g h = tt
-accepted-goes (CommandRefused q) c g h = g
-
-over-refuses : (b : List ℕ) (a : Answer) → Goes (stepCommand CommandOver b a) → ⊥
+over-refuses : (b : List ℕ) (a : Answer) → Unrefused (asked (stepCommand CommandOver b a)) → ⊥
 unfolding IfYes asked stepCommand stepped lent question
 over-refuses b a = by (blockFits b)
   where
-    by : (f : Bool) → Goes (lent b (question f 8 (no 11))) → ⊥
+    by : (f : Bool) → Unrefused {A = Prog Left} (asked (lent b (question f 8 (no 11)))) → ⊥
     by true h = h
     by false h = h
 
-own-goes : (t : CommandTold) (a : Answer) (u : CommandTold) (c : List ℕ) → followsOwn t a u c → Goes (saidCommand u c)
-unfolding followsOwn
-own-goes (CommandAsk x s) a u c k = accepted-goes u c (k .0) (k .1 .1 .limits)
-own-goes (CommandEnd b) a u c k = absurd k
-own-goes (CommandRefused q) a u c k = absurd k
-
 -- Whatever block is lent to each step, the number falls at every one that is accepted: of the finished state none is
-pub own-falls : (t : CommandTold) (a : Answer) (u : CommandTold) (c : List ℕ) → InType a → followsOwn t a u c → toldLeft u < toldLeft t
+pub own-falls : (t : CommandTold) (a : Answer) (u : CommandTold) (c : List ℕ) → followsOwn t a u c → Unrefused (asked (saidCommand u c)) × (toldLeft u < toldLeft t)
 unfolding followsOwn toldLeft callLeft
-own-falls (CommandAsk x (CommandGoing port s)) a u c h k = omega (arith, k .1 .1 .within h, command-some port s)
-own-falls (CommandAsk x CommandOver) a u c h k =
-    absurd (over-refuses (k .1 .0) a (subst Goes (k .1 .1 .yields) (accepted-goes u c (k .0) (k .1 .1 .limits))))
-own-falls (CommandEnd b) a u c h k = absurd k
-own-falls (CommandRefused q) a u c h k = absurd k
+own-falls (CommandAsk x (CommandGoing port s)) a u c k = (k .0, omega (arith, k .1 .1 .within, command-some port s))
+own-falls (CommandAsk x CommandOver) a u c k = absurd (over-refuses (k .1 .0) a (subst (λ q. Unrefused (asked q)) (k .1 .1 .yields) (k .0)))
+own-falls (CommandEnd b) a u c k = absurd k
+own-falls (CommandRefused q) a u c k = absurd k
 
-own-ends : (t : CommandTold) (b : List ℕ) → Goes (saidCommand t b) → toldLeft t ≡ 0 → IfYes (λ p. Asks p → ⊥) (asked (saidCommand t b))
+own-ends : (t : CommandTold) (b : List ℕ) → Unrefused (asked (saidCommand t b)) → toldLeft t ≡ 0 → IfYes (λ p. Asks p → ⊥) (asked (saidCommand t b))
 unfolding toldLeft callLeft saidCommand asked IfYes Asks
 own-ends (CommandAsk x (CommandGoing port s)) b g e = absurd (omega (arith, e, command-some port s))
 own-ends (CommandAsk x CommandOver) b g e = absurd g
 own-ends (CommandEnd v) b g e = λ z. z
 own-ends (CommandRefused q) b g e = absurd g
 
--- so where its number is at most n, and of an opening the contract bounds it, the call takes at most n accepted steps more, and has ended
--- after n
-pub command-lasts-within : (t : CommandAt) (ks : List (Exchange CommandAt)) (n : ℕ) → Goes (saidCommand (t .told) (t .block)) → toldLeft (t .told) ≤ n → AllKept (λ t a u. followsLent t a u × InType a) t ks → Lasts saidAt t ks n
+-- so with at most n accesses left, as the contract of an opening says of what it tells, the call takes at most n accepted steps more,
+-- each lent a block of its own, and has ended after n
+pub command-lasts-within : (t : CommandAt) (ks : List (Exchange CommandAt)) (n : ℕ) → Unrefused (saidAt t) → toldLeft (t .told) ≤ n → AllKept followsLent t ks → Lasts saidAt t ks n
 command-lasts-within t ks n g w k =
-    number-few saidAt (λ t a u. followsLent t a u × InType a) (λ t. Goes (saidCommand (t .told) (t .block))) (λ t. toldLeft (t .told))
-    (λ t u a s k. (own-goes (t .told) a (u .told) (u .block) (k .0), own-falls (t .told) a (u .told) (u .block) (k .1) (k .0)))
-    (λ t s e. own-ends (t .told) (t .block) s e) t ks n g w k
+    number-few saidAt followsLent (λ t. Unrefused (saidAt t)) (λ t. toldLeft (t .told))
+    (λ t u a s k. own-falls (t .told) a (u .told) (u .block) k) (λ t s e. own-ends (t .told) (t .block) s e) t ks n g w k
 
 -- from any state, whoever made it
 pub command-lasts-lent : (x : Access) (port : Port) (s : Command) (block : List ℕ) (ks : List (Exchange CommandAt))
-    → AllKept (λ t a u. followsLent t a u × InType a) (record { told = CommandAsk x (CommandGoing port s); block = block }) ks
+    → AllKept followsLent (record { told = CommandAsk x (CommandGoing port s); block = block }) ks
     → Lasts saidAt (record { told = CommandAsk x (CommandGoing port s); block = block }) ks (suc (commandAfter 64 s))
 unfolding IfYes saidCommand asked toldLeft callLeft
 command-lasts-lent x port s block ks k = command-lasts-within _ ks (suc (commandAfter 64 s)) tt (command-left port s) k

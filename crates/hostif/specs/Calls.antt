@@ -22,8 +22,8 @@ use Rattle.hostif.specs.declared.calls.TokenCall.the-variants.{Going as 
 use Rattle.hostif.specs.declared.calls.TokenTold.{TokenTold}
 use Rattle.hostif.specs.declared.calls.TokenTold.the-variants.{Ask as TokenAsk, End as TokenEnd, Refused as TokenRefused}
 use Rattle.hostif.specs.Hostif.{Left, command, accessCommand, restCommand, validCommand, token, accessToken, restToken, validToken}
-use Rattle.hostif.specs.Left.{commandLeft}
-use Rattle.hardware.specs.Longest.{InType}
+use Rattle.hostif.specs.Left.{callLeft, toldLeft}
+use Rattle.hardware.specs.Runs.{Unrefused}
 use Rattle.hardware.specs.Lent.{Lent, refused, goes, lent, asked}
 use Rattle.hardware.specs.Promise.{Keeps, Bounds}
 
@@ -81,27 +81,11 @@ followsBlock (CommandRefused q) b a u c = ⊥
 abbrev pub followsCommand : CommandAt → Answer → CommandAt → Type 0
 followsCommand t a u = followsBlock (t .told) (t .block) a (u .told) (u .block)
 
--- the accesses left from a call's state, at most, whatever block is lent to each step
-unfoldable pub callLeft : CommandCall → ℕ
-callLeft (CommandGoing port t) = commandLeft port t
-callLeft CommandOver = 0
-
-unfoldable pub toldLeft : CommandTold → ℕ
-toldLeft (CommandAsk x s) = callLeft s
-toldLeft (CommandEnd b) = 0
-toldLeft (CommandRefused q) = 0
-
--- the step was not refused
-unfoldable pub Accepted : CommandTold → Type 0
-Accepted (CommandAsk x s) = Unit {0}
-Accepted (CommandEnd b) = Unit {0}
-Accepted (CommandRefused q) = ⊥
-
--- what an accepted step told, u, with the block c, follows what was told before it, as the step promises, where it was lent a block b of its
--- own: accepted, so that b has 1 to 64 words and the state passes question 10 with it
+-- what an accepted step told, u, with the block c, follows what was told before it: as the step promises, where it was lent
+-- a block b of its own
 unfoldable pub followsOwn : CommandTold → Answer → CommandTold → List ℕ → Type 0
 followsOwn (CommandAsk x s) a u c =
-    Accepted u × ((b : List ℕ) × Bounds (saidCommand u c ≡ stepCommand s b a) (standsCommand u c) (InType a → toldLeft u ≤ callLeft s - 1))
+    Unrefused (asked (saidCommand u c)) × ((b : List ℕ) × Bounds (saidCommand u c ≡ stepCommand s b a) (standsCommand u c) (toldLeft u ≤ callLeft s - 1))
 followsOwn (CommandEnd v) a u c = ⊥
 followsOwn (CommandRefused q) a u c = ⊥
 

@@ -24,6 +24,10 @@ use Rattle.hostif.specs.declared.command.Command.{Command}
 use Rattle.hostif.specs.declared.command.Command.the-variants.{Acquiring, Requesting, Responding, Releasing}
 use Rattle.hostif.specs.declared.command.CommandNext.{CommandNext}
 use Rattle.hostif.specs.declared.command.CommandNext.the-variants.{Going as CommandGoing, End as CommandEnd}
+use Rattle.hostif.specs.declared.calls.CommandCall.{CommandCall}
+use Rattle.hostif.specs.declared.calls.CommandCall.the-variants.{Going as CallGoing, Over}
+use Rattle.hostif.specs.declared.calls.CommandTold.{CommandTold}
+use Rattle.hostif.specs.declared.calls.CommandTold.the-variants.{Ask, End, Refused}
 use Rattle.hostif.specs.Hostif.{POLLS, hicrWatch, setFwri}
 
 -- HICR written, a read and a wait for each poll
@@ -83,3 +87,12 @@ commandLeft port (Releasing t s) = longest (releaseBitsNext port SW-MNG (Release
 unfoldable pub commandNextLeft : Port → CommandNext → ℕ
 commandNextLeft port (CommandGoing s) = commandLeft port s
 commandNextLeft port (CommandEnd b) = 0
+
+unfoldable pub callLeft : CommandCall → ℕ
+callLeft (CallGoing port t) = commandLeft port t
+callLeft Over = 0
+
+unfoldable pub toldLeft : CommandTold → ℕ
+toldLeft (Ask x s) = callLeft s
+toldLeft (End b) = 0
+toldLeft (Refused q) = 0

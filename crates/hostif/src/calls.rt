@@ -16,13 +16,12 @@ ghost use mathlib.Core.Path.{_≡_};
 ghost use mathlib.Core.Bool.{true};
 ghost use mathlib.Core.List.{List};
 ghost use lib.ListN.{length};
-ghost use Rattle.hardware.specs.Asked.{fits as fitsAnswer, yes, openPort, validPort};
+ghost use Rattle.hardware.specs.Asked.{fits as fitsAnswer, yes, openPort, validPort, InType};
 ghost use Rattle.hardware.specs.Promise.{Keeps, Bounds};
 ghost use Rattle.hardware.specs.Prog.{erase};
 ghost use Rattle.hostif.specs.Hostif.{commandNext, accessCommand, restCommand, validCommand, validCommandNext, tokenNext, validTokenNext};
-ghost use Rattle.hardware.specs.Longest.{InType};
-ghost use Rattle.hostif.specs.Left.{openedLeft, commandLeft, commandNextLeft};
-ghost use Rattle.hostif.specs.Calls.{callLeft, toldLeft, blockFits, openCommand, validCommandCall, stepped, stepCommand, saidCommand, standsCommand, openToken, validTokenCall, stepToken, saidToken, standsToken};
+ghost use Rattle.hostif.specs.Left.{openedLeft, commandLeft, commandNextLeft, callLeft, toldLeft};
+ghost use Rattle.hostif.specs.Calls.{blockFits, openCommand, validCommandCall, stepped, stepCommand, saidCommand, standsCommand, openToken, validTokenCall, stepToken, saidToken, standsToken};
 ghost use Rattle.hardware.specs.Lent.{goes, lent};
 
 pub enum CommandCall {
@@ -102,7 +101,7 @@ fn valid_command(port: Port, n: usize, t: Command) -> bool
 
 fn command_on(port: Port, t: Command, block: &mut [u32], a: Answer) -> CommandTold
     requires { ⌜ length (now block) ≤ 64 ⌝ }
-    ensures { λ r. ⌜ Bounds (saidCommand r (now (block .exit)) ≡ lent (now (block .entry)) (stepped (CommandCall.Going port t) (now (block .entry)) a)) (standsCommand r (now (block .exit))) (InType a → toldLeft r < commandLeft port t) ⌝ }
+    ensures { λ r. ⌜ Bounds (saidCommand r (now (block .exit)) ≡ lent (now (block .entry)) (stepped (CommandCall.Going port t) (now (block .entry)) a)) (standsCommand r (now (block .exit))) (toldLeft r < commandLeft port t) ⌝ }
 {
     let valid = valid_command(port, block.len(), t);
     match hardware::admit(valid, crate::command::access(port, t, block), a) {
@@ -112,7 +111,7 @@ fn command_on(port: Port, t: Command, block: &mut [u32], a: Answer) -> CommandTo
 }
 
 pub fn command_step(s: CommandCall, block: &mut [u32], a: Answer) -> CommandTold
-    ensures { λ r. ⌜ Bounds (saidCommand r (now (block .exit)) ≡ stepCommand s (now (block .entry)) a) (standsCommand r (now (block .exit))) (InType a → toldLeft r ≤ callLeft s - 1) ⌝ }
+    ensures { λ r. ⌜ Bounds (saidCommand r (now (block .exit)) ≡ stepCommand s (now (block .entry)) a) (standsCommand r (now (block .exit))) (toldLeft r ≤ callLeft s - 1) ⌝ }
 {
     if fits(block.len()) {
         return match s {

@@ -3,7 +3,7 @@
 -- next step. Each successful acquire gets one release call, and the accesses show the attempts.
 use Prim.Native.Nat.{ℕ, _≤_, suc}
 use mathlib.Core.Path.{_≡_, ap, _∙_}
-use mathlib.Core.Bool.{true, false}
+use mathlib.Core.Bool.{true}
 use mathlib.Core.List.{List}
 use lib.ListN.{length}
 use Rattle.hardware.specs.declared.Access.{Access}
@@ -11,23 +11,21 @@ use Rattle.hardware.specs.declared.Answer.{Answer}
 use Rattle.hardware.specs.declared.Meter.{Meter}
 use Rattle.hardware.specs.declared.Port.{Port}
 use Rattle.hardware.specs.Asked.{yes, andThen, question, openPort, fits, admitting}
-use Rattle.hardware.specs.Prog.{Prog, R, blank, tally}
+use Rattle.hardware.specs.Prog.{R, blank, tally}
 use Rattle.hardware.specs.Runs.{run, runAsked, Awaited, AwaitedIn, driven, ended, meterIn, counted, leftAfter, leftAskedAfter, Exchange, answersOf, AllKept, Asks, IfYes, Lasts}
 use Rattle.hardware.proofs.Laws.{asked-runs, StepsOn, is-true, opened-runs}
 use Rattle.hardware.proofs.Longest.{Falls, lasting-falls, Accepts, steps-few}
 use Rattle.hardware.proofs.Ends.{run-ends, ask-ends, ends-tally}
-use Rattle.i2c.specs.declared.once.Request.the-variants.{ReadByte}
 use Rattle.bus.specs.Layout.{layoutOf}
 use Rattle.transfer.specs.declared.attempt.Sequence.{Sequence}
-use Rattle.i2c.specs.I2c.{standard, locked}
+use Rattle.i2c.specs.I2c.{standard}
 use Rattle.i2c.specs.Paired.{Paired}
 use Rattle.i2c.specs.Shown.{Shown}
 use Rattle.i2c.proofs.Shows.{shows-shown}
-use Rattle.i2c.proofs.Shown.{Showing, shows-ret, shows-then}
-use Rattle.i2c.proofs.Pairs.{Pairs, pairs-then, pairs-ret, pairs-paired}
-use Rattle.i2c.proofs.Paired.{transferred-pairs}
+use Rattle.i2c.proofs.Shown.{Showing}
+use Rattle.i2c.proofs.Pairs.{pairs-paired}
 use Rattle.sfp.specs.declared.Identity.{Identity}
-use Rattle.sfp.specs.Identify.{EEPROM, identify}
+use Rattle.sfp.specs.Identify.{identify}
 use Rattle.sfp.specs.Qsfp.{identifyQsfp}
 use Rattle.sfp.specs.Steps.{IDENTIFY-STEPS}
 use Rattle.sfp.proofs.Ends.{identify-ends, QSFP-STEPS, qsfp-ends}
@@ -38,7 +36,7 @@ use Rattle.identify.specs.declared.calls.IdentifyTold.the-variants.{Ask,
 use Rattle.identify.specs.Walk.{restIdentify}
 use Rattle.identify.specs.Calls.{openIdentify, openQsfp, stepIdentify, saidIdentify, standsIdentify, followsIdentify}
 use Rattle.hardware.specs.Promise.{Keeps}
-use Rattle.sfp.proofs.Spreads.{Spreads, identify-holds, qsfp-holds}
+use Rattle.sfp.proofs.Spreads.{Keeping, pairs-spreads, shows-spreads, identify-holds, qsfp-holds}
 use Rattle.identify.proofs.Ends.{identifyAfter, identify-rest-ends}
 
 pub identify-runs : (family device lan : ℕ) (t : IdentifyTold) → saidIdentify t ≡ openIdentify family device lan → (l : List Answer)
@@ -87,17 +85,6 @@ pub qsfp-driven : (family device lan : ℕ) (t : IdentifyTold) → Keeps (saidId
 qsfp-driven family device lan t k ks kept w = opened-runs saidIdentify followsIdentify standsIdentify identify-on t ks k kept w ∙ qsfp-runs family device lan t (k .yields) (answersOf ks)
 
 -- each successful acquire gets one release call before the next acquire or the end, for every list of answers
-
-abbrev Keeping : Prog (R Identity) → Type 0
-Keeping p = Pairs false p (λ _. false)
-
-pairs-spreads : (q : Sequence) (port : Port) → Spreads q port Keeping
-pairs-spreads q port =
-    record {
-      ends = λ v. pairs-ret false v;
-      requests = λ offset tries k e. pairs-then false _ k _ (transferred-pairs port (ReadByte EEPROM offset) (locked q) tries) e;
-    }
-
 pub identify-paired : (q : Sequence) (port : Port) (l : List Answer) → Paired (identify q port) l
 identify-paired q port l = pairs-paired _ l (identify-holds q port Keeping (pairs-spreads q port))
 
@@ -105,11 +92,6 @@ pub qsfp-paired : (q : Sequence) (port : Port) (l : List Answer) → Paired (ide
 qsfp-paired q port l = pairs-paired _ l (qsfp-holds q port Keeping (pairs-spreads q port))
 
 -- the accesses of a run show the attempts that it begins, for every list of answers
-
-shows-spreads : (q : Sequence) (port : Port) → Spreads q port (Showing port)
-shows-spreads q port =
-    record { ends = λ v. shows-ret port v; requests = λ offset tries k e. shows-then port (ReadByte EEPROM offset) q tries k e }
-
 pub identify-shown : (q : Sequence) (port : Port) (l : List Answer) → Shown (layoutOf (port .family)) (identify q port) l
 identify-shown q port l = shows-shown _ _ _ l (identify-holds q port (Showing port) (shows-spreads q port))
 

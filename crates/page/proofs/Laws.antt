@@ -1,7 +1,7 @@
 -- Places, caps and sums of a page: what the machine's proofs use.
 use Prim.Native.Nat.{ℕ, _+_, _*_, _-_, _<_, _≤_, suc}
-use mathlib.Core.Path.{_≡_, _∙_, ap, sym}
-use mathlib.Core.Bool.{true, false}
+use mathlib.Core.Path.{_≡_, _∙_, ap, refl, sym}
+use mathlib.Core.Bool.{Bool, true, false}
 use mathlib.Core.List.{List}
 use native.Mathlib.Nat.{mul-le-mul, suc-mul}
 use native.Mathlib.Numerals.{add-one}
@@ -11,8 +11,12 @@ use lib.ListN.{drop, getD, take}
 use borrow.Author.Tests.{eq-eqb, ne-eqb}
 use Rattle.hardware.specs.declared.Meter.{Meter}
 use Rattle.hardware.specs.declared.Port.{Port}
-use Rattle.hardware.specs.Marks.{FULL}
-use Rattle.hardware.specs.Prog.{pick}
+use Rattle.hardware.specs.declared.Access.{Access}
+use Rattle.hardware.specs.declared.Answer.{Answer}
+use Rattle.hardware.specs.declared.Marks.{Marks}
+use Rattle.hardware.specs.Marks.{FULL, marked}
+use Rattle.hardware.specs.Prog.{Note, Attempt, isTold, noteIf, stays, Prog, ret, ask, note, give, erase, R, Ok, Err, pick}
+use Rattle.bus.specs.declared.Taken.{Taken}
 use Rattle.bus.proofs.Laws.{picked-second}
 use Rattle.transfer.specs.declared.attempt.Sequence.{Sequence}
 use Rattle.i2c.specs.I2c.{isWrite}
@@ -22,7 +26,7 @@ use Rattle.sfp.specs.Sum.{sumOf}
 use Rattle.page.specs.declared.walk.Form.{Form}
 use Rattle.page.specs.declared.walk.Page.{Page}
 use Rattle.page.specs.Page.{LAST, pageFrom, placeOf, requestAt, sumRight}
-use Rattle.page.specs.Walk.{capAt, validPage}
+use Rattle.page.specs.Walk.{capAt, stored, validPage}
 
 -- at most 96 bytes with 255 attempts each
 pub cap-few : (tries left : ℕ) → tries ≤ 255 → capAt tries left ≤ 24480
@@ -83,3 +87,28 @@ sum-right l from at s e h = eq-eqb _ _ (sym e ∙ h)
 pub sum-wrong : (l : List ℕ) (from at s : ℕ) → s ≡ sumOf (take (at - from) (drop from l)) → (s ≡ getD l at 0 → ⊥) → sumRight l from at ≡ false
 unfolding sumRight
 sum-wrong l from at s e h = ne-eqb _ _ (λ g. h (e ∙ g))
+
+-- notes store nothing, and neither does what is only asked for
+stored-stays : (place : ℕ) (buffer : List ℕ) (n : Note) (p : Prog (R Taken)) → stored place buffer (stays n p) ≡ stored place buffer p
+unfolding stored
+stored-stays place buffer n p = by (isTold n)
+  where
+    by : (b : Bool) → stored place buffer (noteIf b n p) ≡ stored place buffer p
+    by true = refl
+    by false = refl
+
+pub stored-erase : (place : ℕ) (buffer : List ℕ) (p : Prog (R Taken)) → stored place buffer (erase p) ≡ stored place buffer p
+unfolding stored erase
+stored-erase place buffer (ret (Ok t)) = refl
+stored-erase place buffer (ret (Err e)) = refl
+stored-erase place buffer (ask x f) = refl
+stored-erase place buffer (note n p) = stored-stays place buffer n (erase p) ∙ stored-erase place buffer p
+stored-erase place buffer (give b p) = stored-erase place buffer p
+
+pub stored-asks : (place : ℕ) (buffer : List ℕ) (k : Marks) (x : Access) (f : Answer → Prog (R Taken)) → stored place buffer (marked k (ask x f)) ≡ buffer
+unfolding stored marked
+stored-asks place buffer k x f = by (k .attempt)
+  where
+    by : (b : Bool) → stored place buffer (noteIf b Attempt (ask x f)) ≡ buffer
+    by true = refl
+    by false = refl

@@ -23,7 +23,7 @@ use Rattle.page.specs.declared.calls.PageCall.the-variants.{Going, Over}
 use Rattle.page.specs.declared.calls.PageTold.{PageTold}
 use Rattle.page.specs.declared.calls.PageTold.the-variants.{Ask, End, Refused}
 use Rattle.page.specs.Page.{Filled, page, pagedOf}
-use Rattle.page.specs.Walk.{accessPage, restPage, validPage}
+use Rattle.page.specs.Walk.{accessPage, restPage, bufferPage, validPage}
 
 -- Has the buffer the bytes of a page?
 unfoldable pub bufferFits : List ℕ → Bool
@@ -52,6 +52,19 @@ steppedPage Over buffer a = no 11
 
 unfoldable pub stepPage : PageCall → List ℕ → Answer → Lent (Counted Filled)
 stepPage s buffer a = lent buffer (question (bufferFits buffer) 9 (steppedPage s buffer a))
+
+-- what the buffer holds after a step: a refusal alters nothing
+unfoldable pub kept : List ℕ → Asked (List ℕ) → List ℕ
+kept buffer (no n) = buffer
+kept buffer (yes b) = b
+
+unfoldable pub bufferStepped : PageCall → List ℕ → Answer → Asked (List ℕ)
+bufferStepped (Going port q form tries m s) buffer a =
+    admitting (validCall port form tries m s) (accessPage port s) a (yes (bufferPage q port form s buffer a))
+bufferStepped Over buffer a = no 11
+
+unfoldable pub bufferAfter : PageCall → List ℕ → Answer → List ℕ
+bufferAfter s buffer a = kept buffer (question (bufferFits buffer) 9 (bufferStepped s buffer a))
 
 -- what was told, with the buffer as it is then; 0 is none of the papers' numbers: nothing asks with a finished state
 unfoldable pub saidPage : PageTold → List ℕ → Lent (Counted Filled)

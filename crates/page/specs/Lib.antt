@@ -1,3 +1,5 @@
 pub mod Page
 pub mod Walk
 pub mod Calls
+pub mod Spans
+pub mod Accepted

@@ -20,10 +20,10 @@ ghost use lib.ListN.{length};
 ghost use Rattle.hardware.specs.Asked.{validPort};
 ghost use Rattle.hardware.specs.Lent.{lent, goes};
 ghost use Rattle.hardware.specs.Marks.{FULL};
-ghost use Rattle.hardware.specs.Promise.{Keeps};
+ghost use Rattle.hardware.specs.Promise.{Keeps, Stores};
 ghost use Rattle.hardware.specs.Prog.{tally};
 ghost use Rattle.page.specs.Walk.{pageNext, validPageNext};
-ghost use Rattle.page.specs.Calls.{openForm, validCall, steppedPage, openPage, openQsfpPage, stepPage, saidPage, standsPage};
+ghost use Rattle.page.specs.Calls.{openForm, validCall, kept, bufferStepped, bufferAfter, steppedPage, openPage, openQsfpPage, stepPage, saidPage, standsPage};
 
 // Going: with the clearing sequence of its transfers, which page it is, the attempts for each byte, and the meter.
 pub enum PageCall {
@@ -112,7 +112,7 @@ fn page_on(
     a: Answer,
 ) -> PageTold
     requires { ⌜ 96 ≤ length (now buffer) ⌝ }
-    ensures { λ r. ⌜ Keeps (saidPage r (now (buffer .exit)) ≡ lent (now (buffer .entry)) (steppedPage (PageCall.Going port q form tries m t) (now (buffer .entry)) a)) (standsPage r) ⌝ }
+    ensures { λ r. ⌜ Stores (saidPage r (now (buffer .exit)) ≡ lent (now (buffer .entry)) (steppedPage (PageCall.Going port q form tries m t) (now (buffer .entry)) a)) (standsPage r) (now (buffer .exit) ≡ kept (now (buffer .entry)) (bufferStepped (PageCall.Going port q form tries m t) (now (buffer .entry)) a)) ⌝ }
 {
     let ok = valid(port, form, tries, m, t);
     match hardware::admit(ok, crate::walk::access(port, t), a) {
@@ -126,7 +126,7 @@ fn page_on(
 
 // Questions 9, and then 10 to 12, of both.
 pub fn page_step(s: PageCall, buffer: &mut [u8], a: Answer) -> PageTold
-    ensures { λ t. ⌜ Keeps (saidPage t (now (buffer .exit)) ≡ stepPage s (now (buffer .entry)) a) (standsPage t) ⌝ }
+    ensures { λ t. ⌜ Stores (saidPage t (now (buffer .exit)) ≡ stepPage s (now (buffer .entry)) a) (standsPage t) (now (buffer .exit) ≡ bufferAfter s (now (buffer .entry)) a) ⌝ }
 {
     if buffer.len() < 96 {
         return PageTold::Refused(Refusal::Buffer);

@@ -17,13 +17,13 @@ ghost use mathlib.Core.Path.{_≡_};
 ghost use mathlib.Core.Bool.{true};
 ghost use mathlib.Core.List.{List};
 ghost use lib.ListN.{length, set};
-ghost use Rattle.hardware.specs.Promise.{Keeps};
-ghost use Rattle.hardware.specs.Prog.{erase, followed};
+ghost use Rattle.hardware.specs.Promise.{Keeps, Stores};
+ghost use Rattle.hardware.specs.Prog.{ret, erase, followed};
 ghost use Rattle.transfer.specs.Attempt.{got};
 ghost use Rattle.i2c.specs.I2c.{locked};
 ghost use Rattle.i2c.specs.Handshake.{valued, handshakeNext, dueHandshakeNext, validHandshakeNext};
 ghost use Rattle.page.specs.Page.{offsetOf, placeOf, requestAt, byteSeen, pageFrom};
-ghost use Rattle.page.specs.Walk.{capAt, accessPage, restPage, pageNext, validPage, validPageNext};
+ghost use Rattle.page.specs.Walk.{capAt, accessPage, restPage, stored, bufferPage, pageNext, validPage, validPageNext};
 
 // Which module's page: SFF-8472's begins at byte 0, SFF-8636's at byte 128.
 pub enum Form {
@@ -125,7 +125,7 @@ fn ended(
     g: Got,
 ) -> PageNext
     requires { ⌜ 96 ≤ length (now buffer) ⌝ }
-    ensures { λ t. ⌜ Keeps (pageNext q port form tries t (now (buffer .exit)) ≡ erase (valued (requestAt form left) (byteSeen (pageFrom q port form tries left) (placeOf left) (now (buffer .entry))) (got g))) ((m : Meter) → left < 96 → m .transfers ≤ capAt tries left → validPageNext port form tries m t ≡ true) ⌝ }
+    ensures { λ t. ⌜ Stores (pageNext q port form tries t (now (buffer .exit)) ≡ erase (valued (requestAt form left) (byteSeen (pageFrom q port form tries left) (placeOf left) (now (buffer .entry))) (got g))) ((m : Meter) → left < 96 → m .transfers ≤ capAt tries left → validPageNext port form tries m t ≡ true) (now (buffer .exit) ≡ stored (placeOf left) (now (buffer .entry)) (ret (got g))) ⌝ }
 {
     match g {
         Got::Ok(t) => {
@@ -146,7 +146,7 @@ fn from_request(
     n: HandshakeNext,
 ) -> PageNext
     requires { ⌜ 96 ≤ length (now buffer) ⌝ }
-    ensures { λ t. ⌜ Keeps (pageNext q port form tries t (now (buffer .exit)) ≡ followed (handshakeNext port (requestAt form left) (locked q) n) (valued (requestAt form left) (byteSeen (pageFrom q port form tries left) (placeOf left) (now (buffer .entry))))) ((m : Meter) → left < 96 → validHandshakeNext tries port (requestAt form left) n ≡ true → m .transfers + dueHandshakeNext (requestAt form left) n ≤ capAt tries left → validPageNext port form tries m t ≡ true) ⌝ }
+    ensures { λ t. ⌜ Stores (pageNext q port form tries t (now (buffer .exit)) ≡ followed (handshakeNext port (requestAt form left) (locked q) n) (valued (requestAt form left) (byteSeen (pageFrom q port form tries left) (placeOf left) (now (buffer .entry))))) ((m : Meter) → left < 96 → validHandshakeNext tries port (requestAt form left) n ≡ true → m .transfers + dueHandshakeNext (requestAt form left) n ≤ capAt tries left → validPageNext port form tries m t ≡ true) (now (buffer .exit) ≡ stored (placeOf left) (now (buffer .entry)) (handshakeNext port (requestAt form left) (locked q) n)) ⌝ }
 {
     match n {
         HandshakeNext::Going(k, s) => PageNext::Going(k, Page { left, request: s }),
@@ -189,7 +189,7 @@ pub(crate) fn step(
     a: Answer,
 ) -> PageNext
     requires { ⌜ 96 ≤ length (now buffer) ⌝ }
-    ensures { λ t. ⌜ Keeps (pageNext q port form tries t (now (buffer .exit)) ≡ erase (restPage q port form tries s (now (buffer .entry)) a)) ((m : Meter) → validPage port form tries m s ≡ true → validPageNext port form tries m t ≡ true) ⌝ }
+    ensures { λ t. ⌜ Stores (pageNext q port form tries t (now (buffer .exit)) ≡ erase (restPage q port form tries s (now (buffer .entry)) a)) ((m : Meter) → validPage port form tries m s ≡ true → validPageNext port form tries m t ≡ true) (now (buffer .exit) ≡ bufferPage q port form s (now (buffer .entry)) a) ⌝ }
 {
     let left = s.left;
     let t = s.request;

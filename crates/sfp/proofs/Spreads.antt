@@ -1,4 +1,5 @@
 -- What holds of an end, and of a requested byte wherever it holds of what follows it, holds of `identify` and `identify_qsfp`.
+-- Of a call with any result: that each successful acquire gets one release call, and that the accesses show the attempts.
 use Prim.Native.Nat.{ℕ, suc, zero}
 use mathlib.Core.Bool.{Bool, true, false}
 use Rattle.hardware.specs.declared.Port.{Port}
@@ -6,15 +7,32 @@ use Rattle.hardware.specs.Prog.{Prog, ret, R, Ok, Err, pick, _>>=_}
 use Rattle.transfer.specs.declared.attempt.Sequence.{Sequence}
 use Rattle.i2c.specs.declared.once.Request.the-variants.{ReadByte}
 use Rattle.i2c.specs.I2c.{locked, transferred}
+use Rattle.i2c.proofs.Pairs.{Pairs, pairs-then, pairs-ret}
+use Rattle.i2c.proofs.Paired.{transferred-pairs}
+use Rattle.i2c.proofs.Shown.{Showing, shows-ret, shows-then}
 use Rattle.sfp.specs.declared.Codes.{Codes}
 use Rattle.sfp.specs.declared.Kind.{Kind}
 use Rattle.sfp.specs.declared.Identity.{Identity}
 use Rattle.sfp.specs.Identify.{EEPROM, orAbsent, byte, identifierOf, reachOf, bx10gOf, kindBy, classify, known, identified, identify}
 use Rattle.sfp.specs.Qsfp.{qsfpTechnology, qsfpLength, qsfpConnector, qsfpClassify, qsfpKnown, qsfpIdentified, identifyQsfp}
 
-pub record Spreads (q : Sequence) (port : Port) (P : Prog (R Identity) → Type 0) : Type 0 where
-  pub ends : (v : R Identity) → P (ret v)
-  pub requests : (offset tries : ℕ) (k : R ℕ → Prog (R Identity)) → ((r : R ℕ) → P (k r)) → P (transferred port (ReadByte EEPROM offset) (locked q) tries >>= k)
+pub record Spreads {A : Type 0} (q : Sequence) (port : Port) (P : Prog A → Type 0) : Type 0 where
+  pub ends : (v : A) → P (ret v)
+  pub requests : (offset tries : ℕ) (k : R ℕ → Prog A) → ((r : R ℕ) → P (k r)) → P (transferred port (ReadByte EEPROM offset) (locked q) tries >>= k)
+
+abbrev pub Keeping : {A : Type 0} → Prog A → Type 0
+Keeping p = Pairs false p (λ _. false)
+
+pub pairs-spreads : {A : Type 0} (q : Sequence) (port : Port) → Spreads {A = A} q port Keeping
+pairs-spreads q port =
+    record {
+      ends = λ v. pairs-ret false v;
+      requests = λ offset tries k e. pairs-then false _ k _ (transferred-pairs port (ReadByte EEPROM offset) (locked q) tries) e;
+    }
+
+pub shows-spreads : {A : Type 0} (q : Sequence) (port : Port) → Spreads {A = A} q port (Showing port)
+shows-spreads q port =
+    record { ends = λ v. shows-ret port v; requests = λ offset tries k e. shows-then port (ReadByte EEPROM offset) q tries k e }
 
 module _ (q : Sequence) (port : Port) (P : Prog (R Identity) → Type 0) (s : Spreads q port P) where
   pick-holds : (b : Bool) (p r : Prog (R Identity)) → P p → P r → P (pick b p r)

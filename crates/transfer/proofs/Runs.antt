@@ -16,8 +16,7 @@ use Rattle.hardware.specs.Asked.{Asked, no, yes, andThen, question, openPort, f
 use Rattle.hardware.specs.Prog.{Prog, R, blank, tally, _>>=_}
 use Rattle.hardware.specs.Runs.{run, runAsked, Ends, Awaited, ended, transfersIn, meterIn, counted, AwaitedIn, leftAfter, leftAskedAfter, Exchange, answersOf, AllKept, driven, Refuses, Asks, IfYes, Lasts, Unrefused}
 use Rattle.hardware.proofs.Laws.{run-tally, is-true, StepsOn, opened-runs, refused-runs}
-use Rattle.hardware.specs.Longest.{InType}
-use Rattle.hardware.proofs.Longest.{Accepts, steps-few, number-few}
+use Rattle.hardware.proofs.Longest.{Falls, lasting-falls, Accepts, steps-few, number-few}
 use Rattle.hardware.proofs.Ends.{ends-more, ends-bind, ret-ends, run-ends, ask-ends, ends-tally}
 use Rattle.bus.specs.declared.Taken.{Taken}
 use Rattle.bus.proofs.Noteless.{Noteless, ret-noteless, bind-noteless, transfers-none}
@@ -109,6 +108,10 @@ script-on s j (Read b y Over) u a h k w = absurd h
 script-on s j (End o m) u a h k w = absurd k
 script-on s j (Refused q) u a h k w = absurd k
 
+-- its number falls at every accepted step, with one script
+pub script-falls : (s : List ℕ) → judged s ≡ 0 → Falls (λ t. saidScript t s) (followsScript s) (λ t. standsScript t s)
+script-falls s j = lasting-falls (λ t. saidScript t s) (followsScript s) (λ t. standsScript t s) (script-on s j)
+
 -- from the opening on, driven by steps that keep their promises, the script lent at each; the bytes handed out are in the run
 pub script-driven : (family device lan : ℕ) (s : List ℕ) (t : ScriptTold) → Keeps (saidScript t s ≡ openScript family device lan s) (standsScript t s)
     → (ks : List (Exchange ScriptTold)) → AllKept (followsScript s) t ks → AwaitedIn (openScript family device lan s) (answersOf ks)
@@ -161,9 +164,9 @@ never-yes A true n m h = h
 never-yes A false n m h = h
 
 -- the number falls at every accepted step, whichever script it is lent
-pub lent-falls : (t u : ScriptAt) (a : Answer) → followsLent t a u → InType a → scriptLeft (u .told) < scriptLeft (t .told)
+pub lent-falls : (t u : ScriptAt) (a : Answer) → followsLent t a u → scriptLeft (u .told) < scriptLeft (t .told)
 unfolding followsLent followsScript stepScript steppedScript judgedThen scriptLeft callLeft
-lent-falls t u a k i = by (t .told) (k .0)
+lent-falls t u a k = by (t .told) (k .0)
   where
     less : (port : Port) (c : Attempt) → scriptLeft (u .told) ≤ callLeft (Going port c) - 1 → scriptLeft (u .told) < attemptLeft (layoutOf (port .family)) c
     less port c h = omega (arith, attempt-some (layoutOf (port .family)) c, h)
@@ -172,9 +175,9 @@ lent-falls t u a k i = by (t .told) (k .0)
     over e = never-yes _ _ _ _ (subst Unrefused e (k .1))
 
     by : (v : ScriptTold) → followsScript (t .script) v a (u .told) → scriptLeft (u .told) < scriptLeft v
-    by (Ask x (Going port c)) k = less port c (k .within i)
+    by (Ask x (Going port c)) k = less port c (k .within)
     by (Ask x Over) k = absurd (over (k .yields))
-    by (Read b x (Going port c)) k = less port c (k .within i)
+    by (Read b x (Going port c)) k = less port c (k .within)
     by (Read b x Over) k = absurd (over (k .yields))
     by (End o m) k = absurd k
     by (Refused q) k = absurd k
@@ -194,17 +197,17 @@ lent-over t y e = by (t .told) y e
     by (End o m) y e = λ k. k
     by (Refused q) y e = absurd y
 
--- So with at most n accesses left, and of an opening its contract says how many there are, the call takes at most n accepted steps
--- more, each lent an accepted script of its own, and has ended after n
+-- So with at most n accesses left, as the contract of an opening says of what it tells, the call takes at most n accepted steps more,
+-- each lent an accepted script of its own, and has ended after n
 pub script-lasts-within : (t : ScriptAt) (ks : List (Exchange ScriptAt)) (n : ℕ) → Unrefused (saidAt t) → scriptLeft (t .told) ≤ n
-    → AllKept (λ t a u. followsLent t a u × InType a) t ks → Lasts saidAt t ks n
+    → AllKept followsLent t ks → Lasts saidAt t ks n
 script-lasts-within t ks n y h kept =
-    number-few saidAt (λ t a u. followsLent t a u × InType a) (λ t. Unrefused (saidAt t)) (λ t. scriptLeft (t .told))
-    (λ t u a y k. (goes t u a (k .0), lent-falls t u a (k .0) (k .1))) lent-over t ks n y h kept
+    number-few saidAt followsLent (λ t. Unrefused (saidAt t)) (λ t. scriptLeft (t .told))
+    (λ t u a y k. (goes t u a k, lent-falls t u a k)) lent-over t ks n y h kept
 
 -- from any state, whoever made it
 pub script-lasts-lent : (x : Access) (port : Port) (s : List ℕ) (t : Attempt) (ks : List (Exchange ScriptAt))
-    → AllKept (λ t a u. followsLent t a u × InType a) (record { told = Ask x (Going port t); script = s }) ks
+    → AllKept followsLent (record { told = Ask x (Going port t); script = s }) ks
     → Lasts saidAt (record { told = Ask x (Going port t); script = s }) ks (attemptMost t)
 unfolding saidAt saidScript scriptLeft callLeft IfYes
 script-lasts-lent x port s t ks kept = script-lasts-within _ ks (attemptMost t) tt (attempt-left (layoutOf (port .family)) t) kept

@@ -25,7 +25,6 @@ use Rattle.transfer.specs.declared.calls.ScriptTold.the-variants.{Ask, R
 use Rattle.transfer.specs.Transfer.{handing, transfer}
 use Rattle.transfer.specs.Attempt.{attempt, accessAttempt, restAttempt, validAttempt}
 use Rattle.transfer.specs.Left.{callLeft, scriptLeft}
-use Rattle.hardware.specs.Longest.{InType}
 use Rattle.hardware.specs.Promise.{Bounds}
 use Rattle.hardware.specs.Runs.{Unrefused}
 
@@ -91,8 +90,8 @@ standsScript (Refused q) s = Unit {0}
 
 -- what a step told, u, follows what was told before it, t, where s is lent: as the step promises
 unfoldable pub followsScript : List ℕ → ScriptTold → Answer → ScriptTold → Type 0
-followsScript s (Ask x c) a u = Bounds (saidScript u s ≡ stepScript c s a) (standsScript u s) (InType a → scriptLeft u ≤ callLeft c - 1)
-followsScript s (Read b x c) a u = Bounds (saidScript u s ≡ stepScript c s a) (standsScript u s) (InType a → scriptLeft u ≤ callLeft c - 1)
+followsScript s (Ask x c) a u = Bounds (saidScript u s ≡ stepScript c s a) (standsScript u s) (scriptLeft u ≤ callLeft c - 1)
+followsScript s (Read b x c) a u = Bounds (saidScript u s ≡ stepScript c s a) (standsScript u s) (scriptLeft u ≤ callLeft c - 1)
 followsScript s (End o m) a u = ⊥
 followsScript s (Refused q) a u = ⊥
 

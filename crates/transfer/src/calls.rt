@@ -29,7 +29,6 @@ ghost use Rattle.transfer.specs.declared.attempt.Sequence.the-variants.{
 ghost use Rattle.transfer.specs.Transfer.{handing};
 ghost use Rattle.transfer.specs.Attempt.{got, attemptNext, validAttemptNext};
 ghost use Rattle.transfer.specs.Calls.{without, dropped, single, openScript, validScript, steppedScript, stepScript, saidScript, standsScript};
-ghost use Rattle.hardware.specs.Longest.{InType};
 ghost use Rattle.transfer.specs.Left.{COMMANDS-STEPS, attemptNextLeft, callLeft, scriptLeft};
 
 pub enum ScriptCall {
@@ -96,7 +95,7 @@ fn valid(port: Port, script: &[u8], t: Attempt) -> bool
 }
 
 fn script_on(port: Port, t: Attempt, script: &[u8], a: Answer) -> ScriptTold
-    ensures { λ r. ⌜ Bounds (saidScript r (now (script .entry)) ≡ steppedScript (ScriptCall.Going port t) (now (script .entry)) a) (onCommand (now (script .entry)) 0 ≡ true → standsScript r (now (script .entry))) (length (now (script .entry)) ≤ 64 → InType a → scriptLeft r < callLeft (ScriptCall.Going port t)) ⌝ }
+    ensures { λ r. ⌜ Bounds (saidScript r (now (script .entry)) ≡ steppedScript (ScriptCall.Going port t) (now (script .entry)) a) (onCommand (now (script .entry)) 0 ≡ true → standsScript r (now (script .entry))) (length (now (script .entry)) ≤ 64 → scriptLeft r < callLeft (ScriptCall.Going port t)) ⌝ }
 {
     let family = port.family;
     let l = bus::layout_of(family);
@@ -113,7 +112,7 @@ fn script_on(port: Port, t: Attempt, script: &[u8], a: Answer) -> ScriptTold
 }
 
 pub fn script_step(s: ScriptCall, script: &[u8], a: Answer) -> ScriptTold
-    ensures { λ r. ⌜ Bounds (saidScript r (now (script .entry)) ≡ stepScript s (now (script .entry)) a) (standsScript r (now (script .entry))) (InType a → scriptLeft r ≤ callLeft s - 1) ⌝ }
+    ensures { λ r. ⌜ Bounds (saidScript r (now (script .entry)) ≡ stepScript s (now (script .entry)) a) (standsScript r (now (script .entry))) (scriptLeft r ≤ callLeft s - 1) ⌝ }
 {
     match script::cursor::judge(script) {
         Judged::Accepted => match s {

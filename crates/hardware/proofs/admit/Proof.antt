@@ -2,6 +2,7 @@
 use Rattle.hardware.specs.Asked.{Admits, admitting, question}
 use borrow.Author.Needs.{needs}
 use mathlib.Core.Path.{_∙_, sym}
+use Rattle.hardware.proofs.Typed.{answer-typed}
 use Rattle.hardware.proofs.admit.Statement.{statement}
 use Rattle.hardware.proofs.admit.Tie as tie
 
@@ -10,7 +11,7 @@ awaited-requires c κs = search needs
 
 returns : tie.Need-returns
 unfolding Admits
-returns c = (c .before .before .if1 .taken, sym (c .before .awaited .ensures) ∙ c .if2 .taken)
+returns c = (c .before .before .if1 .taken, sym (c .before .awaited .ensures) ∙ c .if2 .taken, answer-typed (c .before .before .before .args .a) _ (c .before .before .before .good .1 .1 .0))
 
 returns-2 : tie.Need-returns-2
 unfolding Admits admitting question

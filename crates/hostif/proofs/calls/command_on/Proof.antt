@@ -1,7 +1,8 @@
 -- `command_on` meets its contract.
-use Rattle.hardware.proofs.Laws.{admits-fits, admits-no, admits-valid, admits-yes, both-true}
+use Rattle.hardware.proofs.Laws.{admits-fits, admits-typed, admits-no, admits-valid, admits-yes, both-true}
 use Rattle.hardware.specs.Asked.{validPort}
-use Rattle.hostif.specs.Calls.{saidCommand, standsCommand, stepped, toldLeft, validCommandCall}
+use Rattle.hostif.specs.Calls.{saidCommand, standsCommand, stepped, validCommandCall}
+use Rattle.hostif.specs.Left.{toldLeft}
 use Rattle.hardware.specs.Lent.{lent}
 use Rattle.hostif.proofs.Left.{command-some}
 use borrow.Author.Needs.{needs}
@@ -39,7 +40,7 @@ returns c =
     record {
       yields = c .before .before .go .ensures .yields ∙ ap (lent _) (sym (admits-yes _ _ _ _ e h));
       limits = c .before .before .go .ensures .limits (v .0) (v .1);
-      within = c .before .before .go .ensures .within (admits-fits _ _ _ e h);
+      within = c .before .before .go .ensures .within (admits-fits _ _ _ e h) (admits-typed _ _ _ e h);
     }
 
 same-length-2 : tie.Need-same-length-2
@@ -49,7 +50,7 @@ returns-2 : tie.Need-returns-2
 unfolding stepped lent saidCommand standsCommand toldLeft
 returns-2 c =
     let h = rw (c .before .before .before .before .before .before .valid-command .ensures, c .before .before .before .before .access .ensures) at (c .before .before .before .admit .ensures) in
-    record { yields = ap (lent _) (sym (admits-no _ _ _ _ (c .before .q .given .1) h)); limits = tt; within = λ w. command-some _ _ }
+    record { yields = ap (lent _) (sym (admits-no _ _ _ _ (c .before .q .given .1) h)); limits = tt; within = command-some _ _ }
 
 pub command-on-spec : {M : Type 1} → statement M
 command-on-spec =

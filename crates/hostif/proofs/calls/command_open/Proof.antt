@@ -2,9 +2,9 @@
 use Rattle.hardware.proofs.Laws.{opened-valid}
 use Rattle.hardware.specs.declared.Port.{Port}
 use Rattle.hardware.specs.Asked.{yes, andThen, portOpened, question}
-use Rattle.hostif.specs.Calls.{openCommand, saidCommand, standsCommand, toldLeft}
+use Rattle.hostif.specs.Calls.{openCommand, saidCommand, standsCommand}
 use Rattle.hardware.specs.Lent.{goes, lent}
-use Rattle.hostif.specs.Left.{openedLeft}
+use Rattle.hostif.specs.Left.{toldLeft, openedLeft}
 use borrow.Author.Needs.{needs}
 use mathlib.Core.Path.{_≡_, _∙_, ap, refl, sym}
 use native.Mathlib.Omega.{arith}

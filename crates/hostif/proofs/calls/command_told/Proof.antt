@@ -1,8 +1,8 @@
 -- `command_told` meets its contract.
 use Rattle.hardware.specs.Prog.{pick}
-use Rattle.hostif.specs.Calls.{callLeft, saidCommand, standsCommand, toldLeft, validCommandCall}
+use Rattle.hostif.specs.Calls.{saidCommand, standsCommand, validCommandCall}
 use Rattle.hostif.specs.Hostif.{commandNext, validCommandNext}
-use Rattle.hostif.specs.Left.{commandNextLeft}
+use Rattle.hostif.specs.Left.{callLeft, toldLeft, commandNextLeft}
 use borrow.Author.Needs.{needs}
 use native.Mathlib.Omega.{arith}
 use Rattle.hostif.proofs.calls.command_told.Statement.{statement}

@@ -3,7 +3,7 @@ use Rattle.hardware.specs.Prog.{erase}
 use Rattle.i2c.specs.Handshake.{valued}
 use Rattle.i2c.specs.I2c.{read-off, valueOf}
 use Rattle.page.specs.Page.{byteSeen, pagedOf, requestAt}
-use Rattle.page.specs.Walk.{pageNext, validPageNext}
+use Rattle.page.specs.Walk.{pageNext, stored, validPageNext}
 use Rattle.transfer.specs.Attempt.{got}
 use borrow.Author.Needs.{needs}
 use mathlib.Core.Path.{refl}
@@ -32,12 +32,12 @@ same-length : tie.Need-same-length
 same-length c = search needs
 
 returns : tie.Need-returns
-unfolding requestAt valued valueOf read-off got byteSeen
-returns c = record { yields = rw (c .before .before .before .before .before .before .before .before .g .given .1, ← c .before .before .before .before .before .place .ensures, ← c .before .before .before .before .store .ensures) (c .next .ensures .yields); limits = c .next .ensures .limits }
+unfolding requestAt valued valueOf read-off got byteSeen stored
+returns c = record { yields = rw (c .before .before .before .before .before .before .before .before .g .given .1, ← c .before .before .before .before .before .place .ensures, ← c .before .before .before .before .store .ensures) (c .next .ensures .yields); limits = c .next .ensures .limits; holds = rw (c .before .before .before .before .before .before .before .before .g .given .1, ← c .before .before .before .before .before .place .ensures) (c .before .before .before .before .store .ensures) }
 
 returns-2 : tie.Need-returns-2
-unfolding pageNext pagedOf erase valued valueOf got byteSeen validPageNext
-returns-2 c = record { yields = rw (c .before .g2 .given .1); limits = λ m h k. refl }
+unfolding pageNext pagedOf erase valued valueOf got byteSeen validPageNext stored
+returns-2 c = record { yields = rw (c .before .g2 .given .1); limits = λ m h k. refl; holds = rw (c .before .g2 .given .1) }
 
 pub ended-spec : {M : Type 1} → statement M
 ended-spec =

@@ -4,7 +4,8 @@ use Rattle.hardware.proofs.Prog.{going-on}
 use Rattle.hardware.specs.Prog.{_>>=_, followed}
 use Rattle.i2c.proofs.Laws.{fits-valid}
 use Rattle.i2c.specs.Handshake.{dueHandshakeNext, handshakeNext, restRequest, validHandshakeNext}
-use Rattle.page.proofs.Laws.{cap-most}
+use mathlib.Core.Path.{sym}
+use Rattle.page.proofs.Laws.{cap-most, stored-asks}
 use Rattle.page.specs.Walk.{accessPage, pageNext, restPage, validPage, validPageNext}
 use borrow.Author.Needs.{needs}
 use borrow.Author.Tests.{lt-ltb}
@@ -23,14 +24,14 @@ ended-requires c κs = search needs
 
 returns : tie.Need-returns
 unfolding pageNext accessPage restPage restRequest handshakeNext validHandshakeNext dueHandshakeNext validPageNext validPage
-returns c = rw (c .before .n .given .1) (record { yields = going-on _ _ _ _; limits = λ m p v all. picked _ _ (lt-ltb _ _ p) (fits-valid _ _ _ _ _ m _ (cap-most _ _ (omega arith)) v all) })
+returns c = rw (c .before .n .given .1) (record { holds = sym (stored-asks _ _ _ _ _); yields = going-on _ _ _ _; limits = λ m p v all. picked _ _ (lt-ltb _ _ p) (fits-valid _ _ _ _ _ m _ (cap-most _ _ (omega arith)) v all) })
 
 same-length : tie.Need-same-length
 same-length c = search needs
 
 returns-2 : tie.Need-returns-2
 unfolding handshakeNext dueHandshakeNext followed _>>=_
-returns-2 c = rw (c .before .before .before .before .before .n2 .given .1) (record { yields = c .before .before .ended .ensures .yields; limits = λ m p v all. c .before .before .ended .ensures .limits m p (omega (arith, all)) })
+returns-2 c = rw (c .before .before .before .before .before .n2 .given .1) (record { holds = c .before .before .ended .ensures .holds; yields = c .before .before .ended .ensures .yields; limits = λ m p v all. c .before .before .ended .ensures .limits m p (omega (arith, all)) })
 
 pub from-request-spec : {M : Type 1} → statement M
 from-request-spec = tie.close (tie.spec enum-known-n enum-known-n-2 ended-requires returns same-length returns-2)

@@ -1,5 +1,5 @@
 -- `script_on` meets its contract.
-use Rattle.hardware.proofs.Laws.{admits-fits, admits-no, admits-valid, admits-yes, both-true}
+use Rattle.hardware.proofs.Laws.{admits-fits, admits-typed, admits-no, admits-valid, admits-yes, both-true}
 use Rattle.hardware.specs.Asked.{validPort, yes}
 use Rattle.transfer.proofs.Laws.{script-rest}
 use Rattle.transfer.specs.Calls.{saidScript, standsScript, steppedScript, validScript}
@@ -51,7 +51,7 @@ returns c =
     record {
       yields = c .told .ensures .yields (args .script .now) ∙ ap yes (script-rest (args .port) (args .script .now) (args .t) (args .a) _ (rw (l, c .before .before .device .ensures) at (c .before .step .ensures .yields handing))) ∙ sym (admits-yes _ _ _ _ e h);
       limits = λ f. c .told .ensures .limits (args .script .now) (v .0) (rw l at (c .before .step .ensures .limits f (rw l (v .1))));
-      within = λ g i. omega (arith, c .told .ensures .within, rw l at (c .before .step .ensures .within g (rw l (admits-fits _ _ _ e h)) i));
+      within = λ g. omega (arith, c .told .ensures .within, rw l at (c .before .step .ensures .within g (rw l (admits-fits _ _ _ e h)) (admits-typed _ _ _ e h)));
     }
 
 returns-2 : tie.Need-returns-2
@@ -59,7 +59,7 @@ unfolding steppedScript saidScript standsScript callLeft scriptLeft
 returns-2 c =
     let args = c .before .before .before .before .before .before .before .before .args in
     let h = rw (c .before .before .before .before .before .valid .ensures, c .before .before .before .before .access .ensures, c .before .before .before .before .before .before .layout-of .ensures) at (c .before .before .before .admit .ensures) in
-    record { yields = sym (admits-no _ _ _ _ (c .before .q .given .1) h); limits = λ f. tt; within = λ g i. attempt-some (layoutOf (args .port .family)) (args .t) }
+    record { yields = sym (admits-no _ _ _ _ (c .before .q .given .1) h); limits = λ f. tt; within = λ g. attempt-some (layoutOf (args .port .family)) (args .t) }
 
 pub script-on-spec : {M : Type 1} → statement M
 script-on-spec =

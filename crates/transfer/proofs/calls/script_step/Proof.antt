@@ -34,7 +34,7 @@ returns c =
     record {
       yields = rw (c .before .before .s .given .1) (c .script-on .ensures .yields ∙ sym (judged-yes (c .before .before .before .before .before .before .before .before .args .script .now) _ (judged-accepted (c .before .before .before .before .before .before .before .before .args .script .now) (c .before .before .before .before .enum-told .given .1) (c .before .before .before .before .before .before .judge .ensures))));
       limits = c .script-on .ensures .limits (on-first (c .before .before .before .before .before .before .before .before .args .script .now) (judged-accepted (c .before .before .before .before .before .before .before .before .args .script .now) (c .before .before .before .before .enum-told .given .1) (c .before .before .before .before .before .before .judge .ensures)));
-      within = λ i. rw (c .before .before .s .given .1) (omega (arith, c .script-on .ensures .within (accepted-length (c .before .before .before .before .before .before .before .before .args .script .now) (judged-accepted (c .before .before .before .before .before .before .before .before .args .script .now) (c .before .before .before .before .enum-told .given .1) (c .before .before .before .before .before .before .judge .ensures))) i));
+      within = rw (c .before .before .s .given .1) (omega (arith, c .script-on .ensures .within (accepted-length (c .before .before .before .before .before .before .before .before .args .script .now) (judged-accepted (c .before .before .before .before .before .before .before .before .args .script .now) (c .before .before .before .before .enum-told .given .1) (c .before .before .before .before .before .before .judge .ensures)))));
     }
 
 returns-2 : tie.Need-returns-2
@@ -43,7 +43,7 @@ returns-2 c =
     record {
       yields = rw (c .enum-told2 .given .1) (sym (judged-yes (c .before .before .before .before .before .before .args .script .now) _ (judged-accepted (c .before .before .before .before .before .before .args .script .now) (c .before .before .enum-told .given .1) (c .before .before .before .before .judge .ensures))));
       limits = tt;
-      within = λ i. omega arith;
+      within = omega arith;
     }
 
 returns-3 : tie.Need-returns-3
@@ -52,7 +52,7 @@ returns-3 c =
     record {
       yields = sym (judged-no (c .before .before .before .before .before .args .script .now) _ (c .before .q .given .1) (c .before .before .before .judge .ensures));
       limits = tt;
-      within = λ i. omega arith;
+      within = omega arith;
     }
 
 pub script-step-spec : {M : Type 1} → statement M

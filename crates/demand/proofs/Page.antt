@@ -1,0 +1,245 @@
+-- A whole page read with the bench module, for every port, both forms, every start that 01 allows and every list of answers
+-- that meets the premises.
+use Prim.Native.Nat.{ℕ, _+_, _-_, _<_, _≤_, suc, zero}
+use mathlib.Core.Path.{_≡_, refl, ap, _∙_, sym}
+use mathlib.Core.Bool.{Bool, true, false}
+use mathlib.Core.List.{List, _++_}
+use mathlib.Core.Logic.{⊎-elim, _↔_}
+use native.Mathlib.Omega.{arith}
+use lib.ListN.{length, getD, drop, List·getD-append}
+use lib.Seq.{sets, sets-eq}
+use Rattle.i2c.specs.I2c.{standard}
+use Rattle.hardware.specs.declared.Answer.{Answer}
+use Rattle.hardware.specs.declared.Port.{Port}
+use Rattle.hardware.specs.Failures.{I2c}
+use Rattle.hardware.specs.Prog.{ret, Ok, Err, pick}
+use Rattle.bus.specs.declared.Layout.{Layout}
+use Rattle.bus.specs.Layout.{layoutOf}
+use Rattle.wire.specs.Lines.{drawn, Rests, Each}
+use Rattle.wire.specs.Machine.{World}
+use Rattle.wire.specs.Always.{Always}
+use Rattle.wire.specs.Run.{ended}
+use Rattle.wire.proofs.Edges.{rests}
+use Rattle.bench.specs.declared.Bench.{Bench}
+use Rattle.bench.specs.declared.receiver.Stage.the-variants.{AckWrite}
+use Rattle.bench.specs.Bench.{pullsLow}
+use Rattle.sfp.specs.Classes.{Bytes}
+use Rattle.sfp.specs.Identify.{EEPROM}
+use Rattle.page.specs.declared.walk.Form.{Form}
+use Rattle.page.specs.declared.walk.Form.the-variants.{Sff8472, Sff8636}
+use Rattle.page.specs.Page.{offsetOf, sumsOf, Filled, byteSeen, placeOf, requestAt, pageFrom, page}
+use Rattle.page.specs.Spans.{BothCheck, Holds}
+use Rattle.page.proofs.Accepted.{sums-front}
+use Rattle.page.proofs.Ends.{PAGE-STEPS, page-ends}
+use Rattle.page.proofs.Spans.{sums-check}
+use Rattle.demand.specs.Claim.{CountedBench, machine, benchRun, atStart, byteOf, extra, InAckWrite, Starts}
+use Rattle.demand.specs.PageClaim.{bytesFrom, modulePage, PageFacts, PageFails, pageCall, PagePremises, PageComes, PageClaim}
+use Rattle.demand.proofs.Attempts.{Stuck, stuck}
+use Rattle.demand.proofs.Requests.{world, bytes, After, begun, after-leaves, Continues, counts, request-read, request-clears, request-fails, request-next}
+use Rattle.demand.proofs.Runs.{Steady, run-steady, run-ended, run-told}
+
+-- every place's byte is one of the module's page A0
+offset-small : (form : Form) (place : ℕ) → place < 96 → offsetOf form place < 256
+unfolding offsetOf
+offset-small Sff8472 place h = omega arith
+offset-small Sff8636 place h = omega arith
+
+offset-at : (form : Form) (place : ℕ) → offsetOf form place ≡ offsetOf form 0 + place
+unfolding offsetOf
+offset-at Sff8472 place = omega arith
+offset-at Sff8636 place = omega arith
+
+-- so many bytes stored, from a place on
+abbrev stored : Form → Bytes → ℕ → ℕ → List ℕ → List ℕ
+stored form at place n buffer = sets buffer place (bytesFrom form at place n)
+
+-- every byte is read
+abbrev over : List ℕ → Filled
+over buffer = record { result = sumsOf buffer; buffer = buffer }
+
+module _ (port : Port) (form : Form) (tries : ℕ) (m : CountedBench) (small : (i : ℕ) → bytes m i < 256) (Q : Filled → World machine → Type 0) where
+  -- a byte is read, and the rest goes on
+  byte-read : (left place : ℕ) (buffer : List ℕ) (j : ℕ) → place + suc left ≡ 96
+      → ((l : List ℕ) → Continues port m Q (left + suc j) (ret (over (stored form (bytes m) (suc place) left l))) → Continues port m Q (suc j) (pageFrom standard port form tries left l))
+      → Continues port m Q (suc left + j) (ret (over (stored form (bytes m) place (suc left) buffer)))
+      → Continues port m Q (suc j) (byteSeen (pageFrom standard port form tries left) (placeOf left) buffer (Ok (bytes m (offsetOf form (placeOf left)))))
+  unfolding byteSeen bytesFrom
+  byte-read left place buffer j c again h = again _ (rw at (counts port m Q _ (omega arith) h))
+    where
+      at : placeOf left ≡ place
+      at = omega (arith, c)
+
+  -- the last n bytes
+  bytes-read : (n place more : ℕ) (buffer : List ℕ) (j : ℕ) → place + n ≡ 96 → tries ≡ suc more
+      → Continues port m Q (n + j) (ret (over (stored form (bytes m) place n buffer))) → Continues port m Q j (pageFrom standard port form tries n buffer)
+  unfolding pageFrom requestAt bytesFrom
+  bytes-read zero place more buffer j c e h = counts port m Q _ (omega arith) h
+  bytes-read (suc left) place more buffer j c e h =
+      λ n w a.
+      request-next port _ (offset-small form (placeOf left) (omega arith)) tries more j w _ Q e a (small _)
+      (byte-read left place buffer j c (λ l. bytes-read left (suc place) more l (suc j) (omega (arith, c)) e) h)
+
+  -- the first byte, by the module's state at the beginning: where it does not pull SDA
+  read-first : (left place more : ℕ) (buffer : List ℕ) (w : ℕ) (a b : Bool) → place + suc left ≡ 96 → tries ≡ suc more
+      → Rests (layoutOf (port .family)) (drawn a b) w → machine .pulls m .sda ≡ false
+      → Continues port m Q (suc left) (ret (over (stored form (bytes m) place (suc left) buffer)))
+      → Always (layoutOf (port .family)) machine (pageFrom standard port form tries (suc left) buffer) (world w m) Q
+  unfolding pageFrom requestAt
+  read-first left place more buffer w a b c e r free h =
+      request-read port _ (offset-small form (placeOf left) (omega arith)) tries more w m a b _ Q e r (small _) free
+      (byte-read left place buffer 0 c (λ l. bytes-read left (suc place) more l 1 (omega (arith, c)) e) (counts port m Q _ (omega arith) h))
+
+  -- where it sends a 0
+  read-cleared : (left place more : ℕ) (buffer : List ℕ) (w : ℕ) (a b : Bool) → place + suc left ≡ 96 → tries ≡ suc (suc more)
+      → Rests (layoutOf (port .family)) (drawn a b) w → machine .pulls m .sda ≡ true → Stuck (m .bench .receiver)
+      → Continues port m Q (suc left + 1) (ret (over (stored form (bytes m) place (suc left) buffer)))
+      → Always (layoutOf (port .family)) machine (pageFrom standard port form tries (suc left) buffer) (world w m) Q
+  unfolding pageFrom requestAt
+  read-cleared left place more buffer w a b c e r held s h =
+      request-clears port _ (offset-small form (placeOf left) (omega arith)) tries more w m a b _ Q e r (small _) held s
+      (byte-read left place buffer 1 c (λ l. bytes-read left (suc place) (suc more) l 2 (omega (arith, c)) e) h)
+
+  -- where it acknowledges and a write is to follow
+  read-fails : (left : ℕ) (buffer : List ℕ) (w : ℕ) (a b : Bool) → Rests (layoutOf (port .family)) (drawn a b) w → m .bench .receiver .stage ≡ AckWrite
+      → ((n : CountedBench) (v : ℕ) → n .meter .transfers ≡ tries + m .meter .transfers → Q (record { result = Err (I2c EEPROM); buffer = buffer }) (world v n))
+      → Always (layoutOf (port .family)) machine (pageFrom standard port form tries (suc left) buffer) (world w m) Q
+  unfolding pageFrom requestAt byteSeen Always
+  read-fails left buffer w a b r i h = request-fails port _ (offset-small form (placeOf left) (omega arith)) tries w m a b _ Q r i h
+
+from-length : (form : Form) (at : Bytes) (place n : ℕ) → length (bytesFrom form at place n) ≡ n
+unfolding bytesFrom
+from-length form at place zero = refl
+from-length form at place (suc n) = ap suc (from-length form at (suc place) n)
+
+-- a buffer with room for the bytes has them, and beyond them what it had
+all-stored : (form : Form) (at : Bytes) (n : ℕ) (buffer : List ℕ) → n ≤ length buffer
+    → stored form at 0 n buffer ≡ bytesFrom form at 0 n ++ drop n buffer
+all-stored form at n buffer h =
+    sets-eq (bytesFrom form at 0 n) buffer 0 (omega (arith, from-length form at 0 n))
+    ∙ ap (λ k. bytesFrom form at 0 n ++ drop k buffer) whole
+  where
+    whole : 0 + length (bytesFrom form at 0 n) ≡ n
+    whole = omega (arith, from-length form at 0 n)
+
+module _ (port : Port) (form : Form) (tries : ℕ) (buffer : List ℕ) (b : Bench) (small : (n : ℕ) → byteOf (b .a0) n < 256) where
+  -- the end, where all went well
+  well : (e j : ℕ) → extra b ≡ e → 96 ≤ length buffer → (n : CountedBench) (w : ℕ) → After (layoutOf (port .family)) (begun b) j n w → j ≡ 96 + e
+      → PageFacts (layoutOf (port .family)) b form buffer (over (stored form (byteOf (b .a0)) 0 96 buffer)) (world w n)
+  unfolding modulePage
+  well e j x room n w a c =
+      record {
+        buffer = kept;
+        result = ap sumsOf kept ∙ sums-front _ _ (from-length form (byteOf (b .a0)) 0 96);
+        leaves = after-leaves b a (omega (arith, c, x));
+      }
+    where
+      kept : stored form (byteOf (b .a0)) 0 96 buffer ≡ bytesFrom form (byteOf (b .a0)) 0 96 ++ drop 96 buffer
+      kept = all-stored form (byteOf (b .a0)) 96 buffer room
+
+  -- it holds of the page, whatever the other answers are
+  always-read : (InAckWrite b → ⊥) → 1 + extra b ≤ tries → 96 ≤ length buffer → (word : ℕ) (x y : Bool) → Rests (layoutOf (port .family)) (drawn x y) word
+      → Always (layoutOf (port .family)) machine (pageCall port form tries buffer) (atStart word b) (PageFacts (layoutOf (port .family)) b form buffer)
+  unfolding page Always pick
+  always-read other enough room word x y r = by (pullsLow b) refl
+    where
+      by : (t : Bool) → pullsLow b ≡ t
+          → Always (layoutOf (port .family)) machine (pageCall port form tries buffer) (atStart word b) (PageFacts (layoutOf (port .family)) b form buffer)
+      by false e =
+          read-first port form tries (begun b) small _ 95 0 (tries - 1) buffer word x y refl (omega (arith, enough)) r e
+          (λ n w a. well 0 _ (rw e) room n w a refl)
+      by true e =
+          ⊎-elim
+          (λ i. absurd (other i))
+          (λ s.
+          read-cleared port form tries (begun b) small _ 95 0 (tries - 2) buffer word x y refl (omega (arith, rw e at enough)) r e s
+          (λ n w a. well 1 _ (rw e) room n w a refl))
+          (stuck (begun b) e)
+
+  -- where the module starts in AckWrite
+  always-fails : InAckWrite b → (word : ℕ) (x y : Bool) → Rests (layoutOf (port .family)) (drawn x y) word
+      → Always (layoutOf (port .family)) machine (pageCall port form tries buffer) (atStart word b) (PageFails tries buffer)
+  unfolding page
+  always-fails i word x y r =
+      read-fails port form tries (begun b) small _ 95 buffer word x y r i
+      (λ n v made. record { buffer = refl; result = refl; transfers = omega (arith, made) })
+
+module _ (port : Port) (form : Form) (tries : ℕ) (buffer : List ℕ) (b : Bench) (word : ℕ) (answers : List Answer) (s : Starts port b word)
+    (m : PagePremises port form tries buffer b word answers) where
+  -- a module that does not start in AckWrite, attempts enough, and room for a page
+  module _ (other : InAckWrite b → ⊥) (enough : 1 + extra b ≤ tries) (room : 96 ≤ length buffer) where
+    started : Always (layoutOf (port .family)) machine (pageCall port form tries buffer) (atStart word b) (PageFacts (layoutOf (port .family)) b form buffer)
+    unfolding Starts
+    started = always-read port form tries buffer b (s .0) other enough room word _ _ (rests (layoutOf (port .family)) word (s .1))
+
+    -- A page read with the bench module, whenever the call has come to its end
+    pub page-read-ended : (f : Filled) (w : World machine) → benchRun port (pageCall port form tries buffer) b word answers .outcome ≡ ended f w
+        → PageFacts (layoutOf (port .family)) b form buffer f w
+    unfolding PagePremises
+    page-read-ended = run-ended port (pageCall port form tries buffer) b word answers _ started m
+
+    -- as it has for every list that is long enough, and the library's too, whose result tells the transfers made
+    pub page-read : PAGE-STEPS (port .family) tries ≤ length answers → PageClaim port form tries buffer b word answers
+    unfolding PagePremises PageComes PageClaim
+    page-read = run-told port (pageCall port form tries buffer) b word answers _ started m (PAGE-STEPS (port .family) tries) (page-ends standard port form tries buffer)
+
+    -- no write moves both lines
+    pub page-never-both-lines : Each (Steady (layoutOf (port .family))) (benchRun port (pageCall port form tries buffer) b word answers .trace)
+    unfolding PagePremises
+    page-never-both-lines = run-steady port (pageCall port form tries buffer) b word answers _ started m
+
+  -- a module that starts in AckWrite, whatever the buffer and the number of attempts
+  module _ (ack : InAckWrite b) where
+    failing : Always (layoutOf (port .family)) machine (pageCall port form tries buffer) (atStart word b) (PageFails tries buffer)
+    unfolding Starts
+    failing = always-fails port form tries buffer b (s .0) ack word _ _ (rests (layoutOf (port .family)) word (s .1))
+
+    pub page-fails-ended : (f : Filled) (w : World machine) → benchRun port (pageCall port form tries buffer) b word answers .outcome ≡ ended f w → PageFails tries buffer f w
+    unfolding PagePremises
+    page-fails-ended = run-ended port (pageCall port form tries buffer) b word answers _ failing m
+
+    pub page-fails : PAGE-STEPS (port .family) tries ≤ length answers → PageComes port form tries buffer b word answers (PageFails tries buffer)
+    unfolding PagePremises PageComes
+    page-fails = run-told port (pageCall port form tries buffer) b word answers _ failing m (PAGE-STEPS (port .family) tries) (page-ends standard port form tries buffer)
+
+from-at : (form : Form) (at : Bytes) (n place i : ℕ) → i < n → getD (bytesFrom form at place n) i 0 ≡ at (offsetOf form (place + i))
+unfolding bytesFrom
+from-at form at zero place i h = absurd (omega arith)
+from-at form at (suc n) place zero h = ap (λ k. at (offsetOf form k)) whole
+  where
+    whole : place ≡ place + 0
+    whole = omega arith
+from-at form at (suc n) place (suc i) h = from-at form at n (suc place) i (omega arith) ∙ ap (λ k. at (offsetOf form k)) next
+  where
+    next : suc place + i ≡ place + suc i
+    next = omega arith
+
+pub module-page-length : (form : Form) (b : Bench) → length (modulePage form b) ≡ 96
+unfolding modulePage
+module-page-length form b = from-length form (byteOf (b .a0)) 0 96
+
+pub module-page-at : (form : Form) (b : Bench) (place : ℕ) → place < 96 → getD (modulePage form b) place 0 ≡ byteOf (b .a0) (offsetOf form place)
+unfolding modulePage
+module-page-at form b place h = from-at form (byteOf (b .a0)) 96 0 place h ∙ ap (λ k. byteOf (b .a0) (offsetOf form k)) whole
+  where
+    whole : 0 + place ≡ place
+    whole = omega arith
+
+module-checks : (form : Form) (b : Bench) → (sumsOf (modulePage form b) ≡ Ok tt) ↔ BothCheck form (byteOf (b .a0))
+unfolding Holds
+module-checks form b =
+    sums-check form (byteOf (b .a0)) (modulePage form b)
+    (λ i low high. module-page-at form b i (omega (arith, high)) ∙ ap (byteOf (b .a0)) (offset-at form i))
+
+-- what follows from the facts
+module _ (l : Layout) (b : Bench) (form : Form) (before : List ℕ) (f : Filled) (w : World machine) (h : PageFacts l b form before f w) where
+  -- each byte of the page stands at its place
+  pub read-at : (place : ℕ) → place < 96 → getD (f .buffer) place 0 ≡ byteOf (b .a0) (offsetOf form place)
+  read-at place k = rw (h .buffer) (List·getD-append (modulePage form b) (drop 96 before) 0 place (omega (arith, module-page-length form b)) ∙ module-page-at form b place k)
+
+  -- the result is by the sums of the buffer, of which those of the module's page are
+  pub judged : f .result ≡ sumsOf (f .buffer)
+  judged = rw (h .buffer) (h .result ∙ sym (sums-front (modulePage form b) (drop 96 before) (module-page-length form b)))
+
+  -- the page is accepted exactly where both check bytes of the module are right
+  pub accepted : (f .result ≡ Ok tt) ↔ BothCheck form (byteOf (b .a0))
+  accepted = (λ e. module-checks form b .0 (sym (h .result) ∙ e), λ k. h .result ∙ module-checks form b .1 k)

@@ -5,9 +5,10 @@ use crate::answers::{Failed, Fnv, Player, Rule, Stream};
 use crate::driver::sfp::{self, Kind, Module};
 use crate::driver::{hostif, i2c, sync, Error, Family, Port};
 use crate::lines::{Lines, MARK};
+use crate::page;
 use crate::script::script;
 
-// Function numbers. 10 and up are `i2c`'s, 20 and up `sfp`'s.
+// Function numbers. 10 and up are `i2c`'s, 20 and up `sfp`'s, 24 and up pages.
 pub const LOCK: u32 = 0;
 pub const UNLOCK: u32 = 1;
 pub const ACQUIRE: u32 = 2;
@@ -29,6 +30,8 @@ pub const IDENTIFY: u32 = 20;
 pub const IDENTIFY_QSFP: u32 = 21;
 pub const RATE_SELECT: u32 = 22;
 pub const METHOD: u32 = 23;
+pub const PAGE: u32 = 24;
+pub const QSFP_PAGE: u32 = 25;
 
 /// The functions that `PLAIN` chooses from.
 pub const X550EM: u32 = 0;
@@ -103,6 +106,7 @@ impl Case {
     /// What the module on the lines sends first.
     fn queue(&self) -> Vec<u8> {
         let words = match self.function {
+            PAGE | QSFP_PAGE => return page::bytes(self.args[1], self.args[2]),
             IDENTIFY | IDENTIFY_QSFP => &self.args[..],
             RATE_SELECT => &self.args[1..],
             _ => &[],
@@ -125,6 +129,8 @@ impl Case {
             READ_BYTE | WRITE_BYTE | READ_COMBINED | WRITE_COMBINED => self.transfer(io),
             SCRIPT => self.script(io, a1, a2),
             IDENTIFY | IDENTIFY_QSFP | RATE_SELECT => self.module(io),
+            PAGE => self.page(io, 0),
+            QSFP_PAGE => self.page(io, 128),
             LOCK => numbers(sync::probe_lock(io, self.family()), |()| [0; 3]),
             UNLOCK => numbers(sync::probe_unlock(io, self.family()), |()| [0; 3]),
             ACQUIRE => numbers(sync::acquire(io, self.port(), a1), |()| [0; 3]),
@@ -214,6 +220,22 @@ impl Case {
         result
     }
 
+    /// The second value is the sum over the buffer, the third the count of
+    /// transfers, failures included.
+    fn page(&self, io: &mut Player, first: u8) -> [u32; 4] {
+        let mut buffer: Vec<u8> = (0..page::BUFFER).map(|i| 255 - i).collect();
+        i2c::probe_transfers();
+        let read = page::read(io, self.port(), first, self.args[0] as usize, &mut buffer);
+        let mut result = match read {
+            Ok(()) => [page::judged(&buffer), 0, 0, 0],
+            failure => numbers(failure, |()| [0; 3]),
+        };
+        let words: Vec<u32> = buffer.into_iter().map(u32::from).collect();
+        result[2] = Fnv::over(&words);
+        result[3] = i2c::probe_transfers();
+        result
+    }
+
     fn plain(&self, function: u32) -> u32 {
         match function {
             X550EM => i2c::probe_x550em(self.family()).into(),
@@ -284,6 +306,7 @@ impl Case {
             IDENTIFY | IDENTIFY_QSFP => true,
             RATE_SELECT => a1 <= 1,
             METHOD => a1 <= NVM_KEY && a2 & !MULTISPEED < KINDS.len() as u32,
+            PAGE | QSFP_PAGE => a1 <= 0xff && a3 <= 3,
             _ => self.function <= PHY || self.function == QSFP_SETUP,
         };
         if !known {

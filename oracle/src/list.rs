@@ -9,6 +9,7 @@ use crate::driver::sync::{self, EEP, I2C0, I2C1, PHY0, PHY1, SHARED_I2C, SW_MNG}
 use crate::driver::Family;
 use crate::rules::*;
 
+mod pages;
 mod sfp;
 mod transfers;
 
@@ -47,6 +48,7 @@ pub fn cases() -> Vec<Case> {
     random(&mut list);
     transfers::add(&mut list);
     sfp::add(&mut list);
+    pages::add(&mut list);
     list.cases
 }
 

@@ -9,6 +9,7 @@ mod fresh;
 mod images;
 mod lines;
 mod list;
+mod page;
 mod rules;
 mod script;
 

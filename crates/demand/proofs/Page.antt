@@ -28,7 +28,7 @@ use Rattle.sfp.specs.Identify.{EEPROM}
 use Rattle.page.specs.declared.walk.Form.{Form}
 use Rattle.page.specs.declared.walk.Form.the-variants.{Sff8472, Sff8636}
 use Rattle.page.specs.Page.{offsetOf, sumsOf, Filled, byteSeen, placeOf, requestAt, pageFrom, page}
-use Rattle.page.specs.Spans.{BothCheck, Holds}
+use Rattle.page.specs.Spans.{BothCheck, Carries}
 use Rattle.page.proofs.Accepted.{sums-front}
 use Rattle.page.proofs.Ends.{PAGE-STEPS, page-ends}
 use Rattle.page.proofs.Spans.{sums-check}
@@ -172,15 +172,15 @@ module _ (port : Port) (form : Form) (tries : ℕ) (buffer : List ℕ) (b : Benc
     started = always-read port form tries buffer b (s .0) other enough room word _ _ (rests (layoutOf (port .family)) word (s .1))
 
     -- A page read with the bench module, whenever the call has come to its end
-    pub page-read-ended : (f : Filled) (w : World machine) → benchRun port (pageCall port form tries buffer) b word answers .outcome ≡ ended f w
+    pub page-claimed-ended : (f : Filled) (w : World machine) → benchRun port (pageCall port form tries buffer) b word answers .outcome ≡ ended f w
         → PageFacts (layoutOf (port .family)) b form buffer f w
     unfolding PagePremises
-    page-read-ended = run-ended port (pageCall port form tries buffer) b word answers _ started m
+    page-claimed-ended = run-ended port (pageCall port form tries buffer) b word answers _ started m
 
     -- as it has for every list that is long enough, and the library's too, whose result tells the transfers made
-    pub page-read : PAGE-STEPS (port .family) tries ≤ length answers → PageClaim port form tries buffer b word answers
+    pub page-claimed : PAGE-STEPS (port .family) tries ≤ length answers → PageClaim port form tries buffer b word answers
     unfolding PagePremises PageComes PageClaim
-    page-read = run-told port (pageCall port form tries buffer) b word answers _ started m (PAGE-STEPS (port .family) tries) (page-ends standard port form tries buffer)
+    page-claimed = run-told port (pageCall port form tries buffer) b word answers _ started m (PAGE-STEPS (port .family) tries) (page-ends standard port form tries buffer)
 
     -- no write moves both lines
     pub page-never-both-lines : Each (Steady (layoutOf (port .family))) (benchRun port (pageCall port form tries buffer) b word answers .trace)
@@ -225,7 +225,7 @@ module-page-at form b place h = from-at form (byteOf (b .a0)) 96 0 place h ∙ a
     whole = omega arith
 
 module-checks : (form : Form) (b : Bench) → (sumsOf (modulePage form b) ≡ Ok tt) ↔ BothCheck form (byteOf (b .a0))
-unfolding Holds
+unfolding Carries
 module-checks form b =
     sums-check form (byteOf (b .a0)) (modulePage form b)
     (λ i low high. module-page-at form b i (omega (arith, high)) ∙ ap (byteOf (b .a0)) (offset-at form i))

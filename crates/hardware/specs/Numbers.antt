@@ -6,7 +6,7 @@ use Rattle.hardware.specs.declared.Refusal.the-variants.{Family, Lan, De
 use Rattle.hardware.specs.declared.Error.{Error}
 use Rattle.hardware.specs.declared.Error.the-variants.{Io, Removed, Semaphore, I2c, HostInterface, Firmware}
 
--- 1 to 9 are put at an opening, 5 to 8 again and 10 to 12 at a step
+-- 1 to 9 are put at an opening, 5 to 9 again and 10 to 12 at a step
 abbrev pub refusalNumber : Refusal → ℕ
 refusalNumber Family = 1
 refusalNumber Lan = 2

@@ -1,11 +1,12 @@
--- A page is accepted exactly when every read succeeds and both sums are right.
-use Prim.Native.Nat.{ℕ, _-_, _<_, _≤_, suc, zero}
-use mathlib.Core.Path.{_≡_, _∙_, refl, ap, ap₂, sym}
+-- How a page ends, exactly; so it is accepted exactly when every read succeeds and both sums are right.
+use Prim.Native.Nat.{ℕ, _+_, _-_, _<_, _≤_, suc, zero}
+use mathlib.Core.Path.{_≡_, _∙_, refl, ap, ap₂, subst, sym}
 use mathlib.Core.Bool.{true, false}
 use mathlib.Core.List.{List, [], _∷_, _++_, append-assoc}
 use mathlib.Core.Logic.{_↔_}
+use native.Mathlib.Nat.{zero-add}
 use native.Mathlib.Omega.{arith}
-use lib.ListN.{List·getD-append, drop, length, length-drop, set}
+use lib.ListN.{List·getD-append, drop, length, length-append, length-drop, set}
 use lib.Seq.{drop-append-le, sets, sets-eq, take-append-le}
 use Rattle.hardware.specs.declared.Answer.{Answer}
 use Rattle.hardware.specs.declared.Port.{Port}
@@ -16,7 +17,7 @@ use Rattle.transfer.specs.declared.attempt.Sequence.{Sequence}
 use Rattle.i2c.specs.I2c.{locked, transferred}
 use Rattle.page.specs.declared.walk.Form.{Form}
 use Rattle.page.specs.Page.{Filled, FirstSum, SecondSum, byteSeen, page, pageFrom, placeOf, requestAt, sumRight, sumsOf}
-use Rattle.page.specs.Accepted.{Accepted, Reads, ReadsFirst, none, one, withPage}
+use Rattle.page.specs.Accepted.{Accepted, Closes, judged, failed, PageEnds, Reads, ReadsFirst, none, one, withPage}
 
 -- what stands behind a page does not count
 sum-front : (bytes rest : List ℕ) (from at : ℕ) → from ≤ at → at < length bytes → sumRight (bytes ++ rest) from at ≡ sumRight bytes from at
@@ -31,13 +32,9 @@ pub sums-front : (bytes rest : List ℕ) → length bytes ≡ 96 → sumsOf (byt
 unfolding sumsOf
 sums-front bytes rest h = rw (sum-front bytes rest 0 63 (omega arith) (omega arith), sum-front bytes rest 64 95 (omega arith) (omega arith))
 
--- how a page ends whose last n bytes were read: these
-abbrev endOf : ℕ → List ℕ → List ℕ → Filled
-endOf n buffer bytes = record { result = sumsOf (sets buffer (96 - n) bytes); buffer = sets buffer (96 - n) bytes }
-
--- by one byte, and by all
-end-one : (left b : ℕ) (buffer bytes : List ℕ) → suc left ≤ 96 → endOf left (set buffer (placeOf left) b) bytes ≡ endOf (suc left) buffer (b ∷ bytes)
-end-one left b buffer bytes h = rw (place, next)
+-- the buffer with the last n bytes of a page so far as these were read, by one byte
+sets-one : (left b : ℕ) (buffer bytes : List ℕ) → suc left ≤ 96 → sets (set buffer (placeOf left) b) (96 - left) bytes ≡ sets buffer (96 - suc left) (b ∷ bytes)
+sets-one left b buffer bytes h = rw (place, next)
   where
     place : 96 - suc left ≡ placeOf left
     place = omega arith
@@ -45,78 +42,169 @@ end-one left b buffer bytes h = rw (place, next)
     next : 96 - left ≡ suc (placeOf left)
     next = omega arith
 
-end-all : (buffer bytes : List ℕ) → 96 ≤ length buffer → length bytes ≡ 96 → endOf 96 buffer bytes ≡ record { result = sumsOf bytes; buffer = withPage bytes buffer }
-end-all buffer bytes h e = rw (sets-eq bytes buffer 0 (omega arith), e, sums-front bytes (drop 96 buffer) e)
+-- and from the first place on
+sets-first : (buffer bytes : List ℕ) → 96 ≤ length buffer → length bytes ≤ 96 → sets buffer 0 bytes ≡ bytes ++ drop (length bytes) buffer
+sets-first buffer bytes h e = rw (sets-eq bytes buffer 0 (omega arith), zero-add (length bytes))
 
 module _ (q : Sequence) (port : Port) (form : Form) (tries : ℕ) where
   -- a byte for each read
-  length-read : (n : ℕ) (l : List Answer) (bytes : List ℕ) → Reads q port form tries n l bytes → length bytes ≡ n
-  length-read n l bytes none = refl
-  length-read n l bytes (one left b l₁ l₂ bs e r) = ap suc (length-read left l₂ bs r)
+  length-read : (left n : ℕ) (l : List Answer) (bytes : List ℕ) → Reads q port form tries left n l bytes → left + length bytes ≡ n
+  length-read left n l bytes none = omega arith
+  length-read left n l bytes (one m b l₁ l₂ bs e r) = omega (arith, length-read left m l₂ bs r)
 
-  -- reads with success bring the bytes that are left
-  rest-read : (n : ℕ) (buffer : List ℕ) (l m : List Answer) (bytes : List ℕ) → n ≤ 96 → Reads q port form tries n l bytes
-      → (run (pageFrom q port form tries n buffer) (l ++ m)) .status ≡ ended (endOf n buffer bytes)
+  all-read : (left : ℕ) (l : List Answer) (bytes : List ℕ) → Reads q port form tries left 96 l bytes → left ≡ 0 → length bytes ≡ 96
+  all-read left l bytes r e = omega (arith, length-read left 96 l bytes r)
+
+  -- the sums count only where no byte is left
+  closes-by : (a b : R (Unit {0})) (left : ℕ) (l : List Answer) (r : R (Unit {0})) → (left ≡ 0 → a ≡ b)
+      → Closes q port form tries a left l r → Closes q port form tries b left l r
+  closes-by a b left l r e judged = subst (λ z. Closes q port form tries b 0 [] z) (sym (e refl)) judged
+  closes-by a b left l r e (failed n x m d) = failed n x m d
+
+  -- a close with success is that of right sums
+  closes-ok : (sums : R (Unit {0})) (left : ℕ) (l : List Answer) (r : R (Unit {0})) → r ≡ Ok tt → Closes q port form tries sums left l r
+      → (left ≡ 0) × (sums ≡ Ok tt)
+  closes-ok sums left l r o judged = (refl, o)
+  closes-ok sums left l r o (failed n x m d) = let z : _≡_ {A = ℕ} 0 1 = cc in absurd (omega arith)
+
+  -- f: how the last n bytes of a page end
+  record RestEnds (n : ℕ) (buffer : List ℕ) (l : List Answer) (f : Filled) : Type 0 where
+    pub bytes : List ℕ
+    pub left : ℕ
+    pub before : List Answer
+    pub last : List Answer
+    pub behind : List Answer
+    pub parts : l ≡ before ++ (last ++ behind)
+    pub reads : Reads q port form tries left n before bytes
+    pub closes : Closes q port form tries (sumsOf (f .buffer)) left last (f .result)
+    pub stored : f .buffer ≡ sets buffer (96 - n) bytes
+
+  -- where they end so, the run does
+  close-run : (left : ℕ) (buffer : List ℕ) (l m : List Answer) (r : R (Unit {0})) → Closes q port form tries (sumsOf buffer) left l r
+      → (run (pageFrom q port form tries left buffer) (l ++ m)) .status ≡ ended (record { result = r; buffer = buffer })
   unfolding run pageFrom byteSeen EndsOver
-  rest-read n buffer l m bytes h none = refl
-  rest-read n buffer l m bytes h (one left b l₁ l₂ bs e r) =
-      rw append-assoc
-      (run-then _ _ (Ok b) l₁ (l₂ ++ m) (e .0) (e .1) .1
-      ∙ rest-read left (set buffer (placeOf left) b) l₂ m bs (omega arith) r
-      ∙ ap ended (end-one left b buffer bs h))
+  close-run left buffer l m r judged = refl
+  close-run left buffer l m r (failed n x k d) = run-then _ _ (Err x) k m (d .0) (d .1) .1
 
-  -- f is the end of such reads
-  abbrev EndOfReads : ℕ → List ℕ → List Answer → Filled → Type 0
-  EndOfReads n buffer l f = (bytes : List ℕ) × ReadsFirst q port form tries n l bytes × (f ≡ endOf n buffer bytes)
+  rest-run : (n left : ℕ) (buffer bytes : List ℕ) (l last m : List Answer) (r : R (Unit {0})) → n ≤ 96 → Reads q port form tries left n l bytes
+      → Closes q port form tries (sumsOf (sets buffer (96 - n) bytes)) left last r
+      → (run (pageFrom q port form tries n buffer) (l ++ (last ++ m))) .status ≡ ended (record { result = r; buffer = sets buffer (96 - n) bytes })
+  unfolding run pageFrom byteSeen EndsOver
+  rest-run n left buffer bytes l last m r h none c = close-run n buffer last m r c
+  rest-run n left buffer bytes l last m r h (one k b l₁ l₂ bs e d) c =
+      rw (append-assoc, ← sets-one k b buffer bs h)
+      (run-then _ _ (Ok b) l₁ (l₂ ++ (last ++ m)) (e .0) (e .1) .1
+      ∙ rest-run k left (set buffer (placeOf k) b) bs l₂ last m r (omega arith) d (rw (sets-one k b buffer bs h) c))
 
-  -- where the rest ends so with success, it does with a read before it: that has not failed
-  one-ended : (left : ℕ) (buffer : List ℕ) (f : Filled) (l m : List Answer) (r : R ℕ) → suc left ≤ 96 → f .result ≡ Ok tt
-      → EndsOver (transferred port (requestAt form left) (locked q) tries) l r
-      → (run (byteSeen (pageFrom q port form tries left) (placeOf left) buffer r) m) .status ≡ ended f
-      → ((b : List ℕ) → (run (pageFrom q port form tries left b) m) .status ≡ ended f → EndOfReads left b m f)
-      → EndOfReads (suc left) buffer (l ++ m) f
+  -- where the run has ended, they end so
+  one-ended : (n : ℕ) (buffer : List ℕ) (f : Filled) (l m : List Answer) (r : R ℕ) → suc n ≤ 96
+      → EndsOver (transferred port (requestAt form n) (locked q) tries) l r
+      → (run (byteSeen (pageFrom q port form tries n) (placeOf n) buffer r) m) .status ≡ ended f
+      → ((b : List ℕ) → (run (pageFrom q port form tries n b) m) .status ≡ ended f → RestEnds n b m f)
+      → RestEnds (suc n) buffer (l ++ m) f
   unfolding run byteSeen
-  one-ended left buffer f l m (Ok b) h o first second again =
-      let (bytes, reads, end) = again (set buffer (placeOf left) b) second in (
-        b ∷ bytes,
-        record {
-          front = l ++ reads .front;
-          behind = reads .behind;
-          parts = rw append-assoc (ap (λ t. l ++ t) (reads .parts));
-          reads = one left b l (reads .front) bytes first (reads .reads);
-        },
-        end ∙ end-one left b buffer bytes h,
-      )
-  one-ended left buffer f l m (Err e) h o first second again =
-      let w : _≡_ {A = Filled} (record { result = Err e; buffer = buffer }) f = cc in
-      let z : _≡_ {A = ℕ} 0 1 = cc (ap (λ g. g .result) w) in
-      absurd (omega arith)
+  one-ended n buffer f l m (Ok b) h first second again =
+      let w = again (set buffer (placeOf n) b) second in
+      record {
+        bytes = b ∷ w .bytes;
+        left = w .left;
+        before = l ++ w .before;
+        last = w .last;
+        behind = w .behind;
+        parts = rw append-assoc (ap (λ t. l ++ t) (w .parts));
+        reads = one n b l (w .before) (w .bytes) first (w .reads);
+        closes = w .closes;
+        stored = w .stored ∙ sets-one n b buffer (w .bytes) h;
+      }
+  one-ended n buffer f l m (Err e) h first second again =
+      let z : record { result = Err e; buffer = buffer } ≡ f = cc in
+      subst (RestEnds (suc n) buffer (l ++ m)) z
+      (record { bytes = []; left = suc n; before = []; last = l; behind = m; parts = refl; reads = none; closes = failed n e l first; stored = refl })
 
-  rest-ended : (n : ℕ) (buffer : List ℕ) (f : Filled) (l : List Answer) → n ≤ 96 → f .result ≡ Ok tt
-      → (run (pageFrom q port form tries n buffer) l) .status ≡ ended f → EndOfReads n buffer l f
+  rest-ended : (n : ℕ) (buffer : List ℕ) (f : Filled) (l : List Answer) → n ≤ 96 → (run (pageFrom q port form tries n buffer) l) .status ≡ ended f → RestEnds n buffer l f
   unfolding run pageFrom
-  rest-ended zero buffer f l h o e = ([], record { front = []; behind = l; parts = refl; reads = none }, cc)
-  rest-ended (suc left) buffer f l h o e =
+  rest-ended zero buffer f l h e =
+      let z : record { result = sumsOf buffer; buffer = buffer } ≡ f = cc in
+      subst (RestEnds 0 buffer l) z
+      (record { bytes = []; left = 0; before = []; last = []; behind = l; parts = refl; reads = none; closes = judged; stored = refl })
+  rest-ended (suc n) buffer f l h e =
       let (r, front, behind, parts, first, second) = run-parted _ _ l f e in
-      rw parts (one-ended left buffer f front behind r h o first second (λ b d. rest-ended left b f behind (omega arith) o d))
+      rw parts (one-ended n buffer f front behind r h first second (λ b d. rest-ended n b f behind (omega arith) d))
+
+  -- of a whole page the sums are those of the bytes that were read
+  all-sums : (left : ℕ) (buffer bytes : List ℕ) (l : List Answer) → Reads q port form tries left 96 l bytes → left ≡ 0
+      → sumsOf (bytes ++ drop (length bytes) buffer) ≡ sumsOf bytes
+  all-sums left buffer bytes l r e = sums-front bytes _ (all-read left l bytes r e)
+
+  -- How a page ends, for every list of answers
+  pub page-ends-as : (buffer : List ℕ) (l : List Answer) (f : Filled) → 96 ≤ length buffer
+      → ((run (page q port form tries buffer) l) .status ≡ ended f) ↔ PageEnds q port form tries buffer l f
+  unfolding page
+  page-ends-as buffer l f h = (so, back)
+    where
+      so : (run (page q port form tries buffer) l) .status ≡ ended f → PageEnds q port form tries buffer l f
+      so e =
+          let w = rest-ended 96 buffer f l (omega arith) e in
+          let few : length (w .bytes) ≤ 96 = omega (arith, length-read (w .left) 96 (w .before) (w .bytes) (w .reads)) in
+          let held : f .buffer ≡ w .bytes ++ drop (length (w .bytes)) buffer = w .stored ∙ sets-first buffer (w .bytes) h few in
+          record {
+            bytes = w .bytes;
+            left = w .left;
+            before = w .before;
+            last = w .last;
+            behind = w .behind;
+            parts = w .parts;
+            reads = w .reads;
+            closes = closes-by _ _ (w .left) (w .last) (f .result) (λ z. ap sumsOf held ∙ all-sums (w .left) buffer (w .bytes) (w .before) (w .reads) z) (w .closes);
+            stored = held;
+          }
+
+      back : PageEnds q port form tries buffer l f → (run (page q port form tries buffer) l) .status ≡ ended f
+      back w =
+          let few : length (w .bytes) ≤ 96 = omega (arith, length-read (w .left) 96 (w .before) (w .bytes) (w .reads)) in
+          let first = sets-first buffer (w .bytes) h few in
+          let c = closes-by _ (sumsOf (sets buffer 0 (w .bytes))) (w .left) (w .last) (f .result) (λ z. sym (ap sumsOf first ∙ all-sums (w .left) buffer (w .bytes) (w .before) (w .reads) z)) (w .closes) in
+          ap (λ t. (run (page q port form tries buffer) t) .status) (w .parts)
+          ∙ rest-run 96 (w .left) buffer (w .bytes) (w .before) (w .last) (w .behind) (f .result) (omega arith) (w .reads) c
+          ∙ ap (λ b. ended (record { result = f .result; buffer = b })) (first ∙ sym (w .stored))
+
+  -- the buffer keeps its length
+  pub page-length : (buffer : List ℕ) (l : List Answer) (f : Filled) → 96 ≤ length buffer → PageEnds q port form tries buffer l f → length (f .buffer) ≡ length buffer
+  page-length buffer l f h w =
+      ap length (w .stored)
+      ∙ length-append (w .bytes) (drop (length (w .bytes)) buffer)
+      ∙ rw length-drop (omega (arith, length-read (w .left) 96 (w .before) (w .bytes) (w .reads)))
 
   -- where every read succeeds, the sums are judged, and the buffer holds the bytes
   pub page-read : (buffer bytes : List ℕ) (l : List Answer) → 96 ≤ length buffer → ReadsFirst q port form tries 96 l bytes
       → (run (page q port form tries buffer) l) .status ≡ ended (record { result = sumsOf bytes; buffer = withPage bytes buffer })
-  unfolding page
   page-read buffer bytes l h r =
-      rw (r .parts) (rest-read 96 buffer (r .front) (r .behind) bytes (omega arith) (r .reads))
-      ∙ ap ended (end-all buffer bytes h (length-read 96 (r .front) bytes (r .reads)))
+      page-ends-as buffer l _ h .1
+      (record {
+        bytes = bytes;
+        left = 0;
+        before = r .front;
+        last = [];
+        behind = r .behind;
+        parts = r .parts;
+        reads = r .reads;
+        closes = judged;
+        stored = ap (λ n. bytes ++ drop n buffer) (sym (all-read 0 (r .front) bytes (r .reads) refl));
+      })
 
   -- A page is accepted exactly when every read succeeds and both sums are right of the bytes
   pub page-accepted : (buffer after : List ℕ) (l : List Answer) → 96 ≤ length buffer
       → ((run (page q port form tries buffer) l) .status ≡ ended (record { result = Ok tt; buffer = after })) ↔ Accepted q port form tries buffer l after
-  unfolding page
   page-accepted buffer after l h = (
     λ e.
-        let (bytes, reads, end) = rest-ended 96 buffer _ l (omega arith) refl e in
-        let w = end ∙ end-all buffer bytes h (length-read 96 (reads .front) bytes (reads .reads)) in
-        record { bytes = bytes; read = reads; sums = sym (ap (λ f. f .result) w); stored = ap (λ f. f .buffer) w },
+        let w = page-ends-as buffer l _ h .0 e in
+        let (none-left, sums) = closes-ok _ (w .left) (w .last) _ refl (w .closes) in
+        record {
+          bytes = w .bytes;
+          read = record { front = w .before; behind = w .last ++ w .behind; parts = w .parts; reads = rw none-left at (w .reads) };
+          sums = sums;
+          stored = w .stored ∙ ap (λ n. w .bytes ++ drop n buffer) (all-read (w .left) (w .before) (w .bytes) (w .reads) none-left);
+        },
     λ a. page-read buffer (a .bytes) l h (a .read) ∙ ap₂ (λ r b. ended (record { result = r; buffer = b })) (a .sums) (sym (a .stored)),
   )
 

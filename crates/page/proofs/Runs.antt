@@ -1,25 +1,27 @@
 -- Whole calls of a page: for every port, number of attempts and buffer that are accepted and every list of answers the
 -- library's run is that of the definition, the count of the attempts in it beside the result. A state that was handed out is
--- not refused at its next step. Each successful acquire gets one release call, and the accesses show the attempts.
+-- not refused at its next step. Each successful acquire gets one release call, and the accesses show the attempts. A number of
+-- the state falls at every accepted step, whatever buffer is lent.
 use Prim.Native.Nat.{ℕ, _<_, _≤_, suc, zero}
 use mathlib.Core.Path.{_≡_, refl, ap, _∙_, sym, subst}
 use mathlib.Core.Bool.{Bool, true, false}
 use mathlib.Core.List.{List, [], _∷_}
+use native.Mathlib.Omega.{arith}
 use lib.Dec.{leb}
 use lib.ListN.{length}
 use Rattle.hardware.specs.declared.Access.{Access}
 use Rattle.hardware.specs.declared.Answer.{Answer}
 use Rattle.hardware.specs.declared.Meter.{Meter}
 use Rattle.hardware.specs.declared.Port.{Port}
-use Rattle.hardware.specs.Asked.{Asked, no, yes, andThen, question, openPort, fits, admitting, InType}
+use Rattle.hardware.specs.Asked.{Asked, no, yes, andThen, question, openPort, fits, admitting}
 use Rattle.hardware.specs.Lent.{goes, lent, asked}
 use Rattle.hardware.specs.Prog.{Prog, R, Ok, Err, Counted, blank, tally}
 use Rattle.hardware.specs.Promise.{Keeps}
-use Rattle.hardware.specs.Runs.{Run, run, runAsked, Awaited, AwaitedIn, driven, ended, meterIn, counted, leftAfter, leftAskedAfter, Exchange, answersOf, AllKept, Refuses, Asks, IfYes, Lasts}
+use Rattle.hardware.specs.Runs.{run, runAsked, Awaited, AwaitedIn, driven, ended, meterIn, counted, leftAfter, leftAskedAfter, Exchange, answersOf, AllKept, Refuses, Asks, IfYes, Lasts, Unrefused}
 use Rattle.hardware.proofs.Laws.{run-tally, StepsOn, is-true, opened-runs, refused-runs}
 use Rattle.hardware.specs.Longest.{overAnswers, longest, lasting}
 use Rattle.hardware.proofs.Ends.{run-ends, ask-ends, ends-tally}
-use Rattle.hardware.proofs.Longest.{Falls, lasting-falls, Accepts, steps-few, longest-tally, longest-same}
+use Rattle.hardware.proofs.Longest.{Falls, lasting-falls, number-few, longest-few, longest-tally, longest-same}
 use Rattle.bus.specs.Layout.{layoutOf}
 use Rattle.transfer.specs.declared.attempt.Sequence.{Sequence}
 use Rattle.i2c.specs.I2c.{standard}
@@ -39,6 +41,7 @@ use Rattle.page.specs.declared.calls.PageTold.the-variants.{Ask, End, Re
 use Rattle.page.specs.Page.{Filled, placeOf, byteSeen, pageFrom, page}
 use Rattle.page.specs.Walk.{restPage}
 use Rattle.page.specs.Calls.{bufferFits, openForm, openPage, openQsfpPage, steppedPage, stepPage, saidPage, standsPage, PageAt, saidAt, followsBuffer, followsPage}
+use Rattle.page.specs.Runs.{formRun, pageLeft, FollowsLent}
 use Rattle.page.proofs.Ends.{PAGE-STEPS, page-ends, pageAfter, page-rest-ends}
 use Rattle.page.proofs.Spreads.{page-holds}
 
@@ -88,13 +91,6 @@ unfolding lent asked andThen question Refuses
 short-refused buffer (no n) e f p z = tt
 short-refused buffer (yes port) false f p z = tt
 short-refused buffer (yes port) true f p z = rw z tt
-
--- what an opening of either form comes to over a list of answers; the count beside the result is that of the attempts that
--- the run begins
-abbrev pub formRun : Form → ℕ → ℕ → ℕ → ℕ → List ℕ → List Answer → Asked (Run (Counted Filled))
-formRun form family device lan attempts buffer l =
-    andThen (openPort family device lan) (λ port. question (leb attempts 255) 4 (question (bufferFits buffer) 9
-    (yes (counted (meterIn blank (page standard port form attempts buffer) l) (run (page standard port form attempts buffer) l)))))
 
 module _ (form : Form) (family device lan attempts : ℕ) (buffer : List ℕ) (t : PageTold) where
   pub page-runs : saidPage t buffer ≡ lent buffer (andThen (openPort family device lan) (openForm form attempts buffer)) → (l : List Answer)
@@ -162,10 +158,6 @@ rest-same : (q : Sequence) (port : Port) (form : Form) (tries : ℕ) (s : Page) 
 unfolding restPage restRequest valued
 rest-same q port form tries s b c a = longest-same _ _ _ (λ r. seen-same _ (placeOf (s .left)) b c (from-same q port form tries (s .left)) _)
 
--- the accesses left, at most, by the state alone
-unfoldable pub pageLeft : PageTold → ℕ
-pageLeft t = lasting (asked (saidPage t []))
-
 said-same : (t : PageTold) (b : List ℕ) → lasting (asked (saidPage t b)) ≡ pageLeft t
 unfolding pageLeft saidPage asked lasting longest
 said-same (Ask x (Going port q form tries m s)) b =
@@ -174,28 +166,47 @@ said-same (Ask x Over) b = refl
 said-same (End p m) b = refl
 said-same (Refused q) b = refl
 
--- what an accepted step told, u, follows what was told before it, as the step promises, where it was lent a buffer of its own
-pub record FollowsLent (t : PageTold) (a : Answer) (u : PageTold) : Type 0 where
-  pub given : List ℕ
-  pub then : List ℕ
-  pub follows : followsBuffer t given a u then
-  pub fits : bufferFits given ≡ true
-  pub awaited : AwaitedIn (asked (saidPage t given)) (a ∷ [])
-  pub typed : InType a
-
 -- so the number falls whatever buffer is lent
 pub page-lent-falls : (t u : PageTold) (a : Answer) → standsPage t → FollowsLent t a u → standsPage u × (pageLeft u < pageLeft t)
 page-lent-falls t u a h k =
     let on = buffer-on t (k .given) a u (k .then) h (k .fits) (k .follows) (k .awaited) in
     (on .1 .0, rw (← said-same u (k .then), ← said-same t (k .given)) (page-falls (record { told = t; buffer = k .given }) (record { told = u; buffer = k .then }) a (h, k .fits) (k .follows) (k .awaited) (k .typed)))
 
--- from any state that passes question 10, whoever made it, the call takes at most so many steps more, with a buffer that only the
--- steps alter
-pub page-lasts : (x : Access) (port : Port) (q : Sequence) (form : Form) (tries : ℕ) (m : Meter) (s : Page) (buffer : List ℕ) (ks : List (Exchange PageAt))
-    → standsPage (Ask x (Going port q form tries m s)) → bufferFits buffer ≡ true
-    → AllKept (Accepts saidAt followsPage) (record { told = Ask x (Going port q form tries m s); buffer = buffer }) ks
-    → Lasts saidAt (record { told = Ask x (Going port q form tries m s); buffer = buffer }) ks (suc (pageAfter (port .family) form tries s))
+-- a telling that is no refusal with one buffer is none with another
+unrefused-any : (t : PageTold) (b c : List ℕ) → Unrefused (asked (saidPage t b)) → Unrefused (asked (saidPage t c))
 unfolding saidPage asked IfYes
-page-lasts x port q form tries m s buffer ks h f k =
-    steps-few saidAt followsPage standsAt page-on (record { told = Ask x (Going port q form tries m s); buffer = buffer }) ks (suc (pageAfter (port .family) form tries s)) (h, f) k
-    (ask-ends x _ (pageAfter (port .family) form tries s) (λ a. ends-tally m _ _ (page-rest-ends q port form tries s buffer a)))
+unrefused-any (Ask x (Going port q form tries m s)) b c h = tt
+unrefused-any (Ask x Over) b c h = h
+unrefused-any (End p m) b c h = tt
+unrefused-any (Refused q) b c h = h
+
+unrefused-after : (q : Asked (Prog (Counted Filled))) (a : Answer) → IfYes Asks q → Unrefused (leftAskedAfter q a)
+unfolding IfYes leftAskedAfter
+unrefused-after (no n) a h = h
+unrefused-after (yes p) a h = tt
+
+abbrev StandsLent : PageTold → Type 0
+StandsLent t = standsPage t × Unrefused (asked (saidPage t []))
+
+lent-on : (t u : PageTold) (a : Answer) → StandsLent t → FollowsLent t a u → StandsLent u × (pageLeft u < pageLeft t)
+lent-on t u a h k =
+    let on = buffer-on t (k .given) a u (k .then) (h .0) (k .fits) (k .follows) (k .awaited) in
+    let f = page-lent-falls t u a (h .0) k in
+    ((f .0, unrefused-any u (k .then) [] (subst Unrefused (sym (on .0)) (unrefused-after (asked (saidPage t (k .given))) a (on .2)))), f .1)
+
+lent-over : (t : PageTold) → StandsLent t → pageLeft t ≡ 0 → IfYes (λ p. Asks p → ⊥) (asked (saidPage t []))
+unfolding pageLeft saidPage asked lasting longest IfYes Asks
+lent-over (Ask x (Going port q form tries m s)) h e = absurd (omega (arith, e))
+lent-over (Ask x Over) h e = absurd (h .1)
+lent-over (End p m) h e = λ k. k
+lent-over (Refused q) h e = absurd (h .1)
+
+-- so from any state that passes question 10, whoever made it, the call takes at most so many steps more, each lent a buffer of its
+-- own
+pub page-lasts-lent : (x : Access) (port : Port) (q : Sequence) (form : Form) (tries : ℕ) (m : Meter) (s : Page) (ks : List (Exchange PageTold))
+    → standsPage (Ask x (Going port q form tries m s)) → AllKept FollowsLent (Ask x (Going port q form tries m s)) ks
+    → Lasts (λ t. asked (saidPage t [])) (Ask x (Going port q form tries m s)) ks (suc (pageAfter (port .family) form tries s))
+unfolding pageLeft saidPage asked lasting IfYes
+page-lasts-lent x port q form tries m s ks h k =
+    number-few (λ t. asked (saidPage t [])) FollowsLent StandsLent pageLeft lent-on lent-over _ ks (suc (pageAfter (port .family) form tries s)) (h, tt)
+    (longest-few _ _ (ask-ends x _ (pageAfter (port .family) form tries s) (λ a. ends-tally m _ _ (page-rest-ends q port form tries s [] a)))) k

@@ -22,5 +22,5 @@ BothCheck Sff8472 bytes = Checks bytes 0 63 × Checks bytes 64 95
 BothCheck Sff8636 bytes = Checks bytes 128 191 × Checks bytes 192 223
 
 -- at each place i from one to another a buffer holds byte o + i
-unfoldable pub Holds : List ℕ → Bytes → ℕ → ℕ → ℕ → Type 0
-Holds buffer bytes o from to = (i : ℕ) → from ≤ i → i ≤ to → getD buffer i 0 ≡ bytes (o + i)
+unfoldable pub Carries : List ℕ → Bytes → ℕ → ℕ → ℕ → Type 0
+Carries buffer bytes o from to = (i : ℕ) → from ≤ i → i ≤ to → getD buffer i 0 ≡ bytes (o + i)

@@ -5,6 +5,7 @@ use crate::host;
 use crate::host::Host;
 use crate::methods;
 use crate::modules;
+use crate::pages;
 use crate::parse;
 use crate::plain;
 use crate::scripts;
@@ -27,7 +28,7 @@ fn device(d: u32) -> u16 {
 // Whether the number names a call.
 fn known(call: u32) -> bool {
     match call {
-        0..=8 | 10..=17 | 20..=23 => true,
+        0..=8 | 10..=17 | 20..=25 => true,
         _ => false,
     }
 }
@@ -109,6 +110,8 @@ fn call(words: &[u32; 45]) -> Summary {
         21 => modules::identify_qsfp(h, family, device, lan),
         22 => modules::soft_rate_select(h, family, device, lan, a == 1),
         23 => methods::method(h, family, device, lan, a, words[5], words[6]),
+        24 => pages::page(h, family, device, lan, a),
+        25 => pages::qsfp_page(h, family, device, lan, a),
         _ => transfer(words),
     }
 }

@@ -1,4 +1,5 @@
 // A rule of the lines: I2CCTL answers as if a module that acknowledges every byte were on its lines.
+use crate::rng;
 
 // Added to the register's number on a line of the list.
 pub const MARK: u32 = 0x8000_0000;
@@ -11,7 +12,8 @@ const LATE: u32 = 0x1_5f5c;
 // The rule, the reads of its register so far, and what the lines have come to. slot: 0 before a START and after a STOP, else
 // the SCL pulse, 1 to 8 for a byte's bits and 9 for its acknowledgement. since: the reads since SCL rose. first: the byte is
 // the address after a START. sends: that address asks the module to send. The queue of bytes that it sends: left is their
-// number, the next is the lowest byte of w1.
+// number, the next is the lowest byte of w1. paged: they are a page, whose bytes are made one by one from the stream w2, with
+// the sum of its part so far in total; in w3 which check bytes are wrong.
 pub struct Lines {
     pub used: bool,
     pub register: u32,
@@ -33,6 +35,8 @@ pub struct Lines {
     pub w1: u32,
     pub w2: u32,
     pub w3: u32,
+    pub paged: bool,
+    pub total: u32,
 }
 
 pub(crate) fn unused() -> Lines {
@@ -57,6 +61,37 @@ pub(crate) fn unused() -> Lines {
         w1: 0,
         w2: 0,
         w3: 0,
+        paged: false,
+        total: 0,
+    }
+}
+
+// The page's next byte, of the stream.
+fn drawn(l: Lines) -> Lines {
+    let x = rng::next(l.w2);
+    let mut next = l;
+    next.w2 = x;
+    next.w1 = rng::swapped(x) % 256;
+    next.total = (l.total % 256 + next.w1) % 256;
+    next
+}
+
+// A check byte, with what it is too high; the stream goes on, and a part begins.
+fn checked(l: Lines, more: u32) -> Lines {
+    let mut next = l;
+    next.w2 = rng::next(l.w2);
+    next.w1 = (l.total % 256 + more % 2) % 256;
+    next.total = 0;
+    next
+}
+
+// With so many bytes left.
+fn paged(l: Lines) -> Lines {
+    let n = l.left;
+    match n {
+        33 => checked(l, l.w3),
+        1 => checked(l, l.w3 / 2),
+        _ => drawn(l),
     }
 }
 
@@ -74,6 +109,13 @@ pub(crate) fn queued(l: Lines, call: u32, a1: u32, a2: u32, a3: u32) -> Lines {
             next.left = 8;
             next.w1 = a2;
             next.w2 = a3;
+        }
+        24..=25 => {
+            next.left = 96;
+            next.paged = true;
+            next.w2 = a2;
+            next.w3 = a3;
+            next = paged(next);
         }
         _ => {}
     }
@@ -157,6 +199,9 @@ fn sent(l: Lines) -> Lines {
     let mut next = l;
     if 0 < l.left {
         next.left = l.left - 1;
+    }
+    if l.paged {
+        return paged(next);
     }
     next.w1 = shifted(l.w1, l.w2);
     next.w2 = shifted(l.w2, l.w3);

@@ -6,6 +6,7 @@ mod host;
 mod lines;
 mod methods;
 mod modules;
+mod pages;
 mod parse;
 mod phrases;
 mod plain;

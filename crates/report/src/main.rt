@@ -5,6 +5,7 @@ mod digits;
 mod ends;
 mod faults;
 mod files;
+mod pages;
 mod print;
 mod record;
 mod settings;
@@ -25,7 +26,15 @@ fn identified(p: Port, s: Settings, path: &[u8], image: Image) {
     let before = start::described(family, s, a0, a2);
     let v = s.values;
     let run = onbench::identify_at_once(v[settings::FAMILY], p.device, v[settings::PORT], before);
-    record::all(path, image, p, before, run);
+    let mut page = [0u8; 96];
+    let read = pages::read(
+        v[settings::FAMILY],
+        v[settings::PORT],
+        p,
+        run.state,
+        &mut page,
+    );
+    record::all(path, p, before, run, read, page);
 }
 
 fn read(p: Port, s: Settings) {

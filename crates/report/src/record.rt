@@ -1,5 +1,5 @@
 // The record of one image, a field to a line.
-use crate::files::Image;
+use crate::pages::PageEnd;
 use crate::print;
 use bench::Bench;
 use bench::Page;
@@ -9,25 +9,10 @@ use hardware::Port;
 use identify::walk::Identified;
 use onbench::Ending;
 use onbench::Run;
+use page::sums::Paged;
 use sfp::Identity;
 ghost use Prim.Native.Nat.{_≤_};
 ghost use lib.ListN.{length};
-
-// Bytes 63 and 95 of A0 are the sums of the bytes before them, the second from byte 64 on.
-fn sums(a0: [u8; 256]) {
-    let base = sfp::sum::sum(&a0[..63]) == a0[63];
-    let extended = sfp::sum::sum(&a0[64..95]) == a0[95];
-    text_of_sums(base, extended);
-}
-
-fn text_of_sums(base: bool, extended: bool) {
-    print::text(b"sums        ");
-    if base {
-        print::either(extended, b"both right\n", b"extended wrong\n");
-    } else {
-        print::either(extended, b"base wrong\n", b"both wrong\n");
-    }
-}
 
 // The length without the blanks at the end.
 fn trimmed(bytes: &[u8]) -> usize
@@ -49,14 +34,46 @@ fn field(bytes: &[u8]) {
 }
 
 // Vendor, part and serial number.
-fn names<'a>(a0: &'a [u8; 256], a2: &'a [u8; 256]) {
+fn names(page: [u8; 96]) {
     print::text(b"vendor      ");
-    field(bench::view::view(a0, a2, 0xa0, 20, 16));
+    field(&page[20..36]);
     print::text(b"\npart        ");
-    field(bench::view::view(a0, a2, 0xa0, 40, 16));
+    field(&page[40..56]);
     print::text(b"\nserial      ");
-    field(bench::view::view(a0, a2, 0xa0, 68, 16));
+    field(&page[68..84]);
     print::text(b"\n");
+}
+
+fn made(n: u32) {
+    print::decimal(n as u64);
+    print::text(b" transfers");
+}
+
+// The texts, or the number of the failure instead of them.
+fn paged(e: Paged, n: u32, page: [u8; 96]) {
+    print::text(b"page        ");
+    match e {
+        Paged::Ok => {
+            made(n);
+            print::text(b", both sums right\n");
+            names(page);
+        }
+        Paged::FirstSum | Paged::SecondSum | Paged::Err(_) => {
+            print::text(b"failed ");
+            print::decimal(page::sums::paged_number(e) as u64);
+            print::text(b" after ");
+            made(n);
+            print::text(b"\n");
+        }
+    }
+}
+
+// Only the first is met: the port was opened before, and the buffer has 96 bytes.
+fn texts(r: PageEnd, page: [u8; 96]) {
+    match r {
+        PageEnd::Over(e, n) => paged(e, n, page),
+        PageEnd::Unended => print::text(b"the page's call did not end\n"),
+    }
 }
 
 fn port(p: Port) {
@@ -174,17 +191,14 @@ fn end(p: Port, before: Bench, d: BenchState) {
     offsets(after.a0, after.a2);
 }
 
-pub(crate) fn all(path: &[u8], image: Image, p: Port, before: BenchState, r: Run) {
-    let a0 = image.a0;
-    let a2 = image.a2;
+pub(crate) fn all(path: &[u8], p: Port, before: BenchState, r: Run, read: PageEnd, page: [u8; 96]) {
     print::text(b"image       ");
     print::shown(print::STDOUT, path);
     print::text(b"\n");
-    names(&a0, &a2);
-    sums(a0);
     port(p);
     start(before);
     let h = r.ending;
     ending(p, h);
     end(p, before.bench, r.state);
+    texts(read, page);
 }

@@ -61,8 +61,13 @@ pub struct Host {
 
 impl Host {
     pub fn new(start: &Start) -> Self {
-        let Start { port, word, module, answers } = start;
-        let wired = Wired { layout: layout(port.family), word: *word, module: module.clone(), both: 0 };
+        let Start { port, word, module, .. } = start;
+        Host::at(start, Wired { layout: layout(port.family), word: *word, module: module.clone(), both: 0 })
+    }
+
+    /// The lines as an earlier call left them.
+    pub fn at(start: &Start, wired: Wired) -> Self {
+        let Start { port, answers, .. } = start;
         Host {
             wired,
             choice: Choice::new(*answers),

@@ -176,6 +176,7 @@ impl Layout {
 }
 
 /// I2CCTL with the module at the lines.
+#[derive(Clone)]
 pub struct Wired {
     pub layout: Layout,
     pub word: u32,

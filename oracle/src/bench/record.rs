@@ -1,14 +1,17 @@
 //! The record that the main job prints of an image, by the original's
-//! `identify` with the bench module. A case is the words of the command line.
+//! `identify` and then its `read_byte` for a page, with the bench module. A
+//! case is the words of the command line.
 
 use std::fmt::Write;
 
+use super::host::Host;
 use super::module::{layout, Module, Receiver, Stage, Wired};
 use super::start::Start;
 use super::{run, End};
 use crate::case::FAMILIES;
-use crate::driver::{Family, Port};
+use crate::driver::{i2c, Error, Family, Port};
 use crate::fresh::Choice;
+use crate::page;
 
 const NAMES: [&str; 5] = ["82599", "X540", "X550", "X552", "X553"];
 const PAGES: [&str; 2] = ["A0", "A2"];
@@ -94,30 +97,14 @@ fn text(bytes: &[u8]) -> String {
     shown.trim_end_matches(' ').into()
 }
 
-/// Whether the byte after these is the low eight bits of their sum.
-fn sum_right(bytes: &[u8], stored: u8) -> bool {
-    bytes.iter().fold(0, |sum: u8, b| sum.wrapping_add(*b)) == stored
-}
-
 fn or(yes: bool, one: &'static str, other: &'static str) -> &'static str {
     if yes { one } else { other }
 }
 
 fn record(image: &str, start: &Start, end: &End) -> Result<String, std::fmt::Error> {
     let Start { port, word, module, .. } = start;
-    let a0 = &module.pages[0];
     let mut out = String::new();
     writeln!(out, "image       {image}")?;
-    writeln!(out, "vendor      {}", text(&a0[20..36]))?;
-    writeln!(out, "part        {}", text(&a0[40..56]))?;
-    writeln!(out, "serial      {}", text(&a0[68..84]))?;
-    let sums = match (sum_right(&a0[..63], a0[63]), sum_right(&a0[64..95], a0[95])) {
-        (true, true) => "both right",
-        (true, false) => "extended wrong",
-        (false, true) => "base wrong",
-        (false, false) => "both wrong",
-    };
-    writeln!(out, "sums        {sums}")?;
     let family = NAMES[FAMILIES.iter().position(|f| *f == port.family).unwrap_or(0)];
     writeln!(out, "port        {family}, port number {}, PCI device {:04x}", port.lan, port.device)?;
     let r = &module.receiver;
@@ -147,7 +134,30 @@ fn record(image: &str, start: &Start, end: &End) -> Result<String, std::fmt::Err
     let [o0, o2] = after.offsets;
     let stage = name(after.receiver.stage);
     writeln!(out, "module      {stage}, {released}, bytes {bytes}, a0 {o0:02x}, a2 {o2:02x}")?;
+    texts(&mut out, start, end)?;
     Ok(out)
+}
+
+/// The page read after the identification, on a copy of the module: its texts,
+/// or the number of the failure.
+fn texts(out: &mut String, start: &Start, end: &End) -> std::fmt::Result {
+    let mut host = Host::at(start, end.wired.clone());
+    let mut buffer = [0; page::BYTES];
+    i2c::probe_transfers();
+    let read = page::read(&mut host, start.port, 0, i2c::attempts(start.port), &mut buffer);
+    let number = match read {
+        Ok(()) => page::judged(&buffer),
+        Err(Error::I2c { .. }) => 23,
+        Err(e) => panic!("under the premises no page ends with {e:?}"),
+    };
+    let transfers = i2c::probe_transfers();
+    if number != 0 {
+        return writeln!(out, "page        failed {number} after {transfers} transfers");
+    }
+    writeln!(out, "page        {transfers} transfers, both sums right")?;
+    writeln!(out, "vendor      {}", text(&buffer[20..36]))?;
+    writeln!(out, "part        {}", text(&buffer[40..56]))?;
+    writeln!(out, "serial      {}", text(&buffer[68..84]))
 }
 
 /// Each case of a list, a line that begins with `$ `, and its record.

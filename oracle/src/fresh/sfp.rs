@@ -1,10 +1,13 @@
 //! Fresh cases of `sfp.rs`: as the locked transfers, with chosen bytes, and
-//! the methods of its record.
+//! the methods of its record; and pages.
 
 use super::*;
 
 impl Choice {
     pub fn module_call(&mut self) -> Case {
+        if self.percent(4) {
+            return self.page_call();
+        }
         let function = match self.below(9) {
             0..=3 => IDENTIFY,
             4..=5 => IDENTIFY_QSFP,
@@ -25,6 +28,15 @@ impl Choice {
         if function != METHOD {
             self.bus(&mut case);
         }
+        case
+    }
+
+    /// Most with the sums right.
+    fn page_call(&mut self) -> Case {
+        let function = self.one(&[PAGE, QSFP_PAGE]);
+        let mut case = self.at_port(function);
+        case.args = [self.attempts(), self.word(), self.one(&[0, 0, 0, 0, 1, 2, 3])];
+        self.bus(&mut case);
         case
     }
 

@@ -72,7 +72,7 @@ impl Choice {
         self.one(&[byte, byte, byte, byte, byte, 0, 0x80, 0xff])
     }
 
-    fn attempts(&mut self) -> u32 {
+    pub fn attempts(&mut self) -> u32 {
         match self.below(100) {
             0..=2 => 0,
             3..=39 => 1,
@@ -109,11 +109,15 @@ impl Choice {
         let family = case.family();
         let locked = match case.function {
             SCRIPT => false,
-            IDENTIFY..=RATE_SELECT => true,
+            IDENTIFY..=QSFP_PAGE => true,
             _ => case.args[2] == 1,
         };
         // Reads of I2CCTL that most calls make.
-        let reads = if case.function < IDENTIFY { 120 } else { 500 };
+        let reads = match case.function {
+            PAGE | QSFP_PAGE => 8_000,
+            IDENTIFY.. => 500,
+            _ => 120,
+        };
         let mut drawn = Vec::new();
         if locked {
             drawn.extend(self.transfer_locks(family, case.lan));

@@ -1,4 +1,4 @@
-//! The groups of `sfp.rs`, which come last.
+//! The groups of `sfp.rs`.
 
 use super::transfers::*;
 use super::*;
@@ -71,7 +71,7 @@ impl Plan {
 }
 
 /// Attempts at any other byte that is read.
-fn attempts(family: Family) -> u32 {
+pub fn attempts(family: Family) -> u32 {
     i2c::attempts(Port { family, device: 0, lan: 0 }) as u32
 }
 
@@ -122,14 +122,14 @@ impl List {
 
 /// A request of a call that goes well: its first and last access of I2CCTL,
 /// and the number of the first among the reads of I2CCTL.
-struct Request {
-    first: usize,
-    last: usize,
-    number: u32,
+pub struct Request {
+    pub first: usize,
+    pub last: usize,
+    pub number: u32,
 }
 
 /// A request has its own locks, so that other registers are accessed between.
-fn requests(case: &Case) -> Vec<Request> {
+pub fn requests(case: &Case) -> Vec<Request> {
     let mut all: Vec<Request> = Vec::new();
     let (mut apart, mut reads) = (true, 0);
     for (at, access) in log(case).iter().enumerate() {
@@ -156,7 +156,7 @@ fn attempt_reads(case: &Case) -> u32 {
 }
 
 /// All of `attempts` attempts from the read `number` on not acknowledged.
-fn refused(case: &Case, number: u32, attempts: u32) -> Case {
+pub fn refused(case: &Case, number: u32, attempts: u32) -> Case {
     sda_high(case, number, attempts * attempt_reads(case))
 }
 

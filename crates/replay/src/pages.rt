@@ -1,0 +1,114 @@
+// The calls of a page, each run to its end. The sum over its buffer and the transfers made go with every result.
+use crate::calls;
+use crate::calls::Summary;
+use crate::host;
+use crate::host::Host;
+use crate::rng;
+use page::calls::PageTold;
+use page::sums::Paged;
+
+// Byte i of the buffer begins as 255 - i.
+fn fill(buffer: &mut [u8]) {
+    let mut v = 255u8;
+    let mut i = 0;
+    while i < buffer.len() {
+        buffer[i] = v;
+        v = std::num::wrapping_sub_u8(v, 1);
+        i += 1;
+    }
+}
+
+fn sum(buffer: &[u8]) -> u32 {
+    let mut h = rng::BASIS;
+    let mut i = 0;
+    while i < buffer.len() {
+        h = rng::fnv(h, buffer[i] as u32);
+        i += 1;
+    }
+    h
+}
+
+fn ended(h: Host, p: Paged) -> Summary {
+    match p {
+        Paged::Err(e) => calls::failed(h, e),
+        Paged::Ok | Paged::FirstSum | Paged::SecondSum => {
+            let mut summary = calls::good(h, 0, 0, 0);
+            summary.code = page::sums::paged_number(p) as u32;
+            summary
+        }
+    }
+}
+
+fn counted(h: Host, p: Paged, made: u32) -> Summary {
+    let mut summary = ended(h, p);
+    summary.v3 = made;
+    summary
+}
+
+fn run(h: Host, first: PageTold, buffer: &mut [u8]) -> Summary {
+    let mut host = h;
+    let mut told = first;
+    let mut left = calls::BUDGET;
+    while 0 < left {
+        match told {
+            PageTold::Ask(x, s) => {
+                let p = host::answer(host, x);
+                let a = p.answer;
+                host = p.host;
+                told = page::calls::page_step(s, buffer, a);
+            }
+            PageTold::End(p, m) => return counted(host, p, m.transfers),
+            PageTold::Refused(_) => return calls::unended(host),
+        }
+        left -= 1;
+    }
+    calls::unended(host)
+}
+
+fn summed(h: Host, first: PageTold, buffer: &mut [u8]) -> Summary {
+    let mut summary = run(h, first, buffer);
+    summary.v2 = sum(buffer);
+    summary
+}
+
+fn page_in(
+    h: Host,
+    family: u32,
+    device: u16,
+    lan: u32,
+    attempts: u32,
+    buffer: &mut [u8],
+) -> Summary {
+    fill(buffer);
+    summed(
+        h,
+        page::calls::page_open(family, device, lan, attempts, buffer),
+        buffer,
+    )
+}
+
+fn qsfp_page_in(
+    h: Host,
+    family: u32,
+    device: u16,
+    lan: u32,
+    attempts: u32,
+    buffer: &mut [u8],
+) -> Summary {
+    fill(buffer);
+    summed(
+        h,
+        page::calls::qsfp_page_open(family, device, lan, attempts, buffer),
+        buffer,
+    )
+}
+
+pub(crate) fn page(h: Host, family: u32, device: u16, lan: u32, attempts: u32) -> Summary {
+    let mut buffer = [0u8; 100];
+    page_in(h, family, device, lan, attempts, &mut buffer)
+}
+
+pub(crate) fn qsfp_page(h: Host, family: u32, device: u16, lan: u32, attempts: u32) -> Summary {
+    let mut buffer = [0u8; 100];
+    qsfp_page_in(h, family, device, lan, attempts, &mut buffer)
+}

@@ -8,20 +8,22 @@ use mathlib.Core.Bool.{Bool, true, false}
 use mathlib.Core.List.{List, [], _∷_}
 use native.Mathlib.Omega.{arith}
 use lib.Dec.{leb}
-use lib.ListN.{length}
+use lib.ListN.{drop, length, length-set, set}
+use lib.Seq.{drop-set-lt}
 use Rattle.hardware.specs.declared.Access.{Access}
 use Rattle.hardware.specs.declared.Answer.{Answer}
 use Rattle.hardware.specs.declared.Meter.{Meter}
 use Rattle.hardware.specs.declared.Port.{Port}
 use Rattle.hardware.specs.Asked.{Asked, no, yes, andThen, question, openPort, fits, admitting}
 use Rattle.hardware.specs.Lent.{goes, lent, asked}
-use Rattle.hardware.specs.Prog.{Prog, R, Ok, Err, Counted, blank, tally}
+use Rattle.hardware.specs.Prog.{Prog, ret, ask, note, give, R, Ok, Err, Counted, blank, tally}
 use Rattle.hardware.specs.Promise.{Keeps}
-use Rattle.hardware.specs.Runs.{run, runAsked, Awaited, AwaitedIn, driven, ended, meterIn, counted, leftAfter, leftAskedAfter, Exchange, answersOf, AllKept, Refuses, Asks, IfYes, Lasts, Unrefused}
+use Rattle.hardware.specs.Runs.{run, runAsked, Awaited, AwaitedIn, driven, ended, meterIn, counted, leftAfter, leftAskedAfter, Exchange, answersOf, AllKept, lastTold, Refuses, Asks, IfYes, Lasts, Unrefused}
 use Rattle.hardware.proofs.Laws.{run-tally, StepsOn, is-true, opened-runs, refused-runs}
 use Rattle.hardware.specs.Longest.{overAnswers, longest, lasting}
 use Rattle.hardware.proofs.Ends.{run-ends, ask-ends, ends-tally}
 use Rattle.hardware.proofs.Longest.{Falls, lasting-falls, number-few, longest-few, longest-tally, longest-same}
+use Rattle.bus.specs.declared.Taken.{Taken}
 use Rattle.bus.specs.Layout.{layoutOf}
 use Rattle.transfer.specs.declared.attempt.Sequence.{Sequence}
 use Rattle.i2c.specs.I2c.{standard}
@@ -35,12 +37,13 @@ use Rattle.sfp.proofs.Spreads.{Keeping, pairs-spreads, shows-spreads}
 use Rattle.page.specs.declared.walk.Form.{Form}
 use Rattle.page.specs.declared.walk.Form.the-variants.{Sff8472, Sff8636}
 use Rattle.page.specs.declared.walk.Page.{Page}
+use Rattle.page.specs.declared.calls.PageCall.{PageCall}
 use Rattle.page.specs.declared.calls.PageCall.the-variants.{Going, Over}
 use Rattle.page.specs.declared.calls.PageTold.{PageTold}
 use Rattle.page.specs.declared.calls.PageTold.the-variants.{Ask, End, Refused}
 use Rattle.page.specs.Page.{Filled, placeOf, byteSeen, pageFrom, page}
-use Rattle.page.specs.Walk.{restPage}
-use Rattle.page.specs.Calls.{bufferFits, openForm, openPage, openQsfpPage, steppedPage, stepPage, saidPage, standsPage, PageAt, saidAt, followsBuffer, followsPage}
+use Rattle.page.specs.Walk.{restPage, stored, bufferPage}
+use Rattle.page.specs.Calls.{bufferFits, openForm, openPage, openQsfpPage, steppedPage, stepPage, kept, bufferStepped, bufferAfter, saidPage, standsPage, PageAt, saidAt, followsBuffer, followsPage}
 use Rattle.page.specs.Runs.{formRun, pageLeft, FollowsLent}
 use Rattle.page.proofs.Ends.{PAGE-STEPS, page-ends, pageAfter, page-rest-ends}
 use Rattle.page.proofs.Spreads.{page-holds}
@@ -57,6 +60,44 @@ pub page-accepts : (x : Access) (port : Port) (q : Sequence) (form : Form) (trie
 unfolding standsPage stepPage steppedPage lent admitting question
 page-accepts x port q form tries m s buffer a h b e = rw (b, h .1, ← h .0, e)
 
+-- what a step can do to its buffer: set one of the page's places, or nothing
+module _ (P : List ℕ → Type 0) (buffer : List ℕ) (same : P buffer) (one : (place v : ℕ) → place < 96 → P (set buffer place v)) where
+  stored-holds : (place : ℕ) → place < 96 → (p : Prog (R Taken)) → P (stored place buffer p)
+  unfolding stored
+  stored-holds place h (ret (Ok t)) = one place (t .last) h
+  stored-holds place h (ret (Err e)) = same
+  stored-holds place h (ask x f) = same
+  stored-holds place h (note n p) = stored-holds place h p
+  stored-holds place h (give b p) = stored-holds place h p
+
+  kept-holds : (e : Bool) (n : ℕ) (r : Asked (List ℕ)) → P (kept buffer r) → P (kept buffer (question e n r))
+  unfolding kept question
+  kept-holds true n r h = h
+  kept-holds false n r h = same
+
+  after-holds : (s : PageCall) (a : Answer) → P (bufferAfter s buffer a)
+  unfolding bufferAfter bufferStepped bufferPage admitting kept
+  after-holds (Going port q form tries m s) a = kept-holds _ 9 _ (kept-holds _ 10 _ (kept-holds _ 12 _ (stored-holds (placeOf (s .left)) (omega arith) _)))
+  after-holds Over a = kept-holds _ 9 _ same
+
+after-length : (s : PageCall) (buffer : List ℕ) (a : Answer) → length (bufferAfter s buffer a) ≡ length buffer
+after-length s buffer a = after-holds (λ b. length b ≡ length buffer) buffer refl (λ place v h. length-set buffer place v) s a
+
+after-past : (s : PageCall) (buffer : List ℕ) (a : Answer) → drop 96 (bufferAfter s buffer a) ≡ drop 96 buffer
+after-past s buffer a = after-holds (λ b. drop 96 b ≡ drop 96 buffer) buffer refl (λ place v h. drop-set-lt 96 buffer place v h) s a
+
+-- Places past 95 hold what they held, over every run: of a call that still waits too
+past-on : (t : PageTold) (b : List ℕ) (a : Answer) (u : PageTold) (c : List ℕ) → followsBuffer t b a u c → drop 96 c ≡ drop 96 b
+unfolding followsBuffer
+past-on (Ask x s) b a u c k = ap (drop 96) (k .holds) ∙ after-past s b a
+past-on (End p m) b a u c k = absurd k
+past-on (Refused q) b a u c k = absurd k
+
+pub page-past : (t : PageAt) (ks : List (Exchange PageAt)) → AllKept followsPage t ks → drop 96 (lastTold t ks .buffer) ≡ drop 96 (t .buffer)
+unfolding AllKept lastTold
+page-past t [] kept = refl
+page-past t (k ∷ ks) kept = page-past (k .told) ks (kept .1) ∙ past-on (t .told) (t .buffer) _ _ _ (kept .0)
+
 -- a telling whose state can be stepped on from, with a buffer that fits
 abbrev standsAt : PageAt → Type 0
 standsAt t = standsPage (t .told) × (bufferFits (t .buffer) ≡ true)
@@ -66,7 +107,7 @@ buffer-on : (t : PageTold) (b : List ℕ) (a : Answer) (u : PageTold) (c : List 
     → (asked (saidPage u c) ≡ leftAskedAfter (asked (saidPage t b)) a) × (standsPage u × (bufferFits c ≡ true)) × IfYes Asks (asked (saidPage t b))
 unfolding followsBuffer saidPage standsPage asked AwaitedIn Awaited leftAskedAfter leftAfter bufferFits IfYes Asks
 buffer-on (Ask y (Going port q form tries m s)) b a u c h f k w =
-    (ap asked (k .0 .yields ∙ page-accepts y port q form tries m s b a h f (is-true (fits y a) (w .0))), (k .0 .limits, rw (k .1) f), tt)
+    (ap asked (k .yields ∙ page-accepts y port q form tries m s b a h f (is-true (fits y a) (w .0))), (k .limits, rw (k .holds, after-length) f), tt)
 buffer-on (Ask y Over) b a u c h f k w = absurd h
 buffer-on (End p m) b a u c h f k w = absurd k
 buffer-on (Refused q) b a u c h f k w = absurd k

@@ -4,7 +4,6 @@ use Prim.Native.Nat.{ℕ, _≤_}
 use mathlib.Core.Path.{_≡_, refl, ap, sym, _∙_}
 use mathlib.Core.Bool.{true}
 use mathlib.Core.List.{List, [], _∷_}
-use mathlib.Core.Logic.{_↔_}
 use native.Mathlib.Omega.{arith}
 use lib.Dec.{leb}
 use lib.ListN.{length}
@@ -124,16 +123,15 @@ module _ (form : Form) (family device lan attempts : ℕ) (buffer : List ℕ) (p
       let filled : f ≡ record { result = pagedOf p; buffer = final .buffer } = cc in
       (p, m, z, sym (ap (λ g. g .result) filled), sym (ap (λ g. g .buffer) filled))
 
-  -- so success is told exactly where the page is accepted
-  pub page-accepted-told : ((m : Meter) × (final .told ≡ End PagedOk m)) ↔ ((after : List ℕ) × Accepted standard port form attempts buffer (answersOf ks) after)
+  -- so success is told exactly where the page is accepted, and with the buffer as it then is
+  pub page-accepted-told : ((m : Meter) × (final .told ≡ End PagedOk m) → Accepted standard port form attempts buffer (answersOf ks) (final .buffer))
+      × ((after : List ℕ) → Accepted standard port form attempts buffer (answersOf ks) after → (m : Meter) × (final .told ≡ End PagedOk m))
   unfolding pagedOf
   page-accepted-told = (
-    λ (m, e). (
-      final .buffer,
-      page-accepted standard port form attempts buffer (final .buffer) (answersOf ks) fits .0
-          (page-ends-as standard port form attempts buffer (answersOf ks) _ fits .1 (page-ended-told PagedOk m e)),
-    ),
-    λ (after, h).
+    λ (m, e).
+        page-accepted standard port form attempts buffer (final .buffer) (answersOf ks) fits .0
+        (page-ends-as standard port form attempts buffer (answersOf ks) _ fits .1 (page-ended-told PagedOk m e)),
+    λ after h.
         let e = page-accepted standard port form attempts buffer after (answersOf ks) fits .1 h in
         let (p, m, z, success, _) = page-told _ (page-ends-as standard port form attempts buffer (answersOf ks) _ fits .0 e) in
         (m, z ∙ ap (λ u. End u m) (only-ok p success)),

@@ -12,7 +12,7 @@ use Rattle.hardware.specs.declared.Port.{Port}
 use Rattle.hardware.specs.Asked.{Asked, no, yes, question, andThen, openPort, validPort, admitting}
 use Rattle.hardware.specs.Lent.{Lent, refused, goes, lent, asked}
 use Rattle.hardware.specs.Numbers.{refusalNumber}
-use Rattle.hardware.specs.Promise.{Keeps}
+use Rattle.hardware.specs.Promise.{Stores}
 use Rattle.hardware.specs.Prog.{Prog, ret, ask, Counted, blank, tally, pick}
 use Rattle.i2c.specs.I2c.{standard}
 use Rattle.page.specs.declared.walk.Form.{Form}
@@ -88,10 +88,9 @@ pub record PageAt : Type 0 where
 abbrev pub saidAt : PageAt → Asked (Prog (Counted Filled))
 saidAt t = asked (saidPage (t .told) (t .buffer))
 
--- what a step told, u, with the buffer c, follows what was told before it, with the buffer b: as the step promises. A lent
--- buffer keeps its length
+-- what a step told, u, with the buffer c, follows what was told before it, with the buffer b: as the step promises
 unfoldable pub followsBuffer : PageTold → List ℕ → Answer → PageTold → List ℕ → Type 0
-followsBuffer (Ask x s) b a u c = Keeps (saidPage u c ≡ stepPage s b a) (standsPage u) × (length c ≡ length b)
+followsBuffer (Ask x s) b a u c = Stores (saidPage u c ≡ stepPage s b a) (standsPage u) (c ≡ bufferAfter s b a)
 followsBuffer (End p m) b a u c = ⊥
 followsBuffer (Refused q) b a u c = ⊥
 

@@ -14,6 +14,7 @@ pub fn add(list: &mut List) {
     page_faults(list);
     refused_bytes(list);
     lost_pages(list);
+    unread_sums(list);
 }
 
 /// The ports, those of the 82599 with PCI device 1558 too.
@@ -117,6 +118,23 @@ fn lost_pages(list: &mut List) {
                 until(sw_fw_sync(family), reads, sync_free(family, mask), held),
             ];
             list.push(case);
+        }
+    }
+}
+
+/// The first sum wrong, or both, and a byte behind it that is not read: never
+/// acknowledged, or an access of its transfer failing.
+fn unread_sums(list: &mut List) {
+    for (f, function) in FORMS.into_iter().enumerate() {
+        for (i, byte) in [64, 71, 80, 94, 95].into_iter().enumerate() {
+            for shape in [1, 3] {
+                let port = port(5 * f + 2 * i + shape as usize);
+                let case = list.page(function, port, attempts(port.0), shape);
+                let Request { first, number, .. } = requests(&case)[byte];
+                let never = (f + i) % 2 == 0;
+                let unread = if never { sda_high(&case, number, NEVER) } else { failing(&case, first) };
+                list.push(unread);
+            }
         }
     }
 }

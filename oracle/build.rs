@@ -1,6 +1,7 @@
 //! Wraps the original files as inline modules of one generated file, each
-//! followed by its probe (functions that call the private ones). The copy of
-//! `i2c` gets one line more, which counts the runs of `attempt`.
+//! followed by its probe (functions that call the private ones). In the copy of
+//! `i2c`, `attempt` gets one line more, which counts its runs, and clears by
+//! the sequence that is chosen by name.
 
 use std::{
     env, fs,
@@ -13,6 +14,9 @@ const MODULES: [&str; 4] = ["sync", "hostif", "i2c", "sfp"];
 /// The first line of `attempt`'s body, and the line put before it.
 const HEAD: &str = "    let mut bus = Bus::new(io, port.family)?;\n";
 const COUNT: &str = "    probe_count();\n";
+/// The clearing in `attempt`, and what is put in its place.
+const CLEAR: &str = "match bus.clear() {";
+const NAMED: &str = "match bus.probe_clear() {";
 
 fn sources(manifest: &Path) -> PathBuf {
     match env::var_os("ORACLE_SRC") {
@@ -27,9 +31,13 @@ fn text(path: &Path) -> String {
     })
 }
 
-fn counting(source: &str) -> String {
-    assert_eq!(source.matches(HEAD).count(), 1, "`attempt` begins as it did");
-    source.replace(HEAD, &format!("{COUNT}{HEAD}"))
+fn replaced(source: &str, from: &str, to: &str) -> String {
+    assert_eq!(source.matches(from).count(), 1, "`attempt` has this once: {from}");
+    source.replace(from, to)
+}
+
+fn probed(source: &str) -> String {
+    replaced(&replaced(source, HEAD, &format!("{COUNT}{HEAD}")), CLEAR, NAMED)
 }
 
 fn main() {
@@ -43,7 +51,7 @@ fn main() {
         let source = folder.join(format!("{name}.rs"));
         println!("cargo:rerun-if-changed={}", source.display());
         let module = text(&source);
-        let module = if name == "i2c" { counting(&module) } else { module };
+        let module = if name == "i2c" { probed(&module) } else { module };
         let probe = manifest.join(format!("probe/{name}.rs"));
         let probe = if probe.exists() { text(&probe) } else { String::new() };
         all += &format!("#[allow(dead_code, clippy::all)]\npub mod {name} {{\n{module}\n{probe}\n}}\n");

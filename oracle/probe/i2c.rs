@@ -1,8 +1,16 @@
 // Appended to the original's `i2c` by build.rs: its private functions, the
-// count of transfers and the run of a script.
+// count of transfers, the clearing sequences by name and the run of a script.
+
+/// The clearing sequences: the original's `clear`, and that of S-2.
+#[derive(Clone, Copy, Debug, PartialEq, Eq)]
+pub enum Sequence {
+    Pulses,
+    Rounds,
+}
 
 thread_local! {
     static TRANSFERS: std::cell::Cell<u32> = const { std::cell::Cell::new(0) };
+    static SEQUENCE: std::cell::Cell<Sequence> = const { std::cell::Cell::new(Sequence::Pulses) };
 }
 
 /// Called at the head of `attempt`, by the line that build.rs puts there.
@@ -13,6 +21,45 @@ fn probe_count() {
 /// The runs of `attempt` since this was last asked.
 pub fn probe_transfers() -> u32 {
     TRANSFERS.replace(0)
+}
+
+/// The call with this sequence; any other call has the original's.
+pub fn probe_with<T>(sequence: Sequence, call: impl FnOnce() -> T) -> T {
+    SEQUENCE.set(sequence);
+    let result = call();
+    SEQUENCE.set(Sequence::Pulses);
+    result
+}
+
+impl<'a, Io: Registers> Bus<'a, Io> {
+    /// In `attempt`, where the original has `clear`.
+    fn probe_clear(&mut self) -> R<(), Io::Error> {
+        match SEQUENCE.get() {
+            Sequence::Pulses => self.clear(),
+            Sequence::Rounds => self.probe_rounds(),
+        }
+    }
+
+    /// S-2: release SDA; up to ten times raise SCL and read SDA; if it is
+    /// high, pull SDA low, lower SCL, make the stop and finish; otherwise
+    /// lower SCL and go on. An I2c, which only the stop can give, is ignored.
+    fn probe_rounds(&mut self) -> R<(), Io::Error> {
+        self.release_sda()?;
+        for _ in 0..10 {
+            self.scl_high()?;
+            self.delay(4);
+            if self.get()? & self.l.sda_in != 0 {
+                self.sda(false)?;
+                self.delay(4);
+                self.scl_low()?;
+                self.delay(5);
+                return match self.stop() { Err(Error::I2c { .. }) => Ok(()), other => other };
+            }
+            self.scl_low()?;
+            self.delay(5);
+        }
+        Ok(())
+    }
 }
 
 pub fn probe_x550em(family: Family) -> bool {

@@ -1,12 +1,13 @@
-//! Runs the original's `identify` with the bench module from random starts,
-//! and compares the result and the state at the end with what is claimed of a
-//! whole identification.
+//! Runs the original's `identify` with the bench module from random starts and
+//! with either clearing sequence, and compares the result and the state at the
+//! end with what is claimed of a whole identification.
 
 use std::collections::BTreeMap;
 use std::convert::Infallible;
 use std::fmt;
 
-use crate::driver::{i2c, sfp, Error, Port};
+use crate::driver::i2c::{self, Sequence};
+use crate::driver::{sfp, Error, Port};
 use crate::fresh::Choice;
 use host::Host;
 use module::{Stage, Wired};
@@ -20,7 +21,7 @@ mod words;
 
 /// Disagreeing starts that are shown.
 const SHOWN: u32 = 10;
-/// Transfers of a call whose module started in AckWrite.
+/// Transfers of a call by the original's sequence whose module started in AckWrite.
 const ABSENT: u32 = 11;
 
 type Identified = Result<sfp::Module, Error<Infallible>>;
@@ -38,7 +39,7 @@ struct End {
 fn run(start: &Start) -> End {
     let mut host = Host::new(start);
     i2c::probe_transfers();
-    let result = sfp::identify(&mut host, start.port);
+    let result = i2c::probe_with(start.sequence, || sfp::identify(&mut host, start.port));
     End { result, transfers: i2c::probe_transfers(), runs: host.runs, wired: host.wired }
 }
 
@@ -63,18 +64,25 @@ fn absent(end: &End) -> bool {
     matches!(&end.result, Ok(m) if m.kind == sfp::Kind::NotPresent) && end.transfers == ABSENT
 }
 
+/// The four facts from every start; with the original's sequence not from AckWrite.
 fn as_claimed(start: &Start, end: &End) -> bool {
     let all = facts(start, end) == [true; 4];
-    let stuck = start.module.receiver.stage == Stage::AckWrite;
+    let stuck = start.sequence == Sequence::Pulses && start.module.receiver.stage == Stage::AckWrite;
     all != stuck && (!stuck || absent(end)) && end.runs == end.transfers && end.wired.both == 0
 }
 
 type Counts = BTreeMap<String, u32>;
 
-/// What the starts were, and what became of them.
+/// What the starts with each sequence were, and what became of them.
 #[derive(Default)]
 pub struct Tally {
     pub disagree: u32,
+    pulses: Figures,
+    rounds: Figures,
+}
+
+#[derive(Default)]
+struct Figures {
     starts: usize,
     /// Those in which the module pulled SDA.
     pulled: u32,
@@ -105,7 +113,7 @@ fn names(start: &Start) -> (&'static str, String) {
     }
 }
 
-impl Tally {
+impl Figures {
     fn count(&mut self, start: &Start, end: &End) {
         let (stage, state) = names(start);
         let Port { family, device, lan } = start.port;
@@ -124,20 +132,29 @@ impl Tally {
         add(&mut self.results, result);
         add(&mut self.transfers, format!("{:2}", end.transfers));
     }
+}
+
+impl Tally {
+    fn count(&mut self, start: &Start, end: &End) {
+        match start.sequence {
+            Sequence::Pulses => self.pulses.count(start, end),
+            Sequence::Rounds => self.rounds.count(start, end),
+        }
+    }
 
     fn disagreed(&mut self, start: &Start, end: &End) {
         self.disagree += 1;
         if self.disagree <= SHOWN {
-            let Start { port, word, module, .. } = start;
+            let Start { sequence, port, word, module, .. } = start;
             let End { result, wired, transfers, runs } = end;
-            eprintln!("{port:?}, I2CCTL {word:08x}, {:?}:", module.receiver);
+            eprintln!("{sequence:?}, {port:?}, I2CCTL {word:08x}, {:?}:", module.receiver);
             eprintln!("  {result:?}, {transfers} transfers ({runs} seen), {:?}", wired.module.receiver);
             eprintln!("  class, bytes, lines, transfers: {:?}; {} moved both", facts(start, end), wired.both);
         }
     }
 }
 
-impl fmt::Display for Tally {
+impl fmt::Display for Figures {
     fn fmt(&self, f: &mut fmt::Formatter) -> fmt::Result {
         let tables = [
             ("stages", &self.stages),
@@ -152,8 +169,17 @@ impl fmt::Display for Tally {
         }
         let fewest = self.states.values().min().unwrap_or(&0);
         writeln!(f, "states: {}, each in at least {fewest} starts", self.states.len())?;
-        writeln!(f, "pulled SDA at the start: {}", self.pulled)?;
-        write!(f, "{} starts, {} disagree", self.starts, self.disagree)
+        writeln!(f, "pulled SDA at the start: {}", self.pulled)
+    }
+}
+
+impl fmt::Display for Tally {
+    fn fmt(&self, f: &mut fmt::Formatter) -> fmt::Result {
+        let Tally { disagree, pulses, rounds } = self;
+        for (name, figures) in [("the original's sequence", pulses), ("the sequence of rounds", rounds)] {
+            write!(f, "{name}: {} starts\n{figures}", figures.starts)?;
+        }
+        write!(f, "{} starts, {disagree} disagree", pulses.starts + rounds.starts)
     }
 }
 

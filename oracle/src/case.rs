@@ -2,8 +2,9 @@
 //! outcome as numbers, and the line that holds both.
 
 use crate::answers::{Failed, Fnv, Player, Rule, Stream};
+use crate::driver::i2c::{self, Sequence};
 use crate::driver::sfp::{self, Kind, Module};
-use crate::driver::{hostif, i2c, sync, Error, Family, Port};
+use crate::driver::{hostif, sync, Error, Family, Port};
 use crate::lines::{Lines, MARK};
 use crate::page;
 use crate::script::script;
@@ -32,6 +33,9 @@ pub const RATE_SELECT: u32 = 22;
 pub const METHOD: u32 = 23;
 pub const PAGE: u32 = 24;
 pub const QSFP_PAGE: u32 = 25;
+
+/// Added to a function's number on the line where the sequence is S-2's.
+pub const WITH_ROUNDS: u32 = 100;
 
 /// The functions that `PLAIN` chooses from.
 pub const X550EM: u32 = 0;
@@ -69,6 +73,7 @@ pub const MAX_RULES: usize = 4;
 #[derive(Clone, Debug, PartialEq, Eq)]
 pub struct Case {
     pub function: u32,
+    pub sequence: Sequence,
     pub family: u32,
     pub device: u32,
     pub lan: u32,
@@ -119,7 +124,7 @@ impl Case {
     }
 
     pub fn run_with(&self, player: &mut Player) -> Outcome {
-        let result = self.call(player);
+        let result = i2c::probe_with(self.sequence, || self.call(player));
         Outcome { accesses: player.accesses(), checksum: player.checksum(), result }
     }
 
@@ -257,9 +262,17 @@ impl Case {
         }
     }
 
+    /// The function as the line has it.
+    pub fn number(&self) -> u32 {
+        match self.sequence {
+            Sequence::Pulses => self.function,
+            Sequence::Rounds => self.function + WITH_ROUNDS,
+        }
+    }
+
     /// The part of the line that says what to run.
     pub fn input(&self) -> Vec<u32> {
-        let mut out = vec![self.function, self.family, self.device, self.lan];
+        let mut out = vec![self.number(), self.family, self.device, self.lan];
         out.extend(self.args);
         let count = self.rules.len() + self.lines.iter().count();
         out.extend([self.seed, self.fail_at, self.ones_at, count as u32]);
@@ -312,11 +325,19 @@ impl Case {
         if !known {
             return Err(format!("function {} does not take {a1} {a2} {a3}", self.function));
         }
+        if self.sequence == Sequence::Rounds && !sequenced(self.function) {
+            return Err(format!("function {} takes no sequence", self.function));
+        }
         if self.family >= FAMILIES.len() as u32 || self.lan > 1 || self.device > 0xffff {
             return Err("not a port".into());
         }
         Ok(())
     }
+}
+
+/// The function takes a clearing sequence by name.
+pub fn sequenced(function: u32) -> bool {
+    matches!(function, READ_BYTE..=WRITE_COMBINED | IDENTIFY..=RATE_SELECT | PAGE | QSFP_PAGE)
 }
 
 /// The arguments of a transfer: the offset or register is `low`, the
@@ -371,8 +392,11 @@ impl Numbers {
     }
 
     fn case(&mut self) -> Result<Case, String> {
+        let number = self.word()?;
+        let sequence = if number < WITH_ROUNDS { Sequence::Pulses } else { Sequence::Rounds };
         let mut case = Case {
-            function: self.word()?,
+            function: if number < WITH_ROUNDS { number } else { number - WITH_ROUNDS },
+            sequence,
             family: self.word()?,
             device: self.word()?,
             lan: self.word()?,

@@ -2,6 +2,7 @@
 
 use crate::answers::{Rule, NEVER};
 use crate::case::*;
+use crate::driver::i2c::Sequence;
 use crate::driver::{sync, Family};
 use crate::rules::*;
 
@@ -89,6 +90,7 @@ impl Choice {
         let args = [self.argument(function), self.word(), self.word()];
         let mut case = Case {
             function,
+            sequence: Sequence::Pulses,
             family,
             device: self.below(0x1_0000),
             lan,

@@ -5,11 +5,13 @@ use std::collections::HashSet;
 
 use crate::answers::{Access, Rule, Stream, NEVER};
 use crate::case::*;
+use crate::driver::i2c::Sequence;
 use crate::driver::sync::{self, EEP, I2C0, I2C1, PHY0, PHY1, SHARED_I2C, SW_MNG};
 use crate::driver::Family;
 use crate::rules::*;
 
 mod pages;
+mod rounds;
 mod sfp;
 mod transfers;
 
@@ -49,6 +51,7 @@ pub fn cases() -> Vec<Case> {
     transfers::add(&mut list);
     sfp::add(&mut list);
     pages::add(&mut list);
+    rounds::add(&mut list);
     list.cases
 }
 
@@ -71,6 +74,7 @@ impl List {
         let a2 = if function == COMMAND { self.seeds.next() } else { 0 };
         Case {
             function,
+            sequence: Sequence::Pulses,
             family: number as u32,
             device: DEVICES[number][(seed % 2) as usize],
             lan,

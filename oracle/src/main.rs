@@ -131,7 +131,7 @@ fn count(file: &str) -> Result<(), String> {
     let mut all: BTreeMap<u32, Counts> = BTreeMap::new();
     for (i, line) in text(file)?.lines().enumerate() {
         let (case, outcome) = Case::parse(line).map_err(|e| format!("line {}: {e}", i + 1))?;
-        let counts = all.entry(case.function).or_default();
+        let counts = all.entry(case.number()).or_default();
         counts.lines += 1;
         counts.accesses += u64::from(outcome.accesses);
         counts.most = counts.most.max(outcome.accesses);

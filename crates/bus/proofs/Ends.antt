@@ -1,8 +1,9 @@
--- How many answers of the awaited kinds bring the line calls, the commands and the clearing sequence to their end, for
+-- How many answers of the awaited kinds bring the line calls, the commands and the clearing sequences to their end, for
 -- every layout and control word. The numbers are accesses.
 use Prim.Native.Nat.{ℕ, _+_, _*_, _≤_, suc, zero}
 use mathlib.Core.Path.{_≡_, refl}
 use mathlib.Core.Bool.{Bool, true, false}
+use lib.Dec.{eqb}
 use native.Mathlib.Omega.{arith}
 use Rattle.hardware.specs.Failures.{Failure, I2c}
 use Rattle.hardware.specs.Prog.{R, Ok, Err, pick}
@@ -11,8 +12,8 @@ use Rattle.hardware.specs.Runs.{Ends}
 use Rattle.hardware.proofs.Ends.{ends-more, ends-bind, ends-pick, ret-ends, ask-ends}
 use Rattle.bus.specs.declared.Layout.{Layout}
 use Rattle.bus.specs.declared.Taken.{Taken}
-use Rattle.bus.specs.Bus.{Bus, done, fail, none, orHeld, flushing, put, get, wait, sclSeen, sclTries, sclHigh, sclLow, sdaSeen, sdaFree, sda, releaseSda, look, lookSeen, start, close, stop, outBit, sample, sampleSeen, inBit, shifted, inBits, inByte, bitOf, outBits, ackSeen, ackTries, send, pulses, orQuiet, quieted, quiet, clear, clearFree, clearAgain, clearStop}
-use Rattle.bus.specs.Steps.{PUT-STEPS, GET-STEPS, WAIT-STEPS, SCL-TRY-STEPS, SCL-HIGH-STEPS, SCL-LOW-STEPS, SDA-LOW-STEPS, SDA-STEPS, RELEASE-SDA-STEPS, START-STEPS, STOP-STEPS, PULSE-STEPS, OUT-BIT-STEPS, IN-BIT-STEPS, IN-BYTE-STEPS, ACK-STEPS, SEND-STEPS, FREE-STEPS, CLEAR-STEPS, CALL-STEPS}
+use Rattle.bus.specs.Bus.{Bus, done, fail, none, orHeld, flushing, put, get, wait, sclSeen, sclTries, sclHigh, sclLow, sdaSeen, sdaFree, sda, releaseSda, look, lookSeen, start, close, stop, outBit, sample, sampleSeen, inBit, shifted, inBits, inByte, bitOf, outBits, ackSeen, ackTries, send, pulses, orQuiet, quieted, quiet, clear, clearFree, clearAgain, clearStop, pulled, rounds, clearRounds}
+use Rattle.bus.specs.Steps.{PUT-STEPS, GET-STEPS, WAIT-STEPS, SCL-TRY-STEPS, SCL-HIGH-STEPS, SCL-LOW-STEPS, SDA-LOW-STEPS, SDA-STEPS, RELEASE-SDA-STEPS, START-STEPS, STOP-STEPS, PULSE-STEPS, OUT-BIT-STEPS, IN-BIT-STEPS, IN-BYTE-STEPS, ACK-STEPS, SEND-STEPS, FREE-STEPS, CLEAR-STEPS, ROUND-STEPS, FINISH-STEPS, CLEAR-ROUNDS-STEPS, CALL-STEPS}
 use Rattle.hardware.specs.declared.Answer.{Answer}
 use Rattle.bus.specs.declared.line.Call.{Call}
 use Rattle.bus.specs.declared.line.Call.the-variants.{Look, Sda, Release, Up, Down, Wait as Pausing, Sample, Ack, Close}
@@ -22,13 +23,15 @@ use Rattle.bus.specs.declared.line.Line.{Line}
 use Rattle.bus.specs.declared.line.Line.the-variants.{Look as Looking, Pause, Sample as Sampling, Ack as Listening, Rest, Write as Writing, Flush, Settle, Check, Rise}
 use Rattle.bus.specs.declared.command.Command.{Command}
 use Rattle.bus.specs.declared.command.Command.the-variants.{Start, Send, Read, Stop, Free as FreeLines}
+use Rattle.bus.specs.declared.command.Piece.{Piece}
+use Rattle.bus.specs.declared.command.Piece.the-variants.{Pulses, Probe, Lower, Pull}
 use Rattle.bus.specs.declared.job.Job.{Job}
 use Rattle.bus.specs.declared.clear.Clear.{Clear}
 use Rattle.bus.specs.declared.clear.Part.{Part}
-use Rattle.bus.specs.declared.clear.Part.the-variants.{First, Free as Freeing, Again, Stop as Stopping}
+use Rattle.bus.specs.declared.clear.Part.the-variants.{First, Free as Freeing, Again, Stop as Stopping, Probe as Probing, Lower as Lowering, Pull as Pulling}
 use Rattle.bus.specs.Line.{sensed, called, reached, settled, restAt, restLine}
-use Rattle.bus.specs.Command.{finished, callsLeft, restJob}
-use Rattle.bus.specs.Clear.{restPart, restClear}
+use Rattle.bus.specs.Command.{freed, finished, callsLeft, restJob}
+use Rattle.bus.specs.Clear.{probed, restPart, restClear}
 
 -- n accesses bring a program to its end, whatever control word it is given
 abbrev pub EndsBus : Bus → ℕ → Type 0
@@ -78,6 +81,12 @@ free-steps = refl
 
 pub clear-steps : CLEAR-STEPS ≡ 24093
 clear-steps = refl
+
+pub round-steps : ROUND-STEPS ≡ 2006
+round-steps = refl
+
+pub clear-rounds-steps : CLEAR-ROUNDS-STEPS ≡ 22080
+clear-rounds-steps = refl
 
 -- more accesses do no harm
 pub bus-more : (p : Bus) (n m : ℕ) → EndsBus p n → n ≤ m → EndsBus p m
@@ -273,8 +282,15 @@ pulses-ends l zero k n e = bus-more _ n (zero * PULSE-STEPS + n) e (omega arith)
 pulses-ends l (suc count) k n e =
     bus-more _ _ (suc count * PULSE-STEPS + n) (pulse-ends l _ (count * PULSE-STEPS + n) (pulses-ends l count k n e)) (omega arith)
 
-pub free-ends : (l : Layout) (k : Bus) (n : ℕ) → EndsBus k n → EndsBus (releaseSda l (pulses l 9 k)) (FREE-STEPS + n)
-free-ends l k n e = bus-more _ _ (FREE-STEPS + n) (release-sda-ends l _ _ (pulses-ends l 9 k n e)) (omega arith)
+-- the pieces of the clearing sequences: none takes more than the nine pulses
+pub free-ends : (l : Layout) (p : Piece) (k : ℕ → Bus) (n : ℕ) → ((b : ℕ) → EndsBus (k b) n) → EndsBus (freed l p k) (FREE-STEPS + n)
+unfolding freed
+free-ends l Pulses k n e = bus-more _ _ (FREE-STEPS + n) (release-sda-ends l _ _ (pulses-ends l 9 (k 0) n (e 0))) (omega arith)
+free-ends l Probe k n e =
+    bus-more _ _ (FREE-STEPS + n) (release-sda-ends l _ _ (scl-high-ends l _ _ (wait-ends 4 _ _ (sample-ends l _ n (λ high. e _))))) (omega arith)
+free-ends l Lower k n e = bus-more _ _ (FREE-STEPS + n) (scl-low-ends l _ _ (wait-ends 5 (k 0) n (e 0))) (omega arith)
+free-ends l Pull k n e =
+    bus-more _ _ (FREE-STEPS + n) (sda-low-ends l _ _ (wait-ends 4 _ _ (scl-low-ends l _ _ (wait-ends 5 (k 0) n (e 0))))) (omega arith)
 
 -- a program whose I2c failure counts as success, and what comes after it
 quieted-ends : (k : Bus) (n : ℕ) → EndsBus k n → (ctl : ℕ) (r : R Taken) → Ends (orQuiet k ctl r) n
@@ -295,13 +311,44 @@ unfolding clearAgain
 clear-again-ends l = quiet-ends _ _ (START-STEPS + 0) STOP-STEPS (start-ends l (done none) 0 (done-ends none 0)) (clear-stop-ends l)
 
 clear-free-ends : (l : Layout) → EndsBus (clearFree l) (FREE-STEPS + (START-STEPS + STOP-STEPS))
-unfolding clearFree
-clear-free-ends l = free-ends l (clearAgain l) (START-STEPS + STOP-STEPS) (clear-again-ends l)
+unfolding clearFree freed
+clear-free-ends l = free-ends l Pulses (λ _. clearAgain l) (START-STEPS + STOP-STEPS) (λ _. clear-again-ends l)
 
 pub clear-ends : (l : Layout) → EndsBus (clear l) CLEAR-STEPS
 unfolding clear
 clear-ends l =
     quiet-ends _ _ (START-STEPS + 0) (FREE-STEPS + (START-STEPS + STOP-STEPS)) (start-ends l (done none) 0 (done-ends none 0)) (clear-free-ends l)
+
+pulled-ends : (l : Layout) → EndsBus (pulled l) (SCL-LOW-STEPS + WAIT-STEPS + FINISH-STEPS)
+unfolding pulled
+pulled-ends l =
+    bus-more _ _ (SCL-LOW-STEPS + WAIT-STEPS + FINISH-STEPS)
+    (sda-low-ends l _ _ (wait-ends 4 _ _ (scl-low-ends l _ _ (wait-ends 5 _ _ (clear-stop-ends l)))))
+    (omega arith)
+
+-- SCL is lowered in a round, and so many are left; SDA pulled before it takes no more
+lowers-ends : (l : Layout) (left : ℕ) → EndsBus (rounds l left) (left * ROUND-STEPS + FINISH-STEPS)
+    → EndsBus (sclLow l (wait 5 (rounds l left))) (SCL-LOW-STEPS + WAIT-STEPS + (left * ROUND-STEPS + FINISH-STEPS))
+lowers-ends l left e =
+    bus-more _ _ (SCL-LOW-STEPS + WAIT-STEPS + (left * ROUND-STEPS + FINISH-STEPS)) (scl-low-ends l _ _ (wait-ends 5 _ _ e)) (omega arith)
+
+pulls-ends : (l : Layout) (left : ℕ) → EndsBus (pulled l) (SCL-LOW-STEPS + WAIT-STEPS + (left * ROUND-STEPS + FINISH-STEPS))
+pulls-ends l left = bus-more _ _ (SCL-LOW-STEPS + WAIT-STEPS + (left * ROUND-STEPS + FINISH-STEPS)) (pulled-ends l) (omega arith)
+
+pub rounds-ends : (l : Layout) (left : ℕ) → EndsBus (rounds l left) (left * ROUND-STEPS + FINISH-STEPS)
+unfolding rounds
+rounds-ends l zero = done-ends none _
+rounds-ends l (suc left) =
+    bus-more _ _ (suc left * ROUND-STEPS + FINISH-STEPS)
+    (scl-high-ends l _ _
+    (wait-ends 4 _ _
+    (sample-ends l _ (SCL-LOW-STEPS + WAIT-STEPS + (left * ROUND-STEPS + FINISH-STEPS))
+    (λ high. either-ends high _ _ _ (pulls-ends l left) (lowers-ends l left (rounds-ends l left))))))
+    (omega arith)
+
+pub clear-rounds-ends : (l : Layout) → EndsBus (clearRounds l) CLEAR-ROUNDS-STEPS
+unfolding clearRounds
+clear-rounds-ends l = release-sda-ends l _ _ (rounds-ends l 10)
 
 -- the answers that each machine may still need after the one it awaits, up to the end of the call, the command or the sequence
 
@@ -340,6 +387,9 @@ partAfter First = FREE-STEPS + (START-STEPS + STOP-STEPS)
 partAfter Freeing = START-STEPS + STOP-STEPS
 partAfter Again = STOP-STEPS
 partAfter Stopping = 0
+partAfter (Probing left) = SCL-LOW-STEPS + WAIT-STEPS + (left * ROUND-STEPS + FINISH-STEPS)
+partAfter (Lowering left) = left * ROUND-STEPS + FINISH-STEPS
+partAfter Pulling = STOP-STEPS
 
 abbrev pub clearAfter : Clear → ℕ
 clearAfter s = jobAfter (s .job) + partAfter (s .part)
@@ -407,7 +457,7 @@ finished-ends device Start k n e bits = e bits
 finished-ends device (Send value) k n e bits = either-ends _ _ _ n (e bits) (fail-ends _ n)
 finished-ends device (Read high) k n e bits = e bits
 finished-ends device Stop k n e bits = e bits
-finished-ends device FreeLines k n e bits = e bits
+finished-ends device (FreeLines p) k n e bits = e bits
 
 calls-left-ends : (l : Layout) (device : ℕ) (c : Command) (left : ℕ) (k : ℕ → Bus) (n : ℕ) → ((b : ℕ) → EndsBus (k b) n) → (bits : ℕ)
     → EndsBus (callsLeft l device c left k bits) (left * CALL-STEPS + n)
@@ -426,17 +476,21 @@ job-rest-ends l device c s a k n e =
     (omega arith)
 
 part-rest-ends : (l : Layout) (p : Part) (j : Job) (a : Answer) → Ends (restPart l p j a) (jobAfter j + partAfter p)
-unfolding restPart quieted
+unfolding restPart quieted probed
 part-rest-ends l First j a =
     ends-more _ (jobAfter j + 0 + partAfter First) (jobAfter j + partAfter First)
     (ends-bind _ _ (jobAfter j + 0) (partAfter First) (job-rest-ends l 0 Start j a _ 0 (λ b. done-ends none 0)) (λ h. quieted-ends (clearFree l) _ (clear-free-ends l) (h .ctl) (h .out))) (omega arith)
-part-rest-ends l Freeing j a = job-rest-ends l 0 FreeLines j a _ (partAfter Freeing) (λ b. clear-again-ends l)
+part-rest-ends l Freeing j a = job-rest-ends l 0 (FreeLines Pulses) j a _ (partAfter Freeing) (λ b. clear-again-ends l)
 part-rest-ends l Again j a =
     ends-more _ (jobAfter j + 0 + partAfter Again) (jobAfter j + partAfter Again)
     (ends-bind _ _ (jobAfter j + 0) (partAfter Again) (job-rest-ends l 0 Start j a _ 0 (λ b. done-ends none 0)) (λ h. quieted-ends (clearStop l) _ (clear-stop-ends l) (h .ctl) (h .out))) (omega arith)
 part-rest-ends l Stopping j a =
     ends-more _ (jobAfter j + 0 + 0) (jobAfter j + partAfter Stopping)
     (ends-bind _ _ (jobAfter j + 0) 0 (job-rest-ends l 0 Stop j a _ 0 (λ b. done-ends none 0)) (λ h. quieted-ends (done none) 0 (done-ends none 0) (h .ctl) (h .out))) (omega arith)
+part-rest-ends l (Probing left) j a =
+    job-rest-ends l 0 (FreeLines Probe) j a _ (partAfter (Probing left)) (λ bits. either-ends (eqb bits 0) _ _ _ (lowers-ends l left (rounds-ends l left)) (pulls-ends l left))
+part-rest-ends l (Lowering left) j a = job-rest-ends l 0 (FreeLines Lower) j a _ (partAfter (Lowering left)) (λ b. rounds-ends l left)
+part-rest-ends l Pulling j a = job-rest-ends l 0 (FreeLines Pull) j a _ STOP-STEPS (λ b. clear-stop-ends l)
 
 pub clear-rest-ends : (l : Layout) (s : Clear) (a : Answer) → Ends (restClear l s a) (clearAfter s)
 unfolding restClear

@@ -17,7 +17,9 @@ use Rattle.bus.specs.declared.line.Call.{Call}
 use Rattle.bus.specs.declared.line.Call.the-variants.{Look, Sda, Release, Up as UpCall, Ack as AckCall, Sample}
 use Rattle.bus.specs.declared.command.Command.{Command}
 use Rattle.bus.specs.declared.command.Command.the-variants.{Start, Send, Read, Stop, Free}
-use Rattle.bus.specs.Command.{pulseCall, outBitCall, senseCall, startCall, stopCall, endCall, sendCall, readCall, freeCall, callAt, stopCount, callCount, callsLeft}
+use Rattle.bus.specs.declared.command.Piece.{Piece}
+use Rattle.bus.specs.declared.command.Piece.the-variants.{Pulses, Probe, Lower, Pull}
+use Rattle.bus.specs.Command.{pulseCall, outBitCall, senseCall, startCall, stopCall, endCall, sendCall, readCall, pulsesCall, probeCall, freeCall, callAt, stopCount, freeCount, callCount, callsLeft}
 use Rattle.bus.specs.Line.{validCall, called, sensed, settled, accessLine, accessAt, restLine, restAt, lineNext}
 
 -- what an answer was taken for is the Rust's reading of it
@@ -108,6 +110,13 @@ stop-first (suc (suc zero)) h = absurd (omega (arith, h))
 stop-first (suc (suc (suc zero))) h = absurd (omega (arith, h))
 stop-first (suc (suc (suc (suc n)))) h = refl
 
+pub probe-first : (n : ℕ) → 3 ≤ n → probeCall n ≡ Release
+unfolding probeCall
+probe-first zero h = absurd (omega (arith, h))
+probe-first (suc zero) h = absurd (omega (arith, h))
+probe-first (suc (suc zero)) h = absurd (omega (arith, h))
+probe-first (suc (suc (suc n))) h = refl
+
 -- no wait of a command is above 5 µs
 valid-either : (t : Bool) (x y : Call) → validCall x ≡ true → validCall y ≡ true → validCall (pick t x y) ≡ true
 unfolding pick
@@ -153,13 +162,23 @@ valid-out : (high : Bool) (n : ℕ) → validCall (outBitCall high n) ≡ true
 unfolding outBitCall validCall
 valid-out high n = valid-either (ltb n 4) (pulseCall n) (Sda high) (valid-pulse n) refl
 
+valid-probe : (n : ℕ) → validCall (probeCall n) ≡ true
+unfolding probeCall validCall
+valid-probe zero = refl
+valid-probe (suc zero) = refl
+valid-probe (suc (suc zero)) = refl
+valid-probe (suc (suc (suc n))) = refl
+
 pub valid-calls : (l : Layout) (c : Command) (n : ℕ) → validCall (callAt l c n) ≡ true
-unfolding callAt endCall sendCall readCall freeCall validCall
+unfolding callAt endCall sendCall readCall freeCall pulsesCall validCall
 valid-calls l Start n = valid-start n
 valid-calls l (Send value) n = valid-either (ltb n 6) _ _ (valid-sense AckCall n refl) (valid-out _ _)
 valid-calls l (Read high) n = valid-either (ltb n 5) _ _ (valid-out high n) (valid-sense Sample _ refl)
 valid-calls l Stop n = valid-either (eqb (l .bben) 0) _ _ (valid-stop n) (valid-either (eqb n 0) _ _ refl (valid-stop (n - 1)))
-valid-calls l Free n = valid-either (ltb n 36) _ _ (valid-pulse (n % 4)) refl
+valid-calls l (Free Pulses) n = valid-either (ltb n 36) _ _ (valid-pulse (n % 4)) refl
+valid-calls l (Free Probe) n = valid-probe n
+valid-calls l (Free Lower) n = valid-start n
+valid-calls l (Free Pull) n = valid-start n
 
 -- with a call left, it is made
 pub calls-more : (l : Layout) (device : ℕ) (c : Command) (n : ℕ) (k : ℕ → Bus) (bits ctl : ℕ) → (n ≡ 0 → ⊥)
@@ -183,6 +202,13 @@ unfolding pick
 some-stop true = omega arith
 some-stop false = omega arith
 
+free-some : (p : Piece) → 1 ≤ freeCount p
+unfolding freeCount
+free-some Pulses = omega arith
+free-some Probe = omega arith
+free-some Lower = omega arith
+free-some Pull = omega arith
+
 -- every command has a line call
 pub some-call : (l : Layout) (c : Command) → 1 ≤ callCount l c
 unfolding callCount stopCount
@@ -190,7 +216,7 @@ some-call l Start = omega arith
 some-call l (Send value) = omega arith
 some-call l (Read high) = omega arith
 some-call l Stop = some-stop (eqb (l .bben) 0)
-some-call l Free = omega arith
+some-call l (Free p) = free-some p
 
 pub nonzero : (n : ℕ) → 1 ≤ n → n ≡ 0 → ⊥
 nonzero n h e = omega (arith, h, e)

@@ -13,6 +13,8 @@ use Rattle.hardware.proofs.Longest.{longest-next, longest-few, longest-opened}
 use Rattle.bus.specs.declared.Layout.{Layout}
 use Rattle.bus.specs.declared.command.Command.{Command}
 use Rattle.bus.specs.declared.command.Command.the-variants.{Start, Send, Read, Stop, Free}
+use Rattle.bus.specs.declared.command.Piece.{Piece}
+use Rattle.bus.specs.declared.command.Piece.the-variants.{Pulses, Probe, Lower, Pull}
 use Rattle.bus.specs.declared.line.Call.{Call}
 use Rattle.bus.specs.declared.line.LineState.{LineState}
 use Rattle.bus.specs.declared.line.LineNext.{LineNext}
@@ -24,7 +26,7 @@ use Rattle.bus.specs.declared.clear.ClearNext.the-variants.{Going as Cle
 use Rattle.bus.specs.Clear.{accessClear, restClear, clearNext}
 use Rattle.bus.specs.Bus.{Bus, done, none}
 use Rattle.bus.specs.Line.{called, accessLine, restLine, lineNext}
-use Rattle.bus.specs.Command.{callCount, stopCount}
+use Rattle.bus.specs.Command.{freeCount, callCount, stopCount}
 use Rattle.bus.specs.Steps.{CALL-STEPS, JOB-STEPS}
 use Rattle.bus.specs.Left.{lineLeft, jobLeft}
 use Rattle.bus.proofs.Laws.{some-call}
@@ -60,13 +62,20 @@ unfolding pick
 few-stop true = omega arith
 few-stop false = omega arith
 
+few-free : (p : Piece) → freeCount p ≤ 53
+unfolding freeCount
+few-free Pulses = omega arith
+few-free Probe = omega arith
+few-free Lower = omega arith
+few-free Pull = omega arith
+
 few-calls : (l : Layout) (c : Command) → callCount l c ≤ 53
 unfolding callCount stopCount
 few-calls l Start = omega arith
 few-calls l (Send value) = omega arith
 few-calls l (Read high) = omega arith
 few-calls l Stop = few-stop (eqb (l .bben) 0)
-few-calls l Free = omega arith
+few-calls l (Free p) = few-free p
 
 -- one of the calls is made, and the others are left
 pub one-call : (n : ℕ) → (n ≡ 0 → ⊥) → CALL-STEPS + (n - 1) * CALL-STEPS ≤ n * CALL-STEPS

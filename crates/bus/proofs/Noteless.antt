@@ -1,4 +1,4 @@
--- The line calls, the commands and the clearing sequence note nothing, so that no attempt begins in them.
+-- The line calls, the commands and the clearing sequences note nothing, so that no attempt begins in them.
 use Prim.Native.Nat.{ℕ}
 use mathlib.Core.Path.{_≡_, refl}
 use mathlib.Core.Bool.{Bool, true, false}
@@ -8,8 +8,8 @@ use Rattle.hardware.specs.Prog.{Prog, ret, ask, note, give, pick, _>>=_}
 use Rattle.hardware.specs.Runs.{transfersIn}
 use Rattle.bus.specs.declared.Layout.{Layout}
 use Rattle.bus.specs.declared.Taken.{Taken}
-use Rattle.bus.specs.Bus.{Bus, done, clear}
-use Rattle.bus.proofs.Spreads.{Spreads, clear-holds}
+use Rattle.bus.specs.Bus.{Bus, done, clear, clearRounds}
+use Rattle.bus.proofs.Spreads.{Spreads, clear-holds, clear-rounds-holds}
 
 unfoldable pub Noteless : {A : Type 0} → Prog A → Type 0
 Noteless (ret v) = Unit {0}
@@ -53,3 +53,6 @@ done-noteless t ctl = ret-noteless _
 
 pub clear-noteless : (l : Layout) → NotelessBus (clear l)
 clear-noteless l = clear-holds Noteless noteless-spreads done-noteless bind-noteless l
+
+pub clear-rounds-noteless : (l : Layout) → NotelessBus (clearRounds l)
+clear-rounds-noteless l = clear-rounds-holds Noteless noteless-spreads done-noteless bind-noteless l

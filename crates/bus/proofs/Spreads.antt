@@ -1,4 +1,4 @@
--- What spreads holds of the line calls, the commands and the clearing sequence wherever it holds of what comes after them.
+-- What spreads holds of the line calls, the commands and the clearing sequences wherever it holds of what comes after them.
 use Prim.Native.Nat.{ℕ, suc, zero}
 use mathlib.Core.Bool.{Bool, true, false}
 use Rattle.hardware.specs.declared.Access.{Access}
@@ -8,7 +8,10 @@ use Rattle.hardware.specs.Prog.{Prog, ask, R, Ok, Err, pick, _>>=_}
 use Rattle.hardware.specs.Registers.{raw, written, flushed}
 use Rattle.bus.specs.declared.Layout.{Layout}
 use Rattle.bus.specs.declared.Taken.{Taken}
-use Rattle.bus.specs.Bus.{Held, Bus, done, fail, none, orHeld, flushing, put, get, wait, sclSeen, sclTries, sclHigh, sclLow, sdaSeen, sdaFree, sda, releaseSda, look, lookSeen, start, close, stop, outBit, sample, sampleSeen, inBit, shifted, inBits, inByte, bitOf, outBits, ackSeen, ackTries, send, pulses, orQuiet, quieted, quiet, clear, clearFree, clearAgain, clearStop}
+use Rattle.bus.specs.declared.command.Piece.{Piece}
+use Rattle.bus.specs.declared.command.Piece.the-variants.{Pulses, Probe, Lower, Pull}
+use Rattle.bus.specs.Command.{freed}
+use Rattle.bus.specs.Bus.{Held, Bus, done, fail, none, orHeld, flushing, put, get, wait, sclSeen, sclTries, sclHigh, sclLow, sdaSeen, sdaFree, sda, releaseSda, look, lookSeen, start, close, stop, outBit, sample, sampleSeen, inBit, shifted, inBits, inByte, bitOf, outBits, ackSeen, ackTries, send, pulses, orQuiet, quieted, quiet, clear, clearFree, clearAgain, clearStop, pulled, rounds, clearRounds}
 
 -- P holds of a failure, and of an access wherever it holds after each answer
 pub record Spreads (P : Prog Held → Type 0) : Type 0 where
@@ -152,10 +155,17 @@ module _ (P : Prog Held → Type 0) (s : Spreads P) where
   pulses-holds l zero k e = e
   pulses-holds l (suc count) k e = pulse-holds l _ (pulses-holds l count k e)
 
-  pub free-holds : (l : Layout) (k : Bus) → Throughout P k → Throughout P (releaseSda l (pulses l 9 k))
-  free-holds l k e = release-sda-holds l _ (pulses-holds l 9 k e)
+  lower-holds : (l : Layout) (k : Bus) → Throughout P k → Throughout P (sclLow l (wait 5 k))
+  lower-holds l k e = scl-low-holds l _ (wait-holds 5 k e)
 
-  -- with what holds of success, and of one program after another, it holds of the clearing sequence
+  pub free-holds : (l : Layout) (p : Piece) (k : ℕ → Bus) → ((b : ℕ) → Throughout P (k b)) → Throughout P (freed l p k)
+  unfolding freed sample sampleSeen
+  free-holds l Pulses k e = release-sda-holds l _ (pulses-holds l 9 (k 0) (e 0))
+  free-holds l Probe k e = release-sda-holds l _ (scl-high-holds l _ (wait-holds 4 _ (get-holds l _ (λ v. e _))))
+  free-holds l Lower k e = lower-holds l (k 0) (e 0)
+  free-holds l Pull k e = sda-holds l false _ (wait-holds 4 _ (lower-holds l (k 0) (e 0)))
+
+  -- with what holds of success, and of one program after another, it holds of the clearing sequences
   module _ (ended : (t : Taken) (ctl : ℕ) → P (done t ctl)) (bound : (p : Prog Held) (k : Held → Prog Held) → P p → ((h : Held) → P (k h)) → P (p >>= k)) where
     quieted-holds : (k : Bus) → Throughout P k → (ctl : ℕ) (r : R Taken) → P (orQuiet k ctl r)
     unfolding orQuiet
@@ -166,9 +176,22 @@ module _ (P : Prog Held → Type 0) (s : Spreads P) where
     unfolding quiet quieted
     quiet-holds p k d e ctl = bound _ _ (d ctl) (λ h. quieted-holds k e (h .ctl) (h .out))
 
+    stop-quietly : (l : Layout) → Throughout P (clearStop l)
+    unfolding clearStop
+    stop-quietly l = quiet-holds _ _ (stop-holds l (done none) (ended none)) (ended none)
+
     pub clear-holds : (l : Layout) → Throughout P (clear l)
-    unfolding clear clearFree clearAgain clearStop
+    unfolding clear clearFree clearAgain freed
     clear-holds l =
         let started = start-holds l (done none) (ended none) in
-        let stopped = quiet-holds _ _ (stop-holds l (done none) (ended none)) (ended none) in
-        quiet-holds _ _ started (free-holds l _ (quiet-holds _ _ started stopped))
+        quiet-holds _ _ started (free-holds l Pulses (λ _. clearAgain l) (λ _. quiet-holds _ _ started (stop-quietly l)))
+
+    rounds-holds : (l : Layout) (left : ℕ) → Throughout P (rounds l left)
+    unfolding rounds pulled sample sampleSeen freed
+    rounds-holds l zero = ended none
+    rounds-holds l (suc left) =
+        scl-high-holds l _ (wait-holds 4 _ (get-holds l _ (λ v. either-holds _ _ _ (free-holds l Pull (λ _. clearStop l) (λ _. stop-quietly l)) (lower-holds l _ (rounds-holds l left)))))
+
+    pub clear-rounds-holds : (l : Layout) → Throughout P (clearRounds l)
+    unfolding clearRounds
+    clear-rounds-holds l = release-sda-holds l _ (rounds-holds l 10)

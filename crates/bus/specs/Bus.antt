@@ -178,3 +178,16 @@ clearFree l = releaseSda l (pulses l 9 (clearAgain l))
 
 unfoldable pub clear : Layout → Bus
 clear l = quiet (start l (done none)) (clearFree l)
+
+-- the other clearing sequence (02, S-2). SDA was read high while SCL is high: it is pulled there, SCL is lowered, and a stop
+unfoldable pub pulled : Layout → Bus
+pulled l = sda l false (wait 4 (sclLow l (wait 5 (clearStop l))))
+
+-- a round raises SCL and reads SDA; where it is low, SCL is lowered and the next round follows
+unfoldable pub rounds : Layout → ℕ → Bus
+rounds l zero = done none
+rounds l (suc left) = sclHigh l (wait 4 (sample l (λ high. pick high (pulled l) (sclLow l (wait 5 (rounds l left))))))
+
+-- SDA is released, and at most ten rounds follow
+unfoldable pub clearRounds : Layout → Bus
+clearRounds l = releaseSda l (rounds l 10)

@@ -13,10 +13,12 @@ use Rattle.bus.specs.declared.line.Call.{Call}
 use Rattle.bus.specs.declared.line.Call.the-variants.{Look, Sda, Release, Up, Down, Wait, Sample, Ack, Close}
 use Rattle.bus.specs.declared.command.Command.{Command}
 use Rattle.bus.specs.declared.command.Command.the-variants.{Start, Send, Read, Stop, Free}
+use Rattle.bus.specs.declared.command.Piece.{Piece}
+use Rattle.bus.specs.declared.command.Piece.the-variants.{Pulses, Probe, Lower, Pull}
 use Rattle.bus.specs.declared.job.Job.{Job}
 use Rattle.bus.specs.declared.job.JobNext.{JobNext}
 use Rattle.bus.specs.declared.job.JobNext.the-variants.{Going, End}
-use Rattle.bus.specs.Bus.{Held, Bus, orHeld, fail, bitOf}
+use Rattle.bus.specs.Bus.{Held, Bus, orHeld, fail, bitOf, shifted, wait, sample, sclHigh, sclLow, sda, releaseSda, pulses}
 use Rattle.bus.specs.Line.{called, accessLine, restLine, validLine}
 
 -- how every bit ends: Up, a wait, Down, a wait
@@ -68,25 +70,52 @@ unfoldable pub readCall : Bool → ℕ → Call
 readCall high n = pick (ltb n 5) (outBitCall high n) (senseCall Sample ((n - 5) % 6))
 
 -- SDA released and nine pulses
-unfoldable pub freeCall : ℕ → Call
-freeCall n = pick (ltb n 36) (pulseCall (n % 4)) Release
+unfoldable pub pulsesCall : ℕ → Call
+pulsesCall n = pick (ltb n 36) (pulseCall (n % 4)) Release
+
+-- SDA released, SCL raised and SDA read
+unfoldable pub probeCall : ℕ → Call
+probeCall zero = Sample
+probeCall (suc zero) = Wait 4
+probeCall (suc (suc zero)) = Up
+probeCall (suc (suc (suc n))) = Release
+
+-- SCL is lowered, and SDA pulled before it, as at the end of a start
+unfoldable pub freeCall : Piece → ℕ → Call
+freeCall Pulses n = pulsesCall n
+freeCall Probe n = probeCall n
+freeCall Lower n = startCall n
+freeCall Pull n = startCall n
 
 unfoldable pub callAt : Layout → Command → ℕ → Call
 callAt l Start n = startCall n
 callAt l (Send value) n = sendCall value n
 callAt l (Read high) n = readCall high n
 callAt l Stop n = endCall l n
-callAt l Free n = freeCall n
+callAt l (Free p) n = freeCall p n
 
 unfoldable pub stopCount : Layout → ℕ
 stopCount l = pick (eqb (l .bben) 0) 5 6
+
+unfoldable pub freeCount : Piece → ℕ
+freeCount Pulses = 37
+freeCount Probe = 4
+freeCount Lower = 2
+freeCount Pull = 4
 
 unfoldable pub callCount : Layout → Command → ℕ
 callCount l Start = 8
 callCount l (Send value) = 46
 callCount l (Read high) = 53
 callCount l Stop = stopCount l
-callCount l Free = 37
+callCount l (Free p) = freeCount p
+
+-- the pieces of the clearing sequences as programs; the bit heard is handed on
+unfoldable pub freed : Layout → Piece → (ℕ → Bus) → Bus
+freed l Pulses k = releaseSda l (pulses l 9 (k 0))
+freed l Probe k = releaseSda l (sclHigh l (wait 4 (sample l (λ high. k (shifted 0 high)))))
+freed l Lower k = sclLow l (wait 5 (k 0))
+freed l Pull k = sda l false (wait 4 (sclLow l (wait 5 (k 0))))
 
 -- the calls are made; a byte sent is acknowledged if SDA was heard low
 unfoldable pub finished : ℕ → Command → (ℕ → Bus) → ℕ → Bus
@@ -94,7 +123,7 @@ finished device Start k bits = k bits
 finished device (Send value) k bits = pick (eqb bits 0) (k bits) (fail (I2c device))
 finished device (Read high) k bits = k bits
 finished device Stop k bits = k bits
-finished device Free k bits = k bits
+finished device (Free p) k bits = k bits
 
 -- the last n calls of a command
 unfoldable pub callsLeft : Layout → ℕ → Command → ℕ → (ℕ → Bus) → ℕ → Bus

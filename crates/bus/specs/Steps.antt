@@ -1,4 +1,4 @@
--- How many accesses the line calls, the commands and the clearing sequence make at most.
+-- How many accesses the line calls, the commands and the clearing sequences make at most.
 use Prim.Native.Nat.{ℕ, _+_, _*_}
 
 -- a write and a flush
@@ -69,6 +69,18 @@ FREE-STEPS = RELEASE-SDA-STEPS + 9 * PULSE-STEPS
 -- a start, the pulses, a start and a stop
 abbrev pub CLEAR-STEPS : ℕ
 CLEAR-STEPS = START-STEPS + FREE-STEPS + START-STEPS + STOP-STEPS
+
+-- SCL raised, SDA read, and SCL lowered
+abbrev pub ROUND-STEPS : ℕ
+ROUND-STEPS = SCL-HIGH-STEPS + WAIT-STEPS + GET-STEPS + SCL-LOW-STEPS + WAIT-STEPS
+
+-- SDA pulled before SCL is lowered in a round, and the stop behind it
+abbrev pub FINISH-STEPS : ℕ
+FINISH-STEPS = SDA-LOW-STEPS + WAIT-STEPS + STOP-STEPS
+
+-- SDA released and ten rounds
+abbrev pub CLEAR-ROUNDS-STEPS : ℕ
+CLEAR-ROUNDS-STEPS = RELEASE-SDA-STEPS + (10 * ROUND-STEPS + FINISH-STEPS)
 
 -- no line call makes more than that of SCL
 abbrev pub CALL-STEPS : ℕ

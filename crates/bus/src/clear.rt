@@ -1,6 +1,8 @@
-// The clearing sequence after a failed transfer: a start, SDA released, nine pulses of SCL, a start and a stop.
+// The clearing sequences after a failed transfer. That of the Rust: a start, SDA released, nine pulses of SCL, a start and a
+// stop. The other is in `rounds.rt`.
 use crate::Layout;
 use crate::command::Command;
+use crate::command::Piece;
 use crate::job::Job;
 use crate::job::JobNext;
 use hardware::Access;
@@ -11,15 +13,21 @@ ghost use mathlib.Core.Path.{_≡_};
 ghost use mathlib.Core.Bool.{true};
 ghost use Rattle.hardware.specs.Prog.{erase, followed};
 ghost use Rattle.bus.specs.declared.command.Command.the-variants.{Start as StartCommand, Stop as StopCommand, Free as FreeCommand};
+ghost use Rattle.bus.specs.declared.command.Piece.the-variants.{Pulses};
 ghost use Rattle.bus.specs.Bus.{done, none, quieted, clearStop, clearAgain, clearFree, clear};
 ghost use Rattle.bus.specs.Command.{jobNext, validJobNext};
-ghost use Rattle.bus.specs.Clear.{commandOf, accessClear, restClear, clearNext, validClear, validClearNext};
+ghost use Rattle.bus.specs.Clear.{commandOf, accessClear, restClear, clearNext, validPart, validClear, validClearNext};
 
+// A sequence's parts: the first three are the Rust's, the last three the other's, and Stop is of both. Probe and Lower hold
+// the rounds after this one.
 pub enum Part {
     First,
     Free,
     Again,
     Stop,
+    Probe(u8),
+    Lower(u8),
+    Pull,
 }
 
 pub struct Clear {
@@ -53,7 +61,7 @@ fn stopped(l: Layout, n: JobNext) -> ClearNext
     }
 }
 
-fn stop(l: Layout, ctl: u32) -> ClearNext
+pub fn stop(l: Layout, ctl: u32) -> ClearNext
     ensures { λ r. ⌜ clearNext l r ≡ erase (clearStop l ctl) ⌝ }
     ensures { λ r. ⌜ validClearNext l r ≡ true ⌝ }
 {
@@ -89,8 +97,8 @@ fn again(l: Layout, ctl: u32) -> ClearNext
 }
 
 fn freed(l: Layout, n: JobNext) -> ClearNext
-    ensures { λ r. ⌜ clearNext l r ≡ jobNext l 0 FreeCommand n (λ _. clearAgain l) ⌝ }
-    ensures { λ r. ⌜ (validJobNext l FreeCommand n ≡ true → validClearNext l r ≡ true) ⌝ }
+    ensures { λ r. ⌜ clearNext l r ≡ jobNext l 0 (FreeCommand Pulses) n (λ _. clearAgain l) ⌝ }
+    ensures { λ r. ⌜ (validJobNext l (FreeCommand Pulses) n ≡ true → validClearNext l r ≡ true) ⌝ }
 {
     match n {
         JobNext::Going(j) => ClearNext::Going(Clear {
@@ -108,7 +116,10 @@ fn free(l: Layout, ctl: u32) -> ClearNext
     ensures { λ r. ⌜ clearNext l r ≡ erase (clearFree l ctl) ⌝ }
     ensures { λ r. ⌜ validClearNext l r ≡ true ⌝ }
 {
-    freed(l, JobNext::Going(crate::job::open(l, Command::Free, ctl)))
+    freed(
+        l,
+        JobNext::Going(crate::job::open(l, Command::Free(Piece::Pulses), ctl)),
+    )
 }
 
 fn first(l: Layout, n: JobNext) -> ClearNext
@@ -154,9 +165,30 @@ pub fn step(l: Layout, s: Clear, a: Answer) -> ClearNext
     let j = s.job;
     match part {
         Part::First => first(l, crate::job::step(l, 0, Command::Start, j, a)),
-        Part::Free => freed(l, crate::job::step(l, 0, Command::Free, j, a)),
+        Part::Free => freed(
+            l,
+            crate::job::step(l, 0, Command::Free(Piece::Pulses), j, a),
+        ),
         Part::Again => started(l, crate::job::step(l, 0, Command::Start, j, a)),
         Part::Stop => stopped(l, crate::job::step(l, 0, Command::Stop, j, a)),
+        Part::Probe(left) => {
+            crate::rounds::probed(
+                l,
+                left,
+                crate::job::step(l, 0, Command::Free(Piece::Probe), j, a),
+            )
+        }
+        Part::Lower(left) => {
+            crate::rounds::lowered(
+                l,
+                left,
+                crate::job::step(l, 0, Command::Free(Piece::Lower), j, a),
+            )
+        }
+        Part::Pull => crate::rounds::pulled(
+            l,
+            crate::job::step(l, 0, Command::Free(Piece::Pull), j, a),
+        ),
     }
 }
 
@@ -165,9 +197,26 @@ fn command(p: Part) -> Command
 {
     match p {
         Part::First => Command::Start,
-        Part::Free => Command::Free,
+        Part::Free => Command::Free(Piece::Pulses),
         Part::Again => Command::Start,
         Part::Stop => Command::Stop,
+        Part::Probe(_) => Command::Free(Piece::Probe),
+        Part::Lower(_) => Command::Free(Piece::Lower),
+        Part::Pull => Command::Free(Piece::Pull),
+    }
+}
+
+fn valid_part(p: Part) -> bool
+    ensures { λ r. ⌜ r ≡ validPart p ⌝ }
+{
+    match p {
+        Part::First => true,
+        Part::Free => true,
+        Part::Again => true,
+        Part::Stop => true,
+        Part::Probe(left) => left < 10,
+        Part::Lower(left) => left < 10,
+        Part::Pull => true,
     }
 }
 
@@ -176,5 +225,8 @@ pub fn valid(l: Layout, s: Clear) -> bool
 {
     let part = s.part;
     let j = s.job;
-    crate::job::valid(l, command(part), j)
+    if valid_part(part) {
+        return crate::job::valid(l, command(part), j);
+    }
+    false
 }

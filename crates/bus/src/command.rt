@@ -4,16 +4,24 @@ use crate::line::Call;
 ghost use Prim.Native.Nat.{_<_};
 ghost use mathlib.Core.Path.{_≡_};
 ghost use Rattle.bus.specs.Bus.{bitOf};
-ghost use Rattle.bus.specs.Command.{pulseCall, outBitCall, senseCall, startCall, stopCall, sendCall, readCall, freeCall, endCall, callAt, stopCount, callCount};
+ghost use Rattle.bus.specs.Command.{pulseCall, outBitCall, senseCall, startCall, stopCall, sendCall, readCall, pulsesCall, probeCall, freeCall, endCall, callAt, stopCount, freeCount, callCount};
 
-// Read holds the level of the acknowledge bit, false where the byte is acknowledged. Free is the middle of the
-// clearing sequence and stands in no script.
+// A piece of a clearing sequence. Pulses: SDA released and nine pulses. Probe: SDA released, SCL raised and SDA read. Lower: SCL
+// lowered. Pull: SDA pulled before it.
+pub enum Piece {
+    Pulses,
+    Probe,
+    Lower,
+    Pull,
+}
+
+// Read holds the level of the acknowledge bit, false where the byte is acknowledged. Free stands in no script.
 pub enum Command {
     Start,
     Send(u8),
     Read(bool),
     Stop,
-    Free,
+    Free(Piece),
 }
 
 fn bit(byte: u8, n: u8) -> bool
@@ -102,13 +110,35 @@ fn read(high: bool, n: u8) -> Call
     sense(Call::Sample, (n - 5) % 6)
 }
 
-fn free(n: u8) -> Call
-    ensures { λ r. ⌜ r ≡ freeCall n ⌝ }
+fn pulses(n: u8) -> Call
+    ensures { λ r. ⌜ r ≡ pulsesCall n ⌝ }
 {
     if n < 36 {
         return pulse(n % 4);
     }
     Call::Release
+}
+
+fn probe(n: u8) -> Call
+    ensures { λ r. ⌜ r ≡ probeCall n ⌝ }
+{
+    match n {
+        0 => Call::Sample,
+        1 => Call::Wait(4),
+        2 => Call::Up,
+        _ => Call::Release,
+    }
+}
+
+fn free(p: Piece, n: u8) -> Call
+    ensures { λ r. ⌜ r ≡ freeCall p n ⌝ }
+{
+    match p {
+        Piece::Pulses => pulses(n),
+        Piece::Probe => probe(n),
+        Piece::Lower => start(n),
+        Piece::Pull => start(n),
+    }
 }
 
 // On the X552 and X553 a stop has one call more, the word that ends bit-banging.
@@ -132,7 +162,7 @@ pub fn call(l: Layout, c: Command, n: u8) -> Call
         Command::Send(byte) => send(byte, n),
         Command::Read(high) => read(high, n),
         Command::Stop => end(l, n),
-        Command::Free => free(n),
+        Command::Free(p) => free(p, n),
     }
 }
 
@@ -145,6 +175,17 @@ fn stop_count(l: Layout) -> u8
     6
 }
 
+fn free_count(p: Piece) -> u8
+    ensures { λ r. ⌜ r ≡ freeCount p ⌝ }
+{
+    match p {
+        Piece::Pulses => 37,
+        Piece::Probe => 4,
+        Piece::Lower => 2,
+        Piece::Pull => 4,
+    }
+}
+
 pub fn count(l: Layout, c: Command) -> u8
     ensures { λ r. ⌜ r ≡ callCount l c ⌝ }
 {
@@ -153,6 +194,6 @@ pub fn count(l: Layout, c: Command) -> u8
         Command::Send(_) => 46,
         Command::Read(_) => 53,
         Command::Stop => stop_count(l),
-        Command::Free => 37,
+        Command::Free(p) => free_count(p),
     }
 }

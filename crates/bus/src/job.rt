@@ -46,12 +46,12 @@ fn finish(l: Layout, device: u8, c: Command, ctl: u32, bits: u8) -> JobNext
         }
         Command::Read(_) => JobNext::End(ctl, Byte::Ok(bits)),
         Command::Stop => JobNext::End(ctl, Byte::Ok(bits)),
-        Command::Free => JobNext::End(ctl, Byte::Ok(bits)),
+        Command::Free(_) => JobNext::End(ctl, Byte::Ok(bits)),
     }
 }
 
 // A line call is made, with so many after it.
-fn begin(l: Layout, c: Command, ctl: u32, bits: u8, left: u8) -> Job
+pub fn begin(l: Layout, c: Command, ctl: u32, bits: u8, left: u8) -> Job
     ensures { λ r. ⌜ Bounds ((device : ℕ) (k : ℕ → Bus) → jobNext l device c (JobNext.Going r) k ≡ erase (called l (callAt l c left) bits (callsLeft l device c left k) ctl)) (ltb left (callCount l c) ≡ true → validJob l c r ≡ true) (jobLeft l r ≤ CALL-STEPS + left * CALL-STEPS) ⌝ }
 {
     Job {

@@ -1,8 +1,8 @@
--- With the answers of `atOnce`, and any of I2CCTL, no lock and no grant of a transfer, of an identification or of a page runs
--- out.
+-- With the answers of `atOnce`, and any of I2CCTL, no lock and no grant of a transfer, of an identification, of a page or of
+-- a rate select runs out.
 use Prim.Native.Nat.{ℕ, suc, zero}
 use mathlib.Core.Path.{_≡_, refl}
-use mathlib.Core.Bool.{Bool, true}
+use mathlib.Core.Bool.{Bool, true, false}
 use mathlib.Core.List.{List}
 use Rattle.hardware.specs.declared.Port.{Port}
 use Rattle.hardware.specs.declared.change.Change.{Change}
@@ -16,8 +16,10 @@ use Rattle.i2c.specs.declared.How.{How}
 use Rattle.transfer.specs.Attempt.{attempt}
 use Rattle.i2c.specs.declared.once.Request.{Request}
 use Rattle.i2c.specs.declared.once.Request.the-variants.{ReadByte, WriteByte, ReadCombined, WriteCombined}
-use Rattle.i2c.specs.I2c.{standard, locked, mask, once, whenLock, readJudged, readTries, writeTries, givenUp, writes, retried, askBus, giveBus, granting, granted, givenBus, onGrant, withBus, handshaken, givesValue, transferred}
+use Rattle.transfer.specs.declared.attempt.Sequence.{Sequence}
+use Rattle.i2c.specs.I2c.{locked, mask, once, whenLock, readJudged, readTries, writeTries, givenUp, writes, retried, askBus, giveBus, granting, granted, givenBus, onGrant, withBus, handshaken, givesValue, transferred}
 use Rattle.sfp.specs.Identify.{EEPROM, identify}
+use Rattle.sfp.specs.Rate.{DIAG, orNot, selected, rateByte, softRateSelect}
 use Rattle.page.specs.declared.walk.Form.{Form}
 use Rattle.page.specs.Page.{Filled, byteSeen, requestAt, pageFrom, page}
 use Rattle.demand.specs.Fine.{AtOnce}
@@ -112,22 +114,37 @@ module _ (port : Port) where
   unfolding transferred givesValue
   transferred-at-once r how n = bind-at-once _ _ (handshake-at-once r _ (retried-at-once r how n)) (λ result. ret-at-once _)
 
-  pub identify-at-once : AtOnce (layoutOf (port .family)) atOnce (identify standard port) (λ _. Unit {0})
-  identify-at-once =
-      identify-holds standard port (λ p. AtOnces port p)
-      (record { ends = λ v. ret-at-once v; requests = λ offset n k h. bind-at-once _ k (transferred-at-once (ReadByte EEPROM offset) (locked standard) n) h })
+  pub identify-at-once : (q : Sequence) → AtOnce (layoutOf (port .family)) atOnce (identify q port) (λ _. Unit {0})
+  identify-at-once q =
+      identify-holds q port (λ p. AtOnces port p)
+      (record { ends = λ v. ret-at-once v; requests = λ offset n k h. bind-at-once _ k (transferred-at-once (ReadByte EEPROM offset) (locked q) n) h })
 
   seen-at-once : (again : List ℕ → Prog Filled) (place : ℕ) (buffer : List ℕ) (r : R ℕ) → ((l : List ℕ) → AtOnces port (again l)) → AtOnces port (byteSeen again place buffer r)
   unfolding byteSeen
   seen-at-once again place buffer (Ok v) h = h _
   seen-at-once again place buffer (Err e) h = ret-at-once _
 
-  bytes-at-once : (form : Form) (tries n : ℕ) (buffer : List ℕ) → AtOnces port (pageFrom standard port form tries n buffer)
+  bytes-at-once : (q : Sequence) (form : Form) (tries n : ℕ) (buffer : List ℕ) → AtOnces port (pageFrom q port form tries n buffer)
   unfolding pageFrom
-  bytes-at-once form tries zero buffer = ret-at-once _
-  bytes-at-once form tries (suc left) buffer =
-      bind-at-once _ _ (transferred-at-once (requestAt form left) (locked standard) tries) (λ r. seen-at-once _ _ _ r (bytes-at-once form tries left))
+  bytes-at-once q form tries zero buffer = ret-at-once _
+  bytes-at-once q form tries (suc left) buffer =
+      bind-at-once _ _ (transferred-at-once (requestAt form left) (locked q) tries) (λ r. seen-at-once _ _ _ r (bytes-at-once q form tries left))
 
-  pub page-at-once : (form : Form) (tries : ℕ) (buffer : List ℕ) → AtOnces port (page standard port form tries buffer)
+  pub page-at-once : (q : Sequence) (form : Form) (tries : ℕ) (buffer : List ℕ) → AtOnces port (page q port form tries buffer)
   unfolding page
-  page-at-once form tries buffer = bytes-at-once form tries 96 buffer
+  page-at-once q form tries buffer = bytes-at-once q form tries 96 buffer
+
+  not-at-once : (k : Bool → Prog (R Bool)) (f : ℕ → Prog (R Bool)) (r : R ℕ) → ((b : Bool) → AtOnces port (k b)) → ((v : ℕ) → AtOnces port (f v)) → AtOnces port (orNot k f r)
+  unfolding orNot
+  not-at-once k f (Ok v) h g = g v
+  not-at-once k f (Err e) h g = at-once-pick _ _ _ _ _ _ (h false) (ret-at-once _)
+
+  rate-byte-at-once : (q : Sequence) (ten ok : Bool) (offset : ℕ) (k : Bool → Prog (R Bool)) → ((b : Bool) → AtOnces port (k b)) → AtOnces port (rateByte q port ten ok offset k)
+  unfolding rateByte
+  rate-byte-at-once q ten ok offset k h =
+      bind-at-once _ _ (transferred-at-once (ReadByte DIAG offset) (locked q) _) (λ r. not-at-once k _ r h (λ v.
+      bind-at-once _ _ (transferred-at-once (WriteByte DIAG offset (selected ten v)) (locked q) 2) (λ t. not-at-once k _ t h (λ _. h ok))))
+
+  pub rate-at-once : (q : Sequence) (ten : Bool) → AtOnces port (softRateSelect q port ten)
+  unfolding softRateSelect
+  rate-at-once q ten = rate-byte-at-once q ten true 0x6e _ (λ ok. rate-byte-at-once q ten ok 0x76 _ (λ both. ret-at-once _))

@@ -10,14 +10,16 @@ use Rattle.bus.specs.Bus.{Bus, fail, wait, sclHigh, sclLow, releaseSda, ackTrie
 use Rattle.wire.specs.Lines.{START, Fall, Bit, Distinct}
 use Rattle.wire.specs.Always.{Claim, From, FromRest}
 use Rattle.wire.proofs.Commands as Commands
+use Rattle.bench.specs.declared.receiver.Act.the-variants.{Next}
+use Rattle.bench.specs.declared.receiver.Chosen.{Chosen}
 use Rattle.bench.specs.declared.receiver.Receiver.{Receiver}
 use Rattle.bench.specs.declared.receiver.Stage.{Stage}
 use Rattle.bench.specs.declared.receiver.Stage.the-variants.{Address}
 use Rattle.bench.specs.Receiver.{stopped, taken, rise}
-use Rattle.bench.specs.Bench.{nextOffset, under}
+use Rattle.bench.specs.Bench.{under, pageOf}
 use Rattle.demand.specs.Claim.{CountedBench, machine}
 use Rattle.demand.proofs.Bits.{tookBits, shifted-taken}
-use Rattle.demand.proofs.Receiver.{with, stop-takes, rise-takes, rise-pulls, Taking, taking, taking-rises, taking-stays, taking-free, Acks, acks-pull, acks-rise, address-begun, stop-free, sending, listening, aimed, send-bit, send-rise, send-next, send-last}
+use Rattle.demand.proofs.Receiver.{with, stop-takes, rise-takes, rise-pulls, Taking, taking, taking-rises, taking-stays, taking-free, Acks, acks-pull, acks-rise, address-begun, stop-free, sending, listening, asked, send-bit, send-rise, send-next, send-last}
 
 module _ (l : Layout) (g : Distinct l) where
   -- the same from an equal state
@@ -64,33 +66,36 @@ module _ (l : Layout) (g : Distinct l) where
   started-at true false m free h =
       Commands.start-after l g machine (λ s. refl) free (stop-free m) (from (ap (λ s. machine .takes Fall (machine .takes START s)) (stop-takes m) ∙ address-begun (stopped (m .bench .receiver)) m) (h (stopped (m .bench .receiver))))
 
-  -- SDA was read while bit c was on it, and SCL falls
-  in-bit : (r : Receiver) (m : CountedBench) (n c byte : ℕ) {a : Bool} (k : ℕ → Bus) {Q : Claim machine} → c + suc n ≡ 8
-      → From l machine false true (machine .takes Fall (with (sending c r) m)) (k (taken byte (bitOf (under (m .bench .a0)) n))) Q
-      → From l machine a true (with (sending c r) m) (inBit l (λ bit. k (shifted byte bit))) Q
-  in-bit r m n c byte k {Q} e h =
-      Commands.in-bit l g machine (λ s. refl) (λ bit. k (shifted byte bit))
-      (from (ap (machine .takes Fall) (send-rise c _ r m)) (subst⁻¹ (λ d. From l machine false true (machine .takes Fall (with (sending c r) m)) (k d) Q) heard h))
-    where
-      twice : (b : Bool) → not (not b) ≡ b
-      twice true = refl
-      twice false = refl
+  module _ (page : Chosen) (r : Receiver) (m : CountedBench) where
+    -- SDA was read while bit c was on it, and SCL falls
+    in-bit : (n c byte : ℕ) {a : Bool} (k : ℕ → Bus) {Q : Claim machine} → c + suc n ≡ 8
+        → From l machine false true (machine .takes Fall (with (sending page c r) m)) (k (taken byte (bitOf (under (pageOf page (m .bench))) n))) Q
+        → From l machine a true (with (sending page c r) m) (inBit l (λ bit. k (shifted byte bit))) Q
+    in-bit n c byte k {Q} e h =
+        Commands.in-bit l g machine (λ s. refl) (λ bit. k (shifted byte bit))
+        (from (ap (machine .takes Fall) (send-rise page r m c _)) (subst⁻¹ (λ d. From l machine false true (machine .takes Fall (with (sending page c r) m)) (k d) Q) heard h))
+      where
+        twice : (b : Bool) → not (not b) ≡ b
+        twice true = refl
+        twice false = refl
 
-      place : 7 - c ≡ n
-      place = omega arith
+        place : 7 - c ≡ n
+        place = omega arith
 
-      heard : shifted byte (not (machine .pulls (machine .takes (Bit (not (machine .pulls (with (sending c r) m) .sda))) (with (sending c r) m)) .sda)) ≡ taken byte (bitOf (under (m .bench .a0)) n)
-      heard =
-          shifted-taken byte _
-          ∙ ap (taken byte)
-          (ap not (ap (λ s. machine .pulls s .sda) (send-rise c _ r m) ∙ send-bit c r m) ∙ twice (bitOf (under (m .bench .a0)) (7 - c)) ∙ ap (bitOf (under (m .bench .a0))) place)
+        heard : shifted byte (not (machine .pulls (machine .takes (Bit (not (machine .pulls (with (sending page c r) m) .sda))) (with (sending page c r) m)) .sda)) ≡ taken byte (bitOf (under (pageOf page (m .bench))) n)
+        heard =
+            shifted-taken byte _
+            ∙ ap (taken byte)
+            (ap not (ap (λ s. machine .pulls s .sda) (send-rise page r m c _) ∙ send-bit page r m c)
+            ∙ twice (bitOf (under (pageOf page (m .bench))) (7 - c))
+            ∙ ap (bitOf (under (pageOf page (m .bench)))) place)
 
-  -- a byte of page A0 is read, from its bit c on; the offset moves on
-  pub in-bits : (r : Receiver) (m : CountedBench) (n c byte : ℕ) {a : Bool} (k : ℕ → Bus) {Q : Claim machine} → c + suc n ≡ 8
-      → From l machine false true (with (listening r) (aimed (nextOffset (m .bench .a0 .offset)) m)) (k (tookBits (suc n) (under (m .bench .a0)) byte)) Q
-      → From l machine a true (with (sending c r) m) (inBits l (suc n) byte k) Q
-  unfolding inBits tookBits
-  in-bits r m zero c byte k e h = in-bit r m 0 c byte (λ d. inBits l 0 d k) e (from (send-last c r m (omega arith)) h)
-  in-bits r m (suc n) c byte k e h =
-      in-bit r m (suc n) c byte (λ d. inBits l (suc n) d k) e
-      (from (send-next c r m (omega arith)) (in-bits r m n (suc c) (taken byte (bitOf (under (m .bench .a0)) (suc n))) k (omega arith) h))
+    -- a byte of the page is read, from its bit c on; the offset moves on
+    pub in-bits : (n c byte : ℕ) {a : Bool} (k : ℕ → Bus) {Q : Claim machine} → c + suc n ≡ 8
+        → From l machine false true (with (listening page r) (asked page Next m)) (k (tookBits (suc n) (under (pageOf page (m .bench))) byte)) Q
+        → From l machine a true (with (sending page c r) m) (inBits l (suc n) byte k) Q
+    unfolding inBits tookBits
+    in-bits zero c byte k e h = in-bit 0 c byte (λ d. inBits l 0 d k) e (from (send-last page r m c (omega arith)) h)
+    in-bits (suc n) c byte k e h =
+        in-bit (suc n) c byte (λ d. inBits l (suc n) d k) e
+        (from (send-next page r m c (omega arith)) (in-bits n (suc c) (taken byte (bitOf (under (pageOf page (m .bench))) (suc n))) k (omega arith) h))

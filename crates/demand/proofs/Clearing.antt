@@ -9,65 +9,30 @@ use borrow.Author.Tests.{lt-ltb, ltb-true, ltb-false}
 use Rattle.hardware.specs.Prog.{pick}
 use Rattle.bus.specs.declared.Layout.{Layout}
 use Rattle.bus.specs.Bus.{bitOf, Bus, none, done, orQuiet, quieted, wait, sclHigh, sclLow, start, stop, pulses, clearStop, clearAgain, clearFree, clear}
-use Rattle.wire.specs.Lines.{drawn, STOP, Fall, Bit, Edge, Distinct}
+use Rattle.wire.specs.Lines.{drawn, Fall, Bit, Edge, Distinct}
 use Rattle.wire.specs.Always.{Always, Claim, From, FromRest}
 use Rattle.wire.proofs.Lines as Lines
 use Rattle.wire.proofs.Commands as Commands
-use Rattle.bench.specs.declared.Bench.{Bench}
-use Rattle.bench.specs.declared.receiver.Act.{Act}
-use Rattle.bench.specs.declared.receiver.Act.the-variants.{Nothing, Offset, Store, Next}
 use Rattle.bench.specs.declared.receiver.Chosen.{Chosen}
-use Rattle.bench.specs.declared.receiver.Chosen.the-variants.{A0, A2}
 use Rattle.bench.specs.declared.receiver.Receiver.{Receiver}
 use Rattle.bench.specs.declared.receiver.Stage.{Stage}
 use Rattle.bench.specs.declared.receiver.Stage.the-variants.{Idle, Address, Receive, AckRead, AckWrite, Send, Listen}
-use Rattle.bench.specs.Receiver.{at, stopped, taken, takes, riseAt, rise, addressed, fallAt, fall, asksAt, asks, edged, asksOn, pullsAt, pulls}
-use Rattle.bench.specs.Bench.{under, acted, pageOf, withPage, takesEdge, pullsLow}
+use Rattle.bench.specs.Receiver.{at, taken, takes, riseAt, rise, addressed, fallAt, fall, asksAt, asks, edged, asksOn, pullsAt, pulls}
+use Rattle.bench.specs.Bench.{under, pageOf, pullsLow}
 use Rattle.demand.specs.Claim.{CountedBench, machine}
-use Rattle.demand.proofs.Receiver.{with, rise-takes, fall-takes, rise-pulls, idle-free, stop-takes, stop-free, taking, taking-rises, taking-stays, taking-free, address-taking}
+use Rattle.demand.proofs.Receiver.{with, edge-takes, Keeps, rise-takes, fall-takes, rise-pulls, idle-free, taking, taking-rises, taking-stays, taking-free, address-taking}
 use Rattle.demand.proofs.Bits.{tookBits, byte-taken}
 use Rattle.demand.proofs.Bytes as Bytes
-use Rattle.demand.proofs.ReadByte.{Kept, from-rest}
-
--- nothing is stored
-abbrev pub Keeps : Act → Type 0
-Keeps Nothing = Unit {0}
-Keeps (Offset n) = Unit {0}
-Keeps (Store b) = ⊥
-Keeps Next = Unit {0}
-
-with-receiver : (page : Chosen) (act : Act) (r : Receiver) (b : Bench) → withPage page act r b .receiver ≡ r
-unfolding withPage
-with-receiver A0 act r b = refl
-with-receiver A2 act r b = refl
-
-acted-bytes : (act : Act) → Keeps act → (page : Chosen) (r : Receiver) (b : Bench) → withPage page act r b .a0 .bytes ≡ b .a0 .bytes
-unfolding withPage acted
-acted-bytes Nothing h A0 r b = refl
-acted-bytes (Offset n) h A0 r b = refl
-acted-bytes (Store v) h A0 r b = absurd h
-acted-bytes Next h A0 r b = refl
-acted-bytes act h A2 r b = refl
-
-acted-bytes2 : (act : Act) → Keeps act → (page : Chosen) (r : Receiver) (b : Bench) → withPage page act r b .a2 .bytes ≡ b .a2 .bytes
-unfolding withPage acted
-acted-bytes2 act h A0 r b = refl
-acted-bytes2 Nothing h A2 r b = refl
-acted-bytes2 (Offset n) h A2 r b = refl
-acted-bytes2 (Store v) h A2 r b = absurd h
-acted-bytes2 Next h A2 r b = refl
+use Rattle.demand.proofs.ReadByte.{Kept, kept-then, asked-kept, stops}
 
 -- the receiver goes its way, and the pages keep their bytes where nothing is stored
 pub edge-receiver : (e : Edge) (m : CountedBench) → machine .takes e m .bench .receiver ≡ edged e (m .bench .receiver)
-unfolding takesEdge
-edge-receiver e m = with-receiver (m .bench .receiver .page) _ _ (m .bench)
+edge-receiver e m = ap (λ n. n .bench .receiver) (edge-takes e m)
 
 pub edge-kept : (e : Edge) (m : CountedBench) → Keeps (asksOn e (m .bench .receiver)) → Kept m (machine .takes e m)
-unfolding takesEdge
-edge-kept e m h = record { a0 = acted-bytes _ h (m .bench .receiver .page) _ (m .bench); a2 = acted-bytes2 _ h (m .bench .receiver .page) _ (m .bench); made = refl }
-
-pub kept-then : {m n o : CountedBench} → Kept m n → Kept n o → Kept m o
-kept-then h k = record { a0 = k .a0 ∙ h .a0; a2 = k .a2 ∙ h .a2; made = k .made ∙ h .made }
+edge-kept e m h =
+    let k = asked-kept (m .bench .receiver .page) _ m h in
+    record { a0 = ap (λ n. n .bench .a0 .bytes) (edge-takes e m) ∙ k .a0; a2 = ap (λ n. n .bench .a2 .bytes) (edge-takes e m) ∙ k .a2; made = refl }
 
 -- SCL rises and falls with SDA released by the master
 abbrev pub pulsed : CountedBench → CountedBench
@@ -264,20 +229,24 @@ module _ (l : Layout) (g : Distinct l) where
   writes-pulses zero m e h = h m e refl
   writes-pulses (suc n) m e h = Commands.pulse l g machine (λ s. refl) (writes-pulses n (pulsed m) (writes-pulsed n m e) h)
 
+  -- the stop at the end, behind a START
+  pub stopped-at : (r : Receiver) (m : CountedBench) {Q : Claim machine}
+      → ((n : CountedBench) → n .bench .receiver .stage ≡ Idle → Kept m n → FromRest l machine false false n (done none) Q)
+      → From l machine true true (with (taking Address 0 0 r) m) (clearStop l) Q
+  unfolding clearStop Always quieted orQuiet
+  stopped-at r m h =
+      Commands.quieting l g machine (λ s. refl) (stop l (done none)) (done none)
+      (stops l g (with (taking Address 0 0 r) m) (taking-free Address address-taking r m 0 0) (λ n idle kept.
+      record { goes = λ ctl w q. h n idle (record { a0 = kept .a0; a2 = kept .a2; made = kept .made }) .goes ctl w q }))
+
   -- the start and the stop at the end
   freed : (m : CountedBench) {Q : Claim machine} → machine .pulls m .sda ≡ false
       → ((n : CountedBench) → n .bench .receiver .stage ≡ Idle → Kept m n → FromRest l machine false false n (done none) Q)
       → From l machine false true m (clearAgain l) Q
-  unfolding clearAgain clearStop Always quieted orQuiet stopped
-  freed m {Q} free h =
+  unfolding clearAgain
+  freed m free h =
       Commands.quieting l g machine (λ s. refl) (start l (done none)) (clearStop l)
-      (Commands.at-rest l g machine (λ s. refl) (Bytes.started-at l g false true m free (λ r. Commands.done-quietly l g machine (λ s. refl) none
-      (Commands.quieting l g machine (λ s. refl) (stop l (done none)) (done none)
-      (Commands.stop-low l g machine (λ s. refl) (rise-pulls false (with (taking Address 0 0 r) m) ∙ taking-free Address address-taking r m 0 0) (stop-free (machine .takes (Bit false) (with (taking Address 0 0 r) m)))
-      (from-rest l g (ended r) (record { goes = λ ctl w q. h (with (stopped (rise false (taking Address 0 0 r))) m) refl (record { a0 = refl; a2 = refl; made = refl }) .goes ctl w q })))))))
-    where
-      ended : (r : Receiver) → machine .takes STOP (machine .takes (Bit false) (with (taking Address 0 0 r) m)) ≡ with (stopped (rise false (taking Address 0 0 r))) m
-      ended r = ap (machine .takes STOP) (rise-takes false (with (taking Address 0 0 r) m)) ∙ stop-takes (with (rise false (taking Address 0 0 r)) m)
+      (Commands.at-rest l g machine (λ s. refl) (Bytes.started-at l g false true m free (λ r. Commands.done-quietly l g machine (λ s. refl) none (stopped-at r m h))))
 
   -- the first start of the clearing finds SDA held, and the master releases it
   clear-begins : (b : Bool) (m : CountedBench) {Q : Claim machine} → machine .pulls m .sda ≡ true → From l machine false b m (pulses l 9 (clearAgain l)) Q

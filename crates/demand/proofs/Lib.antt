@@ -3,6 +3,7 @@ pub mod Receiver
 pub mod Bytes
 pub mod ReadByte
 pub mod Clearing
+pub mod Rounds
 pub mod Attempts
 pub mod Fine
 pub mod Locks
@@ -15,4 +16,6 @@ pub mod Runs
 pub mod Claim
 pub mod Possible
 pub mod Page
+pub mod WriteByte
+pub mod Rate
 pub mod Library

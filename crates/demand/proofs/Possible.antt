@@ -5,7 +5,7 @@ use mathlib.Core.Bool.{Bool, true, false}
 use mathlib.Core.List.{List, [], _∷_, _++_}
 use native.Mathlib.Omega.{arith}
 use lib.ListN.{length, length-append}
-use Rattle.i2c.specs.I2c.{standard}
+use Rattle.transfer.specs.declared.attempt.Sequence.{Sequence}
 use Rattle.hardware.specs.declared.Access.{Access}
 use Rattle.hardware.specs.declared.Access.the-variants.{Read, Write, Wait}
 use Rattle.hardware.specs.declared.Answer.{Answer}
@@ -19,16 +19,20 @@ use Rattle.wire.specs.Machine.{Side, World, modelled, reply, noted}
 use Rattle.wire.specs.Run.{fixed, Finished, BenchRun, proceed, run, answersIn}
 use Rattle.wire.proofs.Run.{replayed, fixed-finishes}
 use Rattle.bench.specs.declared.Bench.{Bench}
+use Rattle.bench.specs.declared.receiver.Chosen.{Chosen}
 use Rattle.bench.specs.AtOnce.{atOnce}
+use Rattle.i2c.specs.declared.once.Request.the-variants.{WriteByte}
+use Rattle.i2c.specs.I2c.{standard, making}
 use Rattle.sfp.specs.declared.Identity.{Identity}
 use Rattle.sfp.specs.Identify.{identify}
 use Rattle.sfp.specs.Steps.{IDENTIFY-STEPS}
 use Rattle.page.specs.declared.walk.Form.{Form}
 use Rattle.demand.specs.Fine.{AtOnce}
-use Rattle.demand.specs.Claim.{machine, benchRun, Works, Premise, atStart, Premises}
-use Rattle.demand.specs.PageClaim.{pageCall, PagePremises}
+use Rattle.demand.specs.Claim.{machine, benchRun, Works, Premise, atStart, Premises, CallPremises}
+use Rattle.demand.specs.PageClaim.{pageCall}
+use Rattle.demand.specs.WriteClaim.{addressOf, writeCall, rateCall}
 use Rattle.demand.proofs.AtOnce.{at-once-stays}
-use Rattle.demand.proofs.AtOnceCalls.{AtOnces, identify-at-once, page-at-once}
+use Rattle.demand.proofs.AtOnceCalls.{AtOnces, transferred-at-once, identify-at-once, page-at-once, rate-at-once}
 
 -- each of the atOnce answers works
 at-once-works : (x : Access) → Works x (atOnce x)
@@ -90,36 +94,47 @@ module _ {A : Type 0} (port : Port) (p : Prog A) (b : Bench) (word more : ℕ) w
   pub list-long : more ≤ length promptList
   list-long = omega (arith, length-append (answersIn (promptRun port p b word .trace)) (dones more), dones-length more)
 
-module _ (port : Port) (b : Bench) (word : ℕ) where
+  -- Such a list meets the premises and is as long as one likes, and the run over it comes to its end
+  pub list-possible : AtOnces port p → (answers : List Answer) × CallPremises port p b word answers × (more ≤ length answers) × Finished (benchRun port p b word answers .outcome)
+  unfolding CallPremises
+  list-possible h = (promptList, list-meets h, list-long, list-finishes)
+
+module _ (q : Sequence) (port : Port) (b : Bench) (word : ℕ) where
   -- a whole identification with the atOnce answers
   abbrev pub prompt : BenchRun machine (R Identity)
-  prompt = promptRun port (identify standard port) b word
+  prompt = promptRun port (identify q port) b word
 
   -- the answers in it, and more
   abbrev pub promptAnswers : List Answer
-  promptAnswers = promptList port (identify standard port) b word (IDENTIFY-STEPS (port .family))
+  promptAnswers = promptList port (identify q port) b word (IDENTIFY-STEPS (port .family))
 
-  pub prompt-replayed : benchRun port (identify standard port) b word promptAnswers ≡ prompt
-  prompt-replayed = list-replayed port (identify standard port) b word (IDENTIFY-STEPS (port .family))
+  pub prompt-replayed : benchRun port (identify q port) b word promptAnswers ≡ prompt
+  prompt-replayed = list-replayed port (identify q port) b word (IDENTIFY-STEPS (port .family))
 
-  pub at-once-meets : Premises port b word promptAnswers
-  unfolding Premises
-  at-once-meets = list-meets port (identify standard port) b word (IDENTIFY-STEPS (port .family)) (identify-at-once port)
+  pub at-once-meets : Premises q port b word promptAnswers
+  unfolding CallPremises
+  at-once-meets = list-meets port (identify q port) b word (IDENTIFY-STEPS (port .family)) (identify-at-once port q)
 
   pub at-once-long : IDENTIFY-STEPS (port .family) ≤ length promptAnswers
-  at-once-long = list-long port (identify standard port) b word (IDENTIFY-STEPS (port .family))
+  at-once-long = list-long port (identify q port) b word (IDENTIFY-STEPS (port .family))
 
   -- For every port and every start, AckWrite included, a list of answers that meets the premises and is long enough
-  pub possible : (answers : List Answer) × Premises port b word answers × (IDENTIFY-STEPS (port .family) ≤ length answers)
+  pub possible : (answers : List Answer) × Premises q port b word answers × (IDENTIFY-STEPS (port .family) ≤ length answers)
   possible = (promptAnswers, at-once-meets, at-once-long)
 
   -- For a page too, on whatever buffer and with any number of attempts, and as long as one likes; its run comes to its end
   pub page-possible : (form : Form) (tries : ℕ) (buffer : List ℕ) (n : ℕ)
-      → (answers : List Answer) × PagePremises port form tries buffer b word answers × (n ≤ length answers) × Finished (benchRun port (pageCall port form tries buffer) b word answers .outcome)
-  unfolding PagePremises
-  page-possible form tries buffer n = (
-    promptList port (pageCall port form tries buffer) b word n,
-    list-meets port (pageCall port form tries buffer) b word n (page-at-once port form tries buffer),
-    list-long port (pageCall port form tries buffer) b word n,
-    list-finishes port (pageCall port form tries buffer) b word n,
-  )
+      → (answers : List Answer) × CallPremises port (pageCall q port form tries buffer) b word answers × (n ≤ length answers) × Finished (benchRun port (pageCall q port form tries buffer) b word answers .outcome)
+  unfolding CallPremises
+  page-possible form tries buffer n = list-possible port (pageCall q port form tries buffer) b word n (page-at-once port q form tries buffer)
+
+module _ (port : Port) (b : Bench) (word n : ℕ) where
+  -- For a byte written, and for a rate select
+  pub write-possible : (page : Chosen) (offset value : ℕ) (lock : Bool)
+      → (answers : List Answer) × CallPremises port (writeCall port page offset value lock) b word answers × (n ≤ length answers) × Finished (benchRun port (writeCall port page offset value lock) b word answers .outcome)
+  write-possible page offset value lock =
+      list-possible port (writeCall port page offset value lock) b word n (transferred-at-once port (WriteByte (addressOf page) offset value) (making lock standard) 2)
+
+  pub rate-possible : (ten : Bool)
+      → (answers : List Answer) × CallPremises port (rateCall port ten) b word answers × (n ≤ length answers) × Finished (benchRun port (rateCall port ten) b word answers .outcome)
+  rate-possible ten = list-possible port (rateCall port ten) b word n (rate-at-once port standard ten)

@@ -2,6 +2,7 @@
 use Prim.Native.Nat.{ℕ, _-_, _<_, _≤_, suc}
 use mathlib.Core.Path.{_≡_, refl, ap, _∙_}
 use mathlib.Core.Bool.{Bool, true, false, not}
+use lib.Bits.{bitOr}
 use lib.Dec.{ltb}
 use native.Mathlib.Omega.{arith}
 use borrow.Author.Tests.{lt-ltb, le-ltb}
@@ -9,31 +10,76 @@ use Rattle.hardware.specs.Prog.{pick}
 use Rattle.bus.specs.Bus.{bitOf}
 use Rattle.wire.specs.Lines.{Edge, START, STOP, Fall, Bit}
 use Rattle.bench.specs.declared.Bench.{Bench}
-use Rattle.bench.specs.declared.receiver.Act.the-variants.{Nothing}
+use Rattle.bench.specs.declared.Page.{Page}
+use Rattle.bench.specs.declared.receiver.Act.{Act}
+use Rattle.bench.specs.declared.receiver.Act.the-variants.{Nothing, Offset, Store, Next}
 use Rattle.bench.specs.declared.receiver.Chosen.{Chosen}
 use Rattle.bench.specs.declared.receiver.Chosen.the-variants.{A0, A2}
 use Rattle.bench.specs.declared.receiver.Receiver.{Receiver}
 use Rattle.bench.specs.declared.receiver.Stage.{Stage}
 use Rattle.bench.specs.declared.receiver.Stage.the-variants.{Idle, Address, Receive, AckRead, AckWrite, Send, Listen}
-use Rattle.bench.specs.Receiver.{at, started, stopped, taken, takes, riseAt, rise, chose, addressed, byteTaken, fallAt, fall, asksAt, asks, edged, asksOn, pullsAt, pulls}
-use Rattle.bench.specs.Bench.{nextOffset, under, acted, pageOf, withPage, takesEdge, pullsLow}
+use Rattle.bench.specs.Receiver.{started, stopped, taken, takes, riseAt, rise, chose, addressed, byteTaken, fallAt, fall, asksAt, asks, edged, asksOn, pullsAt, pulls}
+use Rattle.bench.specs.Bench.{under, acted, pageOf, withPage, takesEdge, pullsLow}
 use Rattle.demand.specs.Claim.{CountedBench, machine}
+use Rattle.demand.specs.WriteClaim.{addressOf}
 
 -- the same pages and count with another receiver
 abbrev pub with : Receiver → CountedBench → CountedBench
 with r m = record { bench = record { receiver = r; a0 = m .bench .a0; a2 = m .bench .a2 }; meter = m .meter }
 
-with-none : (page : Chosen) (r : Receiver) (b : Bench) → withPage page Nothing r b ≡ record { receiver = r; a0 = b .a0; a2 = b .a2 }
-unfolding withPage acted
-with-none A0 r b = refl
-with-none A2 r b = refl
+-- one page, after something was asked of it or of the other
+abbrev pub does : Chosen → Chosen → Act → Page → Page
+does A0 A0 act p = acted act p
+does A0 A2 act p = p
+does A2 A0 act p = p
+does A2 A2 act p = acted act p
+
+-- the same receiver and count, after something was asked of a page
+abbrev pub asked : Chosen → Act → CountedBench → CountedBench
+asked page act m =
+    record { bench = record { receiver = m .bench .receiver; a0 = does A0 page act (m .bench .a0); a2 = does A2 page act (m .bench .a2) }; meter = m .meter }
+
+with-page : (page : Chosen) (act : Act) (r : Receiver) (b : Bench) → withPage page act r b ≡ record { receiver = r; a0 = does A0 page act (b .a0); a2 = does A2 page act (b .a2) }
+unfolding withPage
+with-page A0 act r b = refl
+with-page A2 act r b = refl
+
+-- an edge: the receiver goes its way, and its page does what it asks
+pub edge-takes : (e : Edge) (m : CountedBench) → machine .takes e m ≡ with (edged e (m .bench .receiver)) (asked (m .bench .receiver .page) (asksOn e (m .bench .receiver)) m)
+unfolding takesEdge
+edge-takes e m = ap (λ b. record { bench = b; meter = m .meter }) (with-page (m .bench .receiver .page) _ _ (m .bench))
+
+-- nothing is stored
+abbrev pub Keeps : Act → Type 0
+Keeps Nothing = Unit {0}
+Keeps (Offset n) = Unit {0}
+Keeps (Store b) = ⊥
+Keeps Next = Unit {0}
+
+acted-bytes : (act : Act) (p : Page) → Keeps act → acted act p .bytes ≡ p .bytes
+unfolding acted
+acted-bytes Nothing p h = refl
+acted-bytes (Offset n) p h = refl
+acted-bytes (Store v) p h = absurd h
+acted-bytes Next p h = refl
+
+pub does-bytes : (this page : Chosen) (act : Act) (p : Page) → Keeps act → does this page act p .bytes ≡ p .bytes
+does-bytes A0 A0 act p h = acted-bytes act p h
+does-bytes A0 A2 act p h = refl
+does-bytes A2 A0 act p h = refl
+does-bytes A2 A2 act p h = acted-bytes act p h
+
+asked-none : (page : Chosen) (r : Receiver) (m : CountedBench) → with r (asked page Nothing m) ≡ with r m
+unfolding acted
+asked-none A0 r m = refl
+asked-none A2 r m = refl
 
 -- an edge that asks nothing of the page
 pub plain : (e : Edge) (m : CountedBench) → asksOn e (m .bench .receiver) ≡ Nothing → machine .takes e m ≡ with (edged e (m .bench .receiver)) m
-unfolding takesEdge
 plain e m h =
-    ap (λ act. record { bench = withPage (m .bench .receiver .page) act (edged e (m .bench .receiver)) (m .bench); meter = m .meter }) h
-    ∙ ap (λ b. record { bench = b; meter = m .meter }) (with-none (m .bench .receiver .page) _ (m .bench))
+    edge-takes e m
+    ∙ ap (λ act. with (edged e (m .bench .receiver)) (asked (m .bench .receiver .page) act m)) h
+    ∙ asked-none (m .bench .receiver .page) _ m
 
 -- START takes every receiver to Address with 0 bits, and SCL's fall leaves it there
 pub start-takes : (m : CountedBench) → machine .takes START m ≡ with (started (m .bench .receiver)) m
@@ -199,74 +245,73 @@ pub idle-free : (r : Receiver) (m : CountedBench) → r .stage ≡ Idle → mach
 unfolding pullsLow pulls pullsAt
 idle-free r m e = rw e
 
--- a byte of page A0 is being sent, its bit n on SDA
-abbrev pub sending : ℕ → Receiver → Receiver
-sending n r = record { stage = Send n; bits = r .bits; page = A0; first = r .first; noted = r .noted }
+-- a byte of a page is being sent, its bit n on SDA
+abbrev pub sending : Chosen → ℕ → Receiver → Receiver
+sending page n r = record { stage = Send n; bits = r .bits; page = page; first = r .first; noted = r .noted }
 
-abbrev pub listening : Receiver → Receiver
-listening r = record { stage = Listen; bits = r .bits; page = A0; first = r .first; noted = r .noted }
+abbrev pub listening : Chosen → Receiver → Receiver
+listening page r = record { stage = Listen; bits = r .bits; page = page; first = r .first; noted = r .noted }
 
--- the offset of page A0 is set, or moves on
-abbrev pub aimed : ℕ → CountedBench → CountedBench
-aimed n m = record { bench = record { receiver = m .bench .receiver; a0 = record { offset = n; bytes = m .bench .a0 .bytes }; a2 = m .bench .a2 }; meter = m .meter }
-
-pub send-bit : (n : ℕ) (r : Receiver) (m : CountedBench) → machine .pulls (with (sending n r) m) .sda ≡ not (bitOf (under (m .bench .a0)) (7 - n))
-unfolding pullsLow pulls pullsAt pageOf
-send-bit n r m = refl
-
-pub send-rise : (n : ℕ) (sda : Bool) (r : Receiver) (m : CountedBench) → machine .takes (Bit sda) (with (sending n r) m) ≡ with (sending n r) m
-unfolding rise riseAt
-send-rise n sda r m = rise-takes sda (with (sending n r) m)
-
-pub send-next : (n : ℕ) (r : Receiver) (m : CountedBench) → n < 7 → machine .takes Fall (with (sending n r) m) ≡ with (sending (suc n) r) m
-unfolding asks asksAt fall fallAt pick
-send-next n r m h = fall-takes (with (sending n r) m) (rw (lt-ltb n 7 h)) ∙ ap (λ q. with q m) (rw (lt-ltb n 7 h))
-
-pub send-last : (n : ℕ) (r : Receiver) (m : CountedBench) → 7 ≤ n → machine .takes Fall (with (sending n r) m) ≡ with (listening r) (aimed (nextOffset (m .bench .a0 .offset)) m)
-unfolding takesEdge edged asksOn asks asksAt fall fallAt pick withPage acted
-send-last n r m h = rw (le-ltb n 7 h)
+-- the receiver of a page before an offset (first), or before a byte to store
+abbrev pub expecting : Chosen → Bool → Receiver → Receiver
+expecting page first r = record { stage = r .stage; bits = r .bits; page = page; first = first; noted = r .noted }
 
 -- STOP leaves an idle receiver, which pulls nothing
 pub stop-free : (m : CountedBench) → machine .pulls (machine .takes STOP m) .sda ≡ false
 unfolding stopped
 stop-free m = ap (λ s. machine .pulls s .sda) (stop-takes m) ∙ idle-free (stopped (m .bench .receiver)) m refl
 
--- a receiver that listens hears a bit that is not acknowledged, and is idle
-pub listen-ends : (r : Receiver) (m : CountedBench) → machine .takes Fall (machine .takes (Bit true) (with (listening r) m)) ≡ with (at Idle (record { stage = Idle; bits = r .bits; page = A0; first = r .first; noted = true })) m
-unfolding rise riseAt asks asksAt fall fallAt pick
-listen-ends r m = ap (machine .takes Fall) (rise-takes true (with (listening r) m)) ∙ fall-takes _ refl
+module _ (page : Chosen) (r : Receiver) (m : CountedBench) where
+  pub send-bit : (n : ℕ) → machine .pulls (with (sending page n r) m) .sda ≡ not (bitOf (under (pageOf page (m .bench))) (7 - n))
+  unfolding pullsLow pulls pullsAt
+  send-bit n = ap (λ p. not (bitOf (under p) (7 - n))) (page-with page (sending page n r) m)
 
-pub listen-free : (r : Receiver) (m : CountedBench) → machine .pulls (with (listening r) m) .sda ≡ false
-unfolding pullsLow pulls pullsAt
-listen-free r m = refl
+  pub send-rise : (n : ℕ) (sda : Bool) → machine .takes (Bit sda) (with (sending page n r) m) ≡ with (sending page n r) m
+  unfolding rise riseAt
+  send-rise n sda = rise-takes sda (with (sending page n r) m)
 
--- the address of page A0, to write or to read, and the offset, taken whole
-pub addressed-write : (r : Receiver) (m : CountedBench) → machine .takes Fall (with (taking Address 8 0xa0 r) m) ≡ with (chose AckWrite A0 (taking Address 8 0xa0 r)) m
+  pub send-next : (n : ℕ) → n < 7 → machine .takes Fall (with (sending page n r) m) ≡ with (sending page (suc n) r) m
+  unfolding asks asksAt fall fallAt pick
+  send-next n h = fall-takes (with (sending page n r) m) (rw (lt-ltb n 7 h)) ∙ ap (λ q. with q m) (rw (lt-ltb n 7 h))
+
+  -- the offset moves on
+  pub send-last : (n : ℕ) → 7 ≤ n → machine .takes Fall (with (sending page n r) m) ≡ with (listening page r) (asked page Next m)
+  unfolding edged asksOn asks asksAt fall fallAt pick
+  send-last n h = edge-takes Fall (with (sending page n r) m) ∙ rw (le-ltb n 7 h)
+
+  -- a receiver that listens hears a bit that is not acknowledged, and is idle
+  pub listen-ends : machine .takes Fall (machine .takes (Bit true) (with (listening page r) m)) ≡ with (record { stage = Idle; bits = r .bits; page = page; first = r .first; noted = true }) m
+  unfolding rise riseAt asks asksAt fall fallAt pick
+  listen-ends = ap (machine .takes Fall) (rise-takes true (with (listening page r) m)) ∙ fall-takes _ refl
+
+  pub listen-free : machine .pulls (with (listening page r) m) .sda ≡ false
+  unfolding pullsLow pulls pullsAt
+  listen-free = refl
+
+-- the address of a page, to write or to read, taken whole
+pub addressed-write : (page : Chosen) (r : Receiver) (m : CountedBench)
+    → machine .takes Fall (with (taking Address 8 (addressOf page) r) m) ≡ with (chose AckWrite page (taking Address 8 (addressOf page) r)) m
 unfolding asks asksAt fall fallAt addressed pick
-addressed-write r m = fall-takes (with (taking Address 8 0xa0 r) m) refl
+addressed-write A0 r m = fall-takes (with (taking Address 8 (addressOf A0) r) m) refl
+addressed-write A2 r m = fall-takes (with (taking Address 8 (addressOf A2) r) m) refl
 
-pub addressed-read : (r : Receiver) (m : CountedBench) → machine .takes Fall (with (taking Address 8 0xa1 r) m) ≡ with (chose AckRead A0 (taking Address 8 0xa1 r)) m
+pub addressed-read : (page : Chosen) (r : Receiver) (m : CountedBench)
+    → machine .takes Fall (with (taking Address 8 (bitOr (addressOf page) 1) r) m) ≡ with (chose AckRead page (taking Address 8 (bitOr (addressOf page) 1) r)) m
 unfolding asks asksAt fall fallAt addressed pick
-addressed-read r m = fall-takes (with (taking Address 8 0xa1 r) m) refl
+addressed-read A0 r m = fall-takes (with (taking Address 8 (bitOr (addressOf A0) 1) r) m) refl
+addressed-read A2 r m = fall-takes (with (taking Address 8 (bitOr (addressOf A2) 1) r) m) refl
 
--- the receiver of page A0 before an offset
-abbrev pub expecting : Receiver → Receiver
-expecting r = record { stage = r .stage; bits = r .bits; page = A0; first = true; noted = r .noted }
-
-pub offset-taken : (n : ℕ) (r : Receiver) (m : CountedBench) → machine .takes Fall (with (taking Receive 8 n (expecting r)) m) ≡ with (byteTaken (taking Receive 8 n (expecting r))) (aimed n m)
-unfolding takesEdge edged asksOn asks asksAt fall fallAt pick withPage acted
-offset-taken n r m = refl
+-- a byte taken whole: the first is the offset, any other is stored
+pub byte-ends : (n : ℕ) (r : Receiver) (m : CountedBench)
+    → machine .takes Fall (with (taking Receive 8 n r) m) ≡ with (byteTaken (taking Receive 8 n r)) (asked (r .page) (pick (r .first) (Offset n) (Store n)) m)
+unfolding edged asksOn asks asksAt fall fallAt pick
+byte-ends n r m = edge-takes Fall (with (taking Receive 8 n r) m)
 
 -- SCL's fall after an acknowledgement
 pub ack-write-ends : (r : Receiver) (m : CountedBench) → r .stage ≡ AckWrite → machine .takes Fall (with r m) ≡ with (taking Receive 0 0 r) m
 unfolding asks asksAt fall fallAt
 ack-write-ends r m e = fall-takes (with r m) (rw e) ∙ ap (λ q. with q m) (rw e)
 
-pub ack-read-ends : (r : Receiver) (m : CountedBench) → machine .takes Fall (with (chose AckRead A0 r) m) ≡ with (sending 0 (chose AckRead A0 r)) m
+pub ack-read-ends : (page : Chosen) (r : Receiver) (m : CountedBench) → machine .takes Fall (with (chose AckRead page r) m) ≡ with (sending page 0 (chose AckRead page r)) m
 unfolding asks asksAt fall fallAt
-ack-read-ends r m = fall-takes (with (chose AckRead A0 r) m) refl
-
--- in an idle receiver nothing happens but START
-pub idle-rise : (sda : Bool) (r : Receiver) (m : CountedBench) → machine .takes (Bit sda) (with (at Idle r) m) ≡ with (at Idle r) m
-unfolding rise riseAt
-idle-rise sda r m = rise-takes sda (with (at Idle r) m)
+ack-read-ends page r m = fall-takes (with (chose AckRead page r) m) refl

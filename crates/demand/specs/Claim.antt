@@ -6,6 +6,8 @@ use mathlib.Core.Bool.{true, not, _||_}
 use mathlib.Core.List.{List}
 use lib.Dec.{T, eqb}
 use lib.ListN.{getD}
+use Rattle.transfer.specs.declared.attempt.Sequence.{Sequence}
+use Rattle.transfer.specs.declared.attempt.Sequence.the-variants.{Pulses, Rounds}
 use Rattle.i2c.specs.I2c.{standard}
 use Rattle.hardware.specs.declared.Access.{Access}
 use Rattle.hardware.specs.declared.Access.the-variants.{Read, Write, Wait}
@@ -90,6 +92,16 @@ Told Q (ended a w) (stopped n v) = ⊥
 Told Q (short w) o = ⊥
 Told Q (stopped n w) o = ⊥
 
+-- a call on the bench over a list of answers
+module _ {A : Type 0} (port : Port) (p : Prog A) (b : Bench) (word : ℕ) (answers : List Answer) where
+  -- the answers meet the premises
+  unfoldable pub CallPremises : Type 0
+  CallPremises = Each Premise (benchRun port p b word answers .trace)
+
+  -- both runs come to their end, and Q holds of it
+  unfoldable pub CallComes : (A → World machine → Type 0) → Type 0
+  CallComes Q = Told Q (benchRun port p b word answers .outcome) (benchRun port (tally blank p) b word answers .outcome)
+
 -- byte n of a page
 abbrev pub byteOf : Page → Bytes
 byteOf p n = getD (p .bytes) n 0
@@ -124,37 +136,46 @@ Absent (Err e) = ⊥
 abbrev pub InAckWrite : Bench → Type 0
 InAckWrite b = b .receiver .stage ≡ AckWrite
 
+-- The starts from which a clearing sequence harms the module: the Rust's where it is in AckWrite, the other none
+abbrev pub Harms : Sequence → Bench → Type 0
+Harms Pulses b = InAckWrite b
+Harms Rounds b = ⊥
+
 -- The claim, of the end of the call: its result carries the number of transfers made; the four facts hold together exactly
--- where the module did not start in AckWrite; where it did, the result is the record of no module after 11 transfers
-pub record Claimed (l : Layout) (b : Bench) (c : Counted (R Identity)) (w : World machine) : Type 0 where
+-- where the sequence did not harm the module; where it did, the result is the record of no module after 11 transfers
+pub record Claimed (q : Sequence) (l : Layout) (b : Bench) (c : Counted (R Identity)) (w : World machine) : Type 0 where
   pub count : c .meter ≡ w .other .meter
-  pub facts : (InAckWrite b → ⊥) → Facts l b (c .result) w
-  pub only : Facts l b (c .result) w → InAckWrite b → ⊥
-  pub no-module : InAckWrite b → Absent (c .result) × (w .other .meter .transfers ≡ 11)
+  pub facts : (Harms q b → ⊥) → Facts l b (c .result) w
+  pub only : Facts l b (c .result) w → Harms q b → ⊥
+  pub no-module : Harms q b → Absent (c .result) × (w .other .meter .transfers ≡ 11)
 
 -- the call that the claim is about
-abbrev pub call : Port → Prog (R Identity)
-call port = identify standard port
+abbrev pub call : Sequence → Port → Prog (R Identity)
+call q port = identify q port
 
--- ... of two runs over the same answers: the Rust's, whose notes tell the transfers made, and the library's, whose result
--- tells them (`tally`); both come to their end
-unfoldable pub Holds : Layout → Bench → BenchOutcome machine (R Identity) → BenchOutcome machine (Counted (R Identity)) → Type 0
-Holds l b (ended r w) (ended c v) = (c .result ≡ r) × Claimed l b c w
-Holds l b (ended r w) (short v) = ⊥
-Holds l b (ended r w) (stopped n v) = ⊥
-Holds l b (short w) o = ⊥
-Holds l b (stopped n w) o = ⊥
+-- ... of two runs over the same answers: the definition's, whose notes tell the transfers made, and the library's, whose
+-- result tells them (`tally`); both come to their end
+unfoldable pub Holds : Sequence → Layout → Bench → BenchOutcome machine (R Identity) → BenchOutcome machine (Counted (R Identity)) → Type 0
+Holds q l b (ended r w) (ended c v) = (c .result ≡ r) × Claimed q l b c w
+Holds q l b (ended r w) (short v) = ⊥
+Holds q l b (ended r w) (stopped n v) = ⊥
+Holds q l b (short w) o = ⊥
+Holds q l b (stopped n w) o = ⊥
 
-unfoldable pub Claim : Port → Bench → ℕ → List Answer → Type 0
-Claim port b word answers =
-    Holds (layoutOf (port .family)) b
-    (benchRun port (call port) b word answers .outcome)
-    (benchRun port (tally blank (call port)) b word answers .outcome)
+unfoldable pub Claim : Sequence → Port → Bench → ℕ → List Answer → Type 0
+Claim q port b word answers =
+    Holds q (layoutOf (port .family)) b
+    (benchRun port (call q port) b word answers .outcome)
+    (benchRun port (tally blank (call q port)) b word answers .outcome)
+
+-- With the default sequence, without exception: both runs come to their end, and the four facts hold
+unfoldable pub ClaimByDefault : Port → Bench → ℕ → List Answer → Type 0
+ClaimByDefault port b word answers = CallComes port (call standard port) b word answers (Facts (layoutOf (port .family)) b)
 
 -- "The control register starts as 01 allows": on the X552 layout BB_EN is set or both enables are off (`ready`)
 unfoldable pub Starts : Port → Bench → ℕ → Type 0
 Starts port b word = ((n : ℕ) → byteOf (b .a0) n < 256) × (ready (layoutOf (port .family)) word ≡ true)
 
 -- the answers meet the premises
-unfoldable pub Premises : Port → Bench → ℕ → List Answer → Type 0
-Premises port b word answers = Each Premise (benchRun port (call port) b word answers .trace)
+abbrev pub Premises : Sequence → Port → Bench → ℕ → List Answer → Type 0
+Premises q port b word answers = CallPremises port (call q port) b word answers

@@ -1,4 +1,5 @@
 pub mod Claim
 pub mod PageClaim
+pub mod WriteClaim
 pub mod Fine
 pub mod Library

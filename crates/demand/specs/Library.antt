@@ -2,6 +2,7 @@
 use Prim.Native.Nat.{ℕ}
 use mathlib.Core.Path.{_≡_}
 use mathlib.Core.List.{List}
+use Rattle.transfer.specs.declared.attempt.Sequence.{Sequence}
 use Rattle.i2c.specs.I2c.{standard}
 use Rattle.hardware.specs.declared.Answer.{Answer}
 use Rattle.hardware.specs.declared.Port.{Port}
@@ -15,26 +16,35 @@ use Rattle.bench.specs.declared.Bench.{Bench}
 use Rattle.bench.specs.Register.{side}
 use Rattle.sfp.specs.declared.Identity.{Identity}
 use Rattle.sfp.specs.Identify.{identify}
-use Rattle.demand.specs.Claim.{machine, benchRun, Claimed, Premises}
+use Rattle.demand.specs.Claim.{machine, benchRun, Facts, Claimed, Premises}
 
 -- what the opening promises, run on the bench; a refused opening alters nothing
-unfoldable pub identifyRun : Source → Asked Port → World side → List Answer → BenchOutcome side (Counted (R Identity))
-identifyRun s (no n) w answers = stopped n w
-identifyRun s (yes port) w answers = run (layoutOf (port .family)) side (kindChecked s) (tally blank (identify standard port)) w answers .outcome
+unfoldable pub identifyRun : Sequence → Source → Asked Port → World side → List Answer → BenchOutcome side (Counted (R Identity))
+identifyRun q s (no n) w answers = stopped n w
+identifyRun q s (yes port) w answers = run (layoutOf (port .family)) side (kindChecked s) (tally blank (identify q port)) w answers .outcome
 
 -- the count of transfers is the result's alone
 abbrev pub forget : World machine → World side
 forget w = record { word = w .word; other = w .other .bench }
 
--- Demand 3 of a result: it is that of the Rust's run, with the transfers that were made in it, and the claim holds of it
-unfoldable pub Shown : Layout → Bench → BenchOutcome machine (R Identity) → BenchOutcome side (Counted (R Identity)) → Type 0
-Shown l b (ended r w) o = (o ≡ ended (record { meter = w .other .meter; result = r }) (forget w)) × Claimed l b (record { meter = w .other .meter; result = r }) w
-Shown l b (short w) o = ⊥
-Shown l b (stopped n w) o = ⊥
+-- Demand 3 of a result: it is that of the definition's run, with the transfers that were made in it, and the claim holds of it
+unfoldable pub Shown : Sequence → Layout → Bench → BenchOutcome machine (R Identity) → BenchOutcome side (Counted (R Identity)) → Type 0
+Shown q l b (ended r w) o = (o ≡ ended (record { meter = w .other .meter; result = r }) (forget w)) × Claimed q l b (record { meter = w .other .meter; result = r }) w
+Shown q l b (short w) o = ⊥
+Shown q l b (stopped n w) o = ⊥
 
-unfoldable pub Demand3 : Port → Bench → ℕ → List Answer → BenchOutcome side (Counted (R Identity)) → Type 0
-Demand3 port b word answers o = Shown (layoutOf (port .family)) b (benchRun port (identify standard port) b word answers .outcome) o
+unfoldable pub Demand3 : Sequence → Port → Bench → ℕ → List Answer → BenchOutcome side (Counted (R Identity)) → Type 0
+Demand3 q port b word answers o = Shown q (layoutOf (port .family)) b (benchRun port (identify q port) b word answers .outcome) o
 
 -- Demand 3 of a result with no list lent: by some answers that meet the premises
-unfoldable pub Demand3AtOnce : Port → Bench → ℕ → BenchOutcome side (Counted (R Identity)) → Type 0
-Demand3AtOnce port b word o = (answers : List Answer) × Premises port b word answers × Demand3 port b word answers o
+unfoldable pub Demand3AtOnce : Sequence → Port → Bench → ℕ → BenchOutcome side (Counted (R Identity)) → Type 0
+Demand3AtOnce q port b word o = (answers : List Answer) × Premises q port b word answers × Demand3 q port b word answers o
+
+-- With the default sequence, without exception
+unfoldable pub ShownFacts : Layout → Bench → BenchOutcome machine (R Identity) → BenchOutcome side (Counted (R Identity)) → Type 0
+ShownFacts l b (ended r w) o = (o ≡ ended (record { meter = w .other .meter; result = r }) (forget w)) × Facts l b r w
+ShownFacts l b (short w) o = ⊥
+ShownFacts l b (stopped n w) o = ⊥
+
+unfoldable pub Demand3ByDefault : Port → Bench → ℕ → List Answer → BenchOutcome side (Counted (R Identity)) → Type 0
+Demand3ByDefault port b word answers o = ShownFacts (layoutOf (port .family)) b (benchRun port (identify standard port) b word answers .outcome) o

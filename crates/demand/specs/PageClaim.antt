@@ -4,21 +4,20 @@ use Prim.Native.Nat.{ℕ, _+_, suc, zero}
 use mathlib.Core.Path.{_≡_}
 use mathlib.Core.List.{List, [], _∷_, _++_}
 use lib.ListN.{drop}
-use Rattle.i2c.specs.I2c.{standard}
+use Rattle.transfer.specs.declared.attempt.Sequence.{Sequence}
 use Rattle.hardware.specs.declared.Answer.{Answer}
 use Rattle.hardware.specs.declared.Port.{Port}
 use Rattle.hardware.specs.Failures.{I2c}
-use Rattle.hardware.specs.Prog.{Prog, Err, tally, blank}
+use Rattle.hardware.specs.Prog.{Prog, Err}
 use Rattle.bus.specs.declared.Layout.{Layout}
 use Rattle.bus.specs.Layout.{layoutOf}
-use Rattle.wire.specs.Lines.{Each}
 use Rattle.wire.specs.Machine.{World}
 use Rattle.bench.specs.declared.Bench.{Bench}
 use Rattle.sfp.specs.Classes.{Bytes}
 use Rattle.sfp.specs.Identify.{EEPROM}
 use Rattle.page.specs.declared.walk.Form.{Form}
 use Rattle.page.specs.Page.{offsetOf, sumsOf, Filled, page}
-use Rattle.demand.specs.Claim.{machine, Premise, benchRun, byteOf, Told, Leaves, extra}
+use Rattle.demand.specs.Claim.{machine, byteOf, Leaves, extra, CallComes}
 
 -- so many bytes, from a place of the page on
 unfoldable pub bytesFrom : Form → Bytes → ℕ → ℕ → List ℕ
@@ -36,25 +35,17 @@ pub record PageFacts (l : Layout) (b : Bench) (form : Form) (before : List ℕ) 
   pub result : f .result ≡ sumsOf (modulePage form b)
   pub leaves : Leaves l b (96 + extra b) w
 
--- where the module starts in AckWrite, no attempt reads the first byte, and nothing is stored
+-- where the sequence harms the module, no attempt reads the first byte, and nothing is stored
 pub record PageFails (tries : ℕ) (before : List ℕ) (f : Filled) (w : World machine) : Type 0 where
   pub buffer : f .buffer ≡ before
   pub result : f .result ≡ Err (I2c EEPROM)
   pub transfers : w .other .meter .transfers ≡ tries
 
-module _ (port : Port) (form : Form) (tries : ℕ) (buffer : List ℕ) where
+module _ (q : Sequence) (port : Port) (form : Form) (tries : ℕ) (buffer : List ℕ) where
   -- the call that the claim is about
   abbrev pub pageCall : Prog Filled
-  pageCall = page standard port form tries buffer
+  pageCall = page q port form tries buffer
 
   module _ (b : Bench) (word : ℕ) (answers : List Answer) where
-    -- the answers meet the premises
-    unfoldable pub PagePremises : Type 0
-    PagePremises = Each Premise (benchRun port pageCall b word answers .trace)
-
-    -- both runs come to their end, and Q holds of it
-    unfoldable pub PageComes : (Filled → World machine → Type 0) → Type 0
-    PageComes Q = Told Q (benchRun port pageCall b word answers .outcome) (benchRun port (tally blank pageCall) b word answers .outcome)
-
     unfoldable pub PageClaim : Type 0
-    PageClaim = PageComes (PageFacts (layoutOf (port .family)) b form buffer)
+    PageClaim = CallComes port pageCall b word answers (PageFacts (layoutOf (port .family)) b form buffer)

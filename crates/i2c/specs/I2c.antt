@@ -22,7 +22,7 @@ use Rattle.bus.specs.Bus.{Bus, done, none, took, isI2c, start, stop, send, inBy
 use Rattle.script.specs.Sum.{low, high, highRead, highWrite, readCheck, writeCheck}
 use Rattle.script.specs.Scripts.{readByteScript, writeByteScript, readCombinedScript, writeCombinedScript}
 use Rattle.transfer.specs.declared.attempt.Sequence.{Sequence}
-use Rattle.transfer.specs.declared.attempt.Sequence.the-variants.{Pulses}
+use Rattle.transfer.specs.declared.attempt.Sequence.the-variants.{Rounds}
 use Rattle.transfer.specs.Attempt.{attempt}
 use Rattle.i2c.specs.declared.How.{How}
 use Rattle.i2c.specs.declared.once.Request.{Request}
@@ -42,14 +42,17 @@ qsfp port = pick (is (port .family) F82599) (eqb (port .device) 0x1558) false
 
 -- the clearing sequence of a call that names none
 abbrev pub standard : Sequence
-standard = Pulses
+standard = Rounds
+
+abbrev pub making : Bool → Sequence → How
+making lock q = record { lock = lock; sequence = q }
 
 abbrev pub byDefault : Bool → How
-byDefault lock = record { lock = lock; sequence = standard }
+byDefault lock = making lock standard
 
 -- the calls of `sfp.rs` always lock
 abbrev pub locked : Sequence → How
-locked q = record { lock = true; sequence = q }
+locked q = making true q
 
 unfoldable pub deviceOf : Request → ℕ
 deviceOf (ReadByte device offset) = device

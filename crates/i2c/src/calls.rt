@@ -18,6 +18,7 @@ use hardware::UpdateNext;
 use hardware::Word;
 use hardware::change::Bits;
 use hardware::change::Change;
+use transfer::attempt::Sequence;
 ghost use Prim.Native.Nat.{_+_, _<_, _≤_};
 ghost use mathlib.Core.Path.{_≡_};
 ghost use mathlib.Core.Bool.{true};
@@ -26,7 +27,7 @@ ghost use Rattle.hardware.specs.Promise.{Keeps};
 ghost use Rattle.hardware.specs.Prog.{erase, followed, tally};
 ghost use Rattle.hardware.specs.Marks.{FULL};
 ghost use Rattle.hardware.specs.Change.{updateNext, change};
-ghost use Rattle.i2c.specs.I2c.{byDefault, givesValue, setupBus};
+ghost use Rattle.i2c.specs.I2c.{making, byDefault, givesValue, setupBus};
 ghost use Rattle.i2c.specs.Handshake.{handshakeNext, dueHandshakeNext, validHandshakeNext};
 ghost use Rattle.i2c.specs.Calls.{limitOf, triesOf, evenDevice, validOperands, validCall, openTransfer, stepTransfer, saidTransfer, standsTransfer, stepSetup, saidSetup, standsSetup};
 
@@ -212,6 +213,94 @@ pub fn write_combined_open(
         Request::WriteCombined(address, reg, value),
         0,
         lock,
+    )
+}
+
+// The four with a clearing sequence by its name.
+pub fn read_byte_open_with(
+    family: u32,
+    device: u16,
+    lan: u32,
+    address: u8,
+    offset: u8,
+    attempts: u32,
+    lock: bool,
+    sequence: Sequence,
+) -> TransferTold
+    ensures { λ t. ⌜ Keeps (saidTransfer t ≡ openTransfer family device lan (Request.ReadByte address offset) attempts (making lock sequence)) (standsTransfer t) ⌝ }
+{
+    opened(
+        family,
+        device,
+        lan,
+        Request::ReadByte(address, offset),
+        attempts,
+        How { lock, sequence },
+    )
+}
+
+pub fn write_byte_open_with(
+    family: u32,
+    device: u16,
+    lan: u32,
+    address: u8,
+    offset: u8,
+    value: u8,
+    lock: bool,
+    sequence: Sequence,
+) -> TransferTold
+    ensures { λ t. ⌜ Keeps (saidTransfer t ≡ openTransfer family device lan (Request.WriteByte address offset value) 0 (making lock sequence)) (standsTransfer t) ⌝ }
+{
+    opened(
+        family,
+        device,
+        lan,
+        Request::WriteByte(address, offset, value),
+        0,
+        How { lock, sequence },
+    )
+}
+
+pub fn read_combined_open_with(
+    family: u32,
+    device: u16,
+    lan: u32,
+    address: u8,
+    reg: u16,
+    lock: bool,
+    sequence: Sequence,
+) -> TransferTold
+    ensures { λ t. ⌜ Keeps (saidTransfer t ≡ openTransfer family device lan (Request.ReadCombined address reg) 0 (making lock sequence)) (standsTransfer t) ⌝ }
+{
+    opened(
+        family,
+        device,
+        lan,
+        Request::ReadCombined(address, reg),
+        0,
+        How { lock, sequence },
+    )
+}
+
+pub fn write_combined_open_with(
+    family: u32,
+    device: u16,
+    lan: u32,
+    address: u8,
+    reg: u16,
+    value: u16,
+    lock: bool,
+    sequence: Sequence,
+) -> TransferTold
+    ensures { λ t. ⌜ Keeps (saidTransfer t ≡ openTransfer family device lan (Request.WriteCombined address reg value) 0 (making lock sequence)) (standsTransfer t) ⌝ }
+{
+    opened(
+        family,
+        device,
+        lan,
+        Request::WriteCombined(address, reg, value),
+        0,
+        How { lock, sequence },
     )
 }
 

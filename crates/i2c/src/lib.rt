@@ -19,11 +19,11 @@ pub struct How {
     pub sequence: Sequence,
 }
 
-// The clearing sequence of a call that names none: that of the Rust.
+// The clearing sequence of a call that names none.
 pub fn standard() -> Sequence
     ensures { λ q. ⌜ q ≡ standard ⌝ }
 {
-    Sequence::Pulses
+    Sequence::Rounds
 }
 
 // The bits that guard the port's bus.

@@ -18,7 +18,6 @@ use Rattle.hardware.proofs.Longest.{Falls, lasting-falls, Accepts, steps-few}
 use Rattle.hardware.proofs.Ends.{run-ends, ask-ends, ends-tally}
 use Rattle.bus.specs.Layout.{layoutOf}
 use Rattle.transfer.specs.declared.attempt.Sequence.{Sequence}
-use Rattle.i2c.specs.I2c.{standard}
 use Rattle.i2c.specs.Paired.{Paired}
 use Rattle.i2c.specs.Shown.{Shown}
 use Rattle.i2c.proofs.Shows.{shows-shown}
@@ -39,15 +38,15 @@ use Rattle.hardware.specs.Promise.{Keeps}
 use Rattle.sfp.proofs.Spreads.{Keeping, pairs-spreads, shows-spreads, identify-holds, qsfp-holds}
 use Rattle.identify.proofs.Ends.{identifyAfter, identify-rest-ends}
 
-pub identify-runs : (family device lan : ℕ) (t : IdentifyTold) → saidIdentify t ≡ openIdentify family device lan → (l : List Answer)
-    → runAsked (saidIdentify t) l ≡ andThen (openPort family device lan) (λ port. yes (counted (meterIn blank (identify standard port) l) (run (identify standard port) l)))
+pub identify-runs : (q : Sequence) (family device lan : ℕ) (t : IdentifyTold) → saidIdentify t ≡ openIdentify q family device lan → (l : List Answer)
+    → runAsked (saidIdentify t) l ≡ andThen (openPort family device lan) (λ port. yes (counted (meterIn blank (identify q port) l) (run (identify q port) l)))
 unfolding openIdentify
-identify-runs family device lan t e l = ap (λ x. runAsked x l) e ∙ asked-runs (openPort family device lan) (identify standard) l
+identify-runs q family device lan t e l = ap (λ x. runAsked x l) e ∙ asked-runs (openPort family device lan) (identify q) l
 
-pub qsfp-runs : (family device lan : ℕ) (t : IdentifyTold) → saidIdentify t ≡ openQsfp family device lan → (l : List Answer)
-    → runAsked (saidIdentify t) l ≡ andThen (openPort family device lan) (λ port. yes (counted (meterIn blank (identifyQsfp standard port) l) (run (identifyQsfp standard port) l)))
+pub qsfp-runs : (q : Sequence) (family device lan : ℕ) (t : IdentifyTold) → saidIdentify t ≡ openQsfp q family device lan → (l : List Answer)
+    → runAsked (saidIdentify t) l ≡ andThen (openPort family device lan) (λ port. yes (counted (meterIn blank (identifyQsfp q port) l) (run (identifyQsfp q port) l)))
 unfolding openQsfp
-qsfp-runs family device lan t e l = ap (λ x. runAsked x l) e ∙ asked-runs (openPort family device lan) (identifyQsfp standard) l
+qsfp-runs q family device lan t e l = ap (λ x. runAsked x l) e ∙ asked-runs (openPort family device lan) (identifyQsfp q) l
 
 -- a long enough list of answers of the awaited kinds brings the call to its end
 pub identify-finishes : (q : Sequence) (port : Port) (l : List Answer) → IDENTIFY-STEPS (port .family) ≤ length l → Awaited (identify q port) l
@@ -76,13 +75,13 @@ pub identify-falls : Falls saidIdentify followsIdentify standsIdentify
 identify-falls = lasting-falls saidIdentify followsIdentify standsIdentify identify-on
 
 -- from the opening on, driven by steps that keep their promises
-pub identify-driven : (family device lan : ℕ) (t : IdentifyTold) → Keeps (saidIdentify t ≡ openIdentify family device lan) (standsIdentify t) → (ks : List (Exchange IdentifyTold)) → AllKept followsIdentify t ks
-    → AwaitedIn (openIdentify family device lan) (answersOf ks) → driven saidIdentify t ks ≡ andThen (openPort family device lan) (λ port. yes (counted (meterIn blank (identify standard port) (answersOf ks)) (run (identify standard port) (answersOf ks))))
-identify-driven family device lan t k ks kept w = opened-runs saidIdentify followsIdentify standsIdentify identify-on t ks k kept w ∙ identify-runs family device lan t (k .yields) (answersOf ks)
+pub identify-driven : (q : Sequence) (family device lan : ℕ) (t : IdentifyTold) → Keeps (saidIdentify t ≡ openIdentify q family device lan) (standsIdentify t) → (ks : List (Exchange IdentifyTold)) → AllKept followsIdentify t ks
+    → AwaitedIn (openIdentify q family device lan) (answersOf ks) → driven saidIdentify t ks ≡ andThen (openPort family device lan) (λ port. yes (counted (meterIn blank (identify q port) (answersOf ks)) (run (identify q port) (answersOf ks))))
+identify-driven q family device lan t k ks kept w = opened-runs saidIdentify followsIdentify standsIdentify identify-on t ks k kept w ∙ identify-runs q family device lan t (k .yields) (answersOf ks)
 
-pub qsfp-driven : (family device lan : ℕ) (t : IdentifyTold) → Keeps (saidIdentify t ≡ openQsfp family device lan) (standsIdentify t) → (ks : List (Exchange IdentifyTold)) → AllKept followsIdentify t ks
-    → AwaitedIn (openQsfp family device lan) (answersOf ks) → driven saidIdentify t ks ≡ andThen (openPort family device lan) (λ port. yes (counted (meterIn blank (identifyQsfp standard port) (answersOf ks)) (run (identifyQsfp standard port) (answersOf ks))))
-qsfp-driven family device lan t k ks kept w = opened-runs saidIdentify followsIdentify standsIdentify identify-on t ks k kept w ∙ qsfp-runs family device lan t (k .yields) (answersOf ks)
+pub qsfp-driven : (q : Sequence) (family device lan : ℕ) (t : IdentifyTold) → Keeps (saidIdentify t ≡ openQsfp q family device lan) (standsIdentify t) → (ks : List (Exchange IdentifyTold)) → AllKept followsIdentify t ks
+    → AwaitedIn (openQsfp q family device lan) (answersOf ks) → driven saidIdentify t ks ≡ andThen (openPort family device lan) (λ port. yes (counted (meterIn blank (identifyQsfp q port) (answersOf ks)) (run (identifyQsfp q port) (answersOf ks))))
+qsfp-driven q family device lan t k ks kept w = opened-runs saidIdentify followsIdentify standsIdentify identify-on t ks k kept w ∙ qsfp-runs q family device lan t (k .yields) (answersOf ks)
 
 -- each successful acquire gets one release call before the next acquire or the end, for every list of answers
 pub identify-paired : (q : Sequence) (port : Port) (l : List Answer) → Paired (identify q port) l
@@ -92,11 +91,11 @@ pub qsfp-paired : (q : Sequence) (port : Port) (l : List Answer) → Paired (ide
 qsfp-paired q port l = pairs-paired _ l (qsfp-holds q port Keeping (pairs-spreads q port))
 
 -- the accesses of a run show the attempts that it begins, for every list of answers
-pub identify-shown : (q : Sequence) (port : Port) (l : List Answer) → Shown (layoutOf (port .family)) (identify q port) l
-identify-shown q port l = shows-shown _ _ _ l (identify-holds q port (Showing port) (shows-spreads q port))
+pub identify-shown : (q : Sequence) (port : Port) (l : List Answer) → Shown q (layoutOf (port .family)) (identify q port) l
+identify-shown q port l = shows-shown _ _ _ _ l (identify-holds q port (Showing q port) (shows-spreads q port))
 
-pub qsfp-shown : (q : Sequence) (port : Port) (l : List Answer) → Shown (layoutOf (port .family)) (identifyQsfp q port) l
-qsfp-shown q port l = shows-shown _ _ _ l (qsfp-holds q port (Showing port) (shows-spreads q port))
+pub qsfp-shown : (q : Sequence) (port : Port) (l : List Answer) → Shown q (layoutOf (port .family)) (identifyQsfp q port) l
+qsfp-shown q port l = shows-shown _ _ _ _ l (qsfp-holds q port (Showing q port) (shows-spreads q port))
 
 -- from any state that passes question 10, whoever made it, the call takes at most so many steps more
 pub identify-lasts : (x : Access) (port : Port) (q : Sequence) (m : Meter) (s : Identify) (ks : List (Exchange IdentifyTold)) → standsIdentify (Ask x (Going port q m s))

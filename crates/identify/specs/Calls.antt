@@ -9,7 +9,7 @@ use Rattle.hardware.specs.declared.Port.{Port}
 use Rattle.hardware.specs.Asked.{Asked, yes, no, andThen, openPort, validPort, admitting}
 use Rattle.hardware.specs.Numbers.{refusalNumber}
 use Rattle.hardware.specs.Prog.{Prog, ret, ask, R, Counted, blank, tally, pick}
-use Rattle.i2c.specs.I2c.{standard}
+use Rattle.transfer.specs.declared.attempt.Sequence.{Sequence}
 use Rattle.sfp.specs.declared.Identity.{Identity}
 use Rattle.sfp.specs.Identify.{identify}
 use Rattle.sfp.specs.Qsfp.{identifyQsfp}
@@ -22,11 +22,11 @@ use Rattle.identify.specs.Walk.{accessIdentify, restIdentify, foundOf, v
 use Rattle.hardware.specs.Promise.{Keeps}
 
 -- 1 and 2
-unfoldable pub openIdentify : ℕ → ℕ → ℕ → Asked (Prog (Counted (R Identity)))
-openIdentify family device lan = andThen (openPort family device lan) (λ port. yes (tally blank (identify standard port)))
+unfoldable pub openIdentify : Sequence → ℕ → ℕ → ℕ → Asked (Prog (Counted (R Identity)))
+openIdentify q family device lan = andThen (openPort family device lan) (λ port. yes (tally blank (identify q port)))
 
-unfoldable pub openQsfp : ℕ → ℕ → ℕ → Asked (Prog (Counted (R Identity)))
-openQsfp family device lan = andThen (openPort family device lan) (λ port. yes (tally blank (identifyQsfp standard port)))
+unfoldable pub openQsfp : Sequence → ℕ → ℕ → ℕ → Asked (Prog (Counted (R Identity)))
+openQsfp q family device lan = andThen (openPort family device lan) (λ port. yes (tally blank (identifyQsfp q port)))
 
 unfoldable pub validCall : Port → Meter → Identify → Bool
 validCall port m s = pick (validPort port) (validIdentify port m s) false

@@ -49,31 +49,48 @@ fn told(port: Port, q: Sequence, m: Meter, n: IdentifyNext) -> IdentifyTold
     }
 }
 
-// The call from its first place on, where no sequence is named.
-fn opened(port: Port, p: Place) -> IdentifyTold
-    ensures { λ t. ⌜ Keeps (saidIdentify t ≡ yes (tally blank (placed standard port p))) (validPort port ≡ true → validPlace p ≡ true → triesAt port p ≤ capAt port p → standsIdentify t) ⌝ }
+// The call from its first place on.
+fn opened(port: Port, q: Sequence, p: Place) -> IdentifyTold
+    ensures { λ t. ⌜ Keeps (saidIdentify t ≡ yes (tally blank (placed q port p))) (validPort port ≡ true → validPlace p ≡ true → triesAt port p ≤ capAt port p → standsIdentify t) ⌝ }
 {
-    let q = i2c::standard();
     told(port, q, BLANK, crate::walk::begin(port, q, p))
 }
 
-// Questions 1 and 2.
-pub fn identify_open(family: u32, device: u16, lan: u32) -> IdentifyTold
-    ensures { λ t. ⌜ Keeps (saidIdentify t ≡ openIdentify family device lan) (standsIdentify t) ⌝ }
+// Questions 1 and 2. sequence: the clearing after a failed attempt, by its name.
+pub fn identify_open_with(family: u32, device: u16, lan: u32, sequence: Sequence) -> IdentifyTold
+    ensures { λ t. ⌜ Keeps (saidIdentify t ≡ openIdentify sequence family device lan) (standsIdentify t) ⌝ }
 {
     match hardware::open_port(family, device, lan) {
-        Opening::Port(p) => opened(p, Place::Identifier(4)),
+        Opening::Port(p) => opened(p, sequence, Place::Identifier(4)),
         Opening::Refused(q) => IdentifyTold::Refused(q),
     }
 }
 
-pub fn identify_qsfp_open(family: u32, device: u16, lan: u32) -> IdentifyTold
-    ensures { λ t. ⌜ Keeps (saidIdentify t ≡ openQsfp family device lan) (standsIdentify t) ⌝ }
+pub fn identify_qsfp_open_with(
+    family: u32,
+    device: u16,
+    lan: u32,
+    sequence: Sequence,
+) -> IdentifyTold
+    ensures { λ t. ⌜ Keeps (saidIdentify t ≡ openQsfp sequence family device lan) (standsIdentify t) ⌝ }
 {
     match hardware::open_port(family, device, lan) {
-        Opening::Port(p) => opened(p, Place::QsfpIdentifier),
+        Opening::Port(p) => opened(p, sequence, Place::QsfpIdentifier),
         Opening::Refused(q) => IdentifyTold::Refused(q),
     }
+}
+
+// Both with the default sequence.
+pub fn identify_open(family: u32, device: u16, lan: u32) -> IdentifyTold
+    ensures { λ t. ⌜ Keeps (saidIdentify t ≡ openIdentify standard family device lan) (standsIdentify t) ⌝ }
+{
+    identify_open_with(family, device, lan, i2c::standard())
+}
+
+pub fn identify_qsfp_open(family: u32, device: u16, lan: u32) -> IdentifyTold
+    ensures { λ t. ⌜ Keeps (saidIdentify t ≡ openQsfp standard family device lan) (standsIdentify t) ⌝ }
+{
+    identify_qsfp_open_with(family, device, lan, i2c::standard())
 }
 
 fn valid(port: Port, m: Meter, t: Identify) -> bool

@@ -9,7 +9,7 @@ use native.Mathlib.Numerals.{add-one}
 use lib.Dec.{T, lit≤}
 use lib.ListN.{drop, getD, length, drop-of-length-le}
 use lib.Seq.{drop-cons}
-use Rattle.i2c.specs.I2c.{standard}
+use Rattle.transfer.specs.declared.attempt.Sequence.{Sequence}
 use Rattle.hardware.specs.declared.Access.{Access}
 use Rattle.hardware.specs.declared.Answer.{Answer}
 use Rattle.hardware.specs.declared.Family.{Family}
@@ -287,34 +287,34 @@ steps X550 = lit≤ tt
 steps X552 = lit≤ tt
 steps X553 = lit≤ tt
 
-enough : (p : Port) → Ends (tally blank (identify standard p)) 1600450488
-enough p = ends-more _ (IDENTIFY-STEPS (p .family)) _ (ends-tally blank (identify standard p) _ (identify-ends standard p)) (steps (p .family))
+enough : (q : Sequence) (p : Port) → Ends (tally blank (identify q p)) 1600450488
+enough q p = ends-more _ (IDENTIFY-STEPS (p .family)) _ (ends-tally blank (identify q p) _ (identify-ends q p)) (steps (p .family))
 
-module _ (family device lan : ℕ) (d : BenchState) where
+module _ (q : Sequence) (family device lan : ℕ) (d : BenchState) where
   -- what an opening that is not refused tells
-  opened-said : (p : Port) (t : IdentifyTold) → yes p ≡ openPort family device lan → saidIdentify t ≡ openIdentify family device lan
-      → saidIdentify t ≡ yes (tally blank (identify standard p))
+  opened-said : (p : Port) (t : IdentifyTold) → yes p ≡ openPort family device lan → saidIdentify t ≡ openIdentify q family device lan
+      → saidIdentify t ≡ yes (tally blank (identify q p))
   unfolding openIdentify andThen
-  opened-said p t y said = said ∙ ap (λ q. andThen q (λ port. yes (tally blank (identify standard port)))) (sym y)
+  opened-said p t y said = said ∙ ap (λ z. andThen z (λ port. yes (tally blank (identify q port)))) (sym y)
 
   -- from the opening to the end
   module _ (o : Origin) (ns : List ℕ) where
     pub opened : (g : Opening) (p : Port) (t : IdentifyTold) (r : Run) → g ≡ Opened p → portOpened g ≡ openPort family device lan
-        → saidIdentify t ≡ openIdentify family device lan → standsIdentify t
+        → saidIdentify t ≡ openIdentify q family device lan → standsIdentify t
         → (standsIdentify t → Bounded (saidIdentify t) 1600450488
         → outcomeOf r ≡ leftOf (layoutOf (p .family)) o ns (record { told = t; state = d; used = 0; over = false }))
-        → outcomeOf r ≡ identifyRun (sourceOf o) (openPort family device lan) (world d) (decodedAll ns)
+        → outcomeOf r ≡ identifyRun q (sourceOf o) (openPort family device lan) (world d) (decodedAll ns)
     unfolding portOpened Bounded leftOf runAsked identifyRun
     opened g p t r e h said st played =
         let y : yes p ≡ openPort family device lan = ap portOpened (sym e) ∙ h in
-        played st (subst⁻¹ (λ q. Bounded q 1600450488) (opened-said p t y said) (enough p))
-        ∙ ap (λ q. runAsked (layoutOf (p .family)) side (kindChecked (sourceOf o)) q (world d) (decodedAll ns)) (opened-said p t y said)
-        ∙ ap (λ q. identifyRun (sourceOf o) q (world d) (decodedAll ns)) y
+        played st (subst⁻¹ (λ z. Bounded z 1600450488) (opened-said p t y said) (enough q p))
+        ∙ ap (λ z. runAsked (layoutOf (p .family)) side (kindChecked (sourceOf o)) z (world d) (decodedAll ns)) (opened-said p t y said)
+        ∙ ap (λ z. identifyRun q (sourceOf o) z (world d) (decodedAll ns)) y
 
-    pub unopened : (g : Opening) (q : Refusal) → g ≡ Unopened q → portOpened g ≡ openPort family device lan
-        → outcomeOf (record { ending = Stopped q; state = d }) ≡ identifyRun (sourceOf o) (openPort family device lan) (world d) (decodedAll ns)
+    pub unopened : (g : Opening) (n : Refusal) → g ≡ Unopened n → portOpened g ≡ openPort family device lan
+        → outcomeOf (record { ending = Stopped n; state = d }) ≡ identifyRun q (sourceOf o) (openPort family device lan) (world d) (decodedAll ns)
     unfolding portOpened outcomeOf endingOf identifyRun
-    unopened g q e h = ap (λ z. identifyRun (sourceOf o) z (world d) (decodedAll ns)) (ap portOpened (sym e) ∙ h)
+    unopened g n e h = ap (λ z. identifyRun q (sourceOf o) z (world d) (decodedAll ns)) (ap portOpened (sym e) ∙ h)
 
   -- Demand 3 of what the call comes to: over the numbers lent, and with none
   module _ (small : (n : ℕ) → getD (d .bench .a0 .bytes) n 0 < 256) (port : Port) (y : yes port ≡ openPort family device lan) (go : ready (layoutOf (port .family)) (d .word) ≡ true) where
@@ -322,14 +322,14 @@ module _ (family device lan : ℕ) (d : BenchState) where
     unfolding Starts
     starts = (small, go)
 
-    pub lent-claim : (ns : List ℕ) (r : IdentifyOutcome) → r ≡ identifyRun listed (openPort family device lan) (world d) (decodedAll ns)
-        → Premises port (d .bench) (d .word) (decodedAll ns) → Finished r ⊎ (IDENTIFY-STEPS (port .family) ≤ length ns)
-        → Demand3 port (d .bench) (d .word) (decodedAll ns) r
+    pub lent-claim : (ns : List ℕ) (r : IdentifyOutcome) → r ≡ identifyRun q listed (openPort family device lan) (world d) (decodedAll ns)
+        → Premises q port (d .bench) (d .word) (decodedAll ns) → Finished r ⊎ (IDENTIFY-STEPS (port .family) ≤ length ns)
+        → Demand3 q port (d .bench) (d .word) (decodedAll ns) r
     lent-claim ns r e m =
-        subst⁻¹ (λ q. Finished q ⊎ (IDENTIFY-STEPS (port .family) ≤ length ns) → Demand3 port (d .bench) (d .word) (decodedAll ns) q) (e ∙ ap (λ q. identifyRun listed q (world d) (decodedAll ns)) (sym y))
-        (⊎-elim (demand-3-ended port (d .bench) (d .word) (decodedAll ns) starts m)
-        (λ n. demand-3 port (d .bench) (d .word) (decodedAll ns) starts m (subst⁻¹ (λ k. IDENTIFY-STEPS (port .family) ≤ k) (decoded-length ns) n)))
+        subst⁻¹ (λ z. Finished z ⊎ (IDENTIFY-STEPS (port .family) ≤ length ns) → Demand3 q port (d .bench) (d .word) (decodedAll ns) z) (e ∙ ap (λ z. identifyRun q listed z (world d) (decodedAll ns)) (sym y))
+        (⊎-elim (demand-3-ended q port (d .bench) (d .word) (decodedAll ns) starts m)
+        (λ n. demand-3 q port (d .bench) (d .word) (decodedAll ns) starts m (subst⁻¹ (λ k. IDENTIFY-STEPS (port .family) ≤ k) (decoded-length ns) n)))
 
-    pub at-once-claim : (r : IdentifyOutcome) → r ≡ identifyRun (fixed atOnce) (openPort family device lan) (world d) [] → Demand3AtOnce port (d .bench) (d .word) r
+    pub at-once-claim : (r : IdentifyOutcome) → r ≡ identifyRun q (fixed atOnce) (openPort family device lan) (world d) [] → Demand3AtOnce q port (d .bench) (d .word) r
     at-once-claim r e =
-        subst⁻¹ (Demand3AtOnce port (d .bench) (d .word)) (e ∙ ap (λ q. identifyRun (fixed atOnce) q (world d) []) (sym y)) (demand-3-at-once port (d .bench) (d .word) starts)
+        subst⁻¹ (Demand3AtOnce q port (d .bench) (d .word)) (e ∙ ap (λ z. identifyRun q (fixed atOnce) z (world d) []) (sym y)) (demand-3-at-once q port (d .bench) (d .word) starts)

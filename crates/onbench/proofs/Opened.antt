@@ -4,6 +4,7 @@ use mathlib.Core.Path.{_≡_, ap, _∙_, sym, subst, subst⁻¹}
 use mathlib.Core.List.{List}
 use mathlib.Core.Logic.{_⊎_, ⊎-elim}
 use lib.ListN.{length}
+use Rattle.transfer.specs.declared.attempt.Sequence.{Sequence}
 use Rattle.i2c.specs.I2c.{standard}
 use Rattle.hardware.specs.declared.Answer.{Answer}
 use Rattle.hardware.specs.declared.Port.{Port}
@@ -19,24 +20,33 @@ use Rattle.sfp.specs.Steps.{IDENTIFY-STEPS}
 use Rattle.identify.specs.declared.calls.IdentifyTold.{IdentifyTold}
 use Rattle.identify.specs.Calls.{openIdentify, saidIdentify}
 use Rattle.demand.specs.Claim.{Starts, Premises}
-use Rattle.demand.specs.Library.{identifyRun, Demand3}
-use Rattle.demand.proofs.Library.{demand-3-ended, demand-3}
+use Rattle.demand.specs.Library.{identifyRun, Demand3, Demand3ByDefault}
+use Rattle.demand.proofs.Library.{demand-3-ended, demand-3, by-default}
 
-module _ (family device lan : ℕ) (t : IdentifyTold) (promised : saidIdentify t ≡ openIdentify family device lan)
+module _ (q : Sequence) (family device lan : ℕ) (t : IdentifyTold) (promised : saidIdentify t ≡ openIdentify q family device lan)
     (port : Port) (opened : yes port ≡ openPort family device lan) (b : Bench) (word : ℕ) (answers : List Answer) where
   -- what was told, run on the bench
   abbrev pub run : BenchOutcome side (Counted (R Identity))
   run = runAsked (layoutOf (port .family)) side (kindChecked listed) (saidIdentify t) (record { word = word; other = b }) answers
 
-  plain : run ≡ identifyRun listed (yes port) (record { word = word; other = b }) answers
+  plain : run ≡ identifyRun q listed (yes port) (record { word = word; other = b }) answers
   unfolding openIdentify andThen runAsked identifyRun
   plain =
       ap (λ s. runAsked (layoutOf (port .family)) side (kindChecked listed) s (record { word = word; other = b }) answers)
-      (promised ∙ ap (λ o. andThen o (λ p. yes (tally blank (identify standard p)))) (sym opened))
+      (promised ∙ ap (λ o. andThen o (λ p. yes (tally blank (identify q p)))) (sym opened))
 
   -- for every list that meets the premises and on which the call comes to its end, as it does on every one that is long enough
-  pub opening-demand-3 : Starts port b word → Premises port b word answers → Finished run ⊎ (IDENTIFY-STEPS (port .family) ≤ length answers)
-      → Demand3 port b word answers run
+  pub opening-demand-3 : Starts port b word → Premises q port b word answers → Finished run ⊎ (IDENTIFY-STEPS (port .family) ≤ length answers)
+      → Demand3 q port b word answers run
   opening-demand-3 s m =
-      ⊎-elim (λ c. subst⁻¹ (Demand3 port b word answers) plain (demand-3-ended port b word answers s m (subst Finished plain c)))
-      (λ n. subst⁻¹ (Demand3 port b word answers) plain (demand-3 port b word answers s m n))
+      ⊎-elim (λ c. subst⁻¹ (Demand3 q port b word answers) plain (demand-3-ended q port b word answers s m (subst Finished plain c)))
+      (λ n. subst⁻¹ (Demand3 q port b word answers) plain (demand-3 q port b word answers s m n))
+
+-- what the opening that names no sequence promises: the four facts, without exception
+pub opening-by-default : (family device lan : ℕ) (t : IdentifyTold) (promised : saidIdentify t ≡ openIdentify standard family device lan)
+    (port : Port) (opened : yes port ≡ openPort family device lan) (b : Bench) (word : ℕ) (answers : List Answer)
+    → Starts port b word → Premises standard port b word answers
+    → Finished (run standard family device lan t promised port opened b word answers) ⊎ (IDENTIFY-STEPS (port .family) ≤ length answers)
+    → Demand3ByDefault port b word answers (run standard family device lan t promised port opened b word answers)
+opening-by-default family device lan t promised port opened b word answers s m f =
+    by-default port b word answers _ (opening-demand-3 standard family device lan t promised port opened b word answers s m f)

@@ -8,7 +8,7 @@ use native.Mathlib.Omega.{arith}
 use lib.Dec.{eqb, lit<}
 use lib.ListN.{length, length-map}
 use borrow.Author.Tests.{lt-ltb}
-use Rattle.i2c.specs.I2c.{standard}
+use Rattle.transfer.specs.declared.attempt.Sequence.{Sequence}
 use Rattle.hardware.specs.declared.Access.{Access}
 use Rattle.hardware.specs.declared.Access.the-variants.{Read, Write, Wait}
 use Rattle.hardware.specs.declared.Answer.{Answer}
@@ -102,12 +102,12 @@ lendable [] h = tt
 lendable (a ∷ l) h = (encoded-fits a (h .0), lendable l (h .1))
 
 -- For every port and every start, AckWrite included, numbers that stand for answers which meet the premises, and enough of them
-pub possible-lent : (port : Port) (b : Bench) (word : ℕ)
-    → (ns : List ℕ) × Lendable ns × Premises port b word (decodedAll ns) × (IDENTIFY-STEPS (port .family) ≤ length ns)
-possible-lent port b word =
-    let plain = plain-append (answersIn (prompt port b word .trace)) (dones (IDENTIFY-STEPS (port .family))) (run-plain (layoutOf (port .family)) machine (identify standard port) (atStart word b) []) (plain-dones (IDENTIFY-STEPS (port .family))) in (
-      map encoded (promptAnswers port b word),
-      lendable (promptAnswers port b word) plain,
-      subst⁻¹ (Premises port b word) (decoded-all (promptAnswers port b word) plain) (at-once-meets port b word),
-      omega (arith, at-once-long port b word, length-map (promptAnswers port b word) encoded),
+pub possible-lent : (q : Sequence) (port : Port) (b : Bench) (word : ℕ)
+    → (ns : List ℕ) × Lendable ns × Premises q port b word (decodedAll ns) × (IDENTIFY-STEPS (port .family) ≤ length ns)
+possible-lent q port b word =
+    let plain = plain-append (answersIn (prompt q port b word .trace)) (dones (IDENTIFY-STEPS (port .family))) (run-plain (layoutOf (port .family)) machine (identify q port) (atStart word b) []) (plain-dones (IDENTIFY-STEPS (port .family))) in (
+      map encoded (promptAnswers q port b word),
+      lendable (promptAnswers q port b word) plain,
+      subst⁻¹ (Premises q port b word) (decoded-all (promptAnswers q port b word) plain) (at-once-meets q port b word),
+      omega (arith, at-once-long q port b word, length-map (promptAnswers q port b word) encoded),
     )

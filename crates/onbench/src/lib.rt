@@ -10,6 +10,7 @@ use hardware::Refusal;
 use identify::calls::IdentifyCall;
 use identify::calls::IdentifyTold;
 use identify::walk::Identified;
+use transfer::attempt::Sequence;
 ghost use Prim.Native.Nat.{ℕ, _<_, _≤_};
 ghost use mathlib.Core.Path.{_≡_};
 ghost use mathlib.Core.Bool.{true, false};
@@ -196,7 +197,7 @@ fn play(family: Family, origin: Origin, told: IdentifyTold, d: BenchState, answe
     finish(s)
 }
 
-// The call from its opening on; a refused opening alters nothing.
+// The call from its opening on, with a clearing sequence by its name; a refused opening alters nothing.
 fn from_opening(
     family: u32,
     device: u16,
@@ -204,13 +205,14 @@ fn from_opening(
     d: BenchState,
     origin: Origin,
     answers: &[u64],
+    sequence: Sequence,
 ) -> Run
-    ensures { λ r. ⌜ outcomeOf r ≡ identifyRun (sourceOf origin) (openPort family device lan) (world d) (decodedAll (now (answers .entry))) ⌝ }
+    ensures { λ r. ⌜ outcomeOf r ≡ identifyRun sequence (sourceOf origin) (openPort family device lan) (world d) (decodedAll (now (answers .entry))) ⌝ }
 {
     match hardware::open_port(family, device, lan) {
         Opening::Port(p) => {
             let f = p.family;
-            let told = identify::calls::identify_open(family, device, lan);
+            let told = identify::calls::identify_open_with(family, device, lan, sequence);
             play(f, origin, told, d, answers)
         }
         Opening::Refused(q) => Run {
@@ -234,24 +236,37 @@ fn bytes(page: &[u8]) -> usize
     size(page)
 }
 
-// Demand 3 of the call: what it comes to for every list of answers, and the claim where they meet the premises and it
-// comes to its end, as it does over every list that is long enough.
-pub fn identify_on_bench(family: u32, device: u16, lan: u32, d: BenchState, answers: &[u64]) -> Run
-    ensures { λ r. ⌜ outcomeOf r ≡ identifyRun listed (openPort family device lan) (world d) (decodedAll (now (answers .entry))) ⌝ }
-    ensures { λ r. ⌜ ((port : Port) → yes port ≡ openPort family device lan → ready (layoutOf (port .family)) (d .word) ≡ true → Premises port (d .bench) (d .word) (decodedAll (now (answers .entry))) → Finished (outcomeOf r) ⊎ (IDENTIFY-STEPS (port .family) ≤ length (now (answers .entry))) → Demand3 port (d .bench) (d .word) (decodedAll (now (answers .entry))) (outcomeOf r)) ⌝ }
+// Demand 3 of the call, with either sequence: what it comes to for every list of answers, and the claim where they meet the
+// premises and it comes to its end, as it does over every list that is long enough.
+pub fn identify_on_bench(
+    family: u32,
+    device: u16,
+    lan: u32,
+    d: BenchState,
+    answers: &[u64],
+    sequence: Sequence,
+) -> Run
+    ensures { λ r. ⌜ outcomeOf r ≡ identifyRun sequence listed (openPort family device lan) (world d) (decodedAll (now (answers .entry))) ⌝ }
+    ensures { λ r. ⌜ ((port : Port) → yes port ≡ openPort family device lan → ready (layoutOf (port .family)) (d .word) ≡ true → Premises sequence port (d .bench) (d .word) (decodedAll (now (answers .entry))) → Finished (outcomeOf r) ⊎ (IDENTIFY-STEPS (port .family) ≤ length (now (answers .entry))) → Demand3 sequence port (d .bench) (d .word) (decodedAll (now (answers .entry))) (outcomeOf r)) ⌝ }
 {
     let page = d.bench.a0.bytes;
     bytes(&page);
-    from_opening(family, device, lan, d, Origin::Lent, answers)
+    from_opening(family, device, lan, d, Origin::Lent, answers, sequence)
 }
 
 // Demand 3 of the call where every lock and grant comes at once: no answers are lent.
-pub fn identify_at_once(family: u32, device: u16, lan: u32, d: BenchState) -> Run
-    ensures { λ r. ⌜ outcomeOf r ≡ identifyRun (fixed atOnce) (openPort family device lan) (world d) [] ⌝ }
-    ensures { λ r. ⌜ ((port : Port) → yes port ≡ openPort family device lan → ready (layoutOf (port .family)) (d .word) ≡ true → Demand3AtOnce port (d .bench) (d .word) (outcomeOf r)) ⌝ }
+pub fn identify_at_once(
+    family: u32,
+    device: u16,
+    lan: u32,
+    d: BenchState,
+    sequence: Sequence,
+) -> Run
+    ensures { λ r. ⌜ outcomeOf r ≡ identifyRun sequence (fixed atOnce) (openPort family device lan) (world d) [] ⌝ }
+    ensures { λ r. ⌜ ((port : Port) → yes port ≡ openPort family device lan → ready (layoutOf (port .family)) (d .word) ≡ true → Demand3AtOnce sequence port (d .bench) (d .word) (outcomeOf r)) ⌝ }
 {
     let page = d.bench.a0.bytes;
     bytes(&page);
     let none: [u64; 0] = [];
-    from_opening(family, device, lan, d, Origin::AtOnce, &none)
+    from_opening(family, device, lan, d, Origin::AtOnce, &none, sequence)
 }

@@ -26,7 +26,6 @@ use Rattle.hardware.proofs.Longest.{Falls, lasting-falls, number-few, longest-f
 use Rattle.bus.specs.declared.Taken.{Taken}
 use Rattle.bus.specs.Layout.{layoutOf}
 use Rattle.transfer.specs.declared.attempt.Sequence.{Sequence}
-use Rattle.i2c.specs.I2c.{standard}
 use Rattle.i2c.specs.Handshake.{valued, restRequest}
 use Rattle.i2c.specs.Paired.{Paired}
 use Rattle.i2c.specs.Shown.{Shown}
@@ -133,19 +132,19 @@ short-refused buffer (no n) e f p z = tt
 short-refused buffer (yes port) false f p z = tt
 short-refused buffer (yes port) true f p z = rw z tt
 
-module _ (form : Form) (family device lan attempts : ℕ) (buffer : List ℕ) (t : PageTold) where
-  pub page-runs : saidPage t buffer ≡ lent buffer (andThen (openPort family device lan) (openForm form attempts buffer)) → (l : List Answer)
-      → runAsked (asked (saidPage t buffer)) l ≡ formRun form family device lan attempts buffer l
+module _ (q : Sequence) (form : Form) (family device lan attempts : ℕ) (buffer : List ℕ) (t : PageTold) where
+  pub page-runs : saidPage t buffer ≡ lent buffer (andThen (openPort family device lan) (openForm q form attempts buffer)) → (l : List Answer)
+      → runAsked (asked (saidPage t buffer)) l ≡ formRun q form family device lan attempts buffer l
   unfolding openForm
   page-runs e l =
-      ap (λ q. runAsked (asked q) l) e
-      ∙ asked-runs buffer (openPort family device lan) (leb attempts 255) (bufferFits buffer) (λ port. page standard port form attempts buffer) l
+      ap (λ x. runAsked (asked x) l) e
+      ∙ asked-runs buffer (openPort family device lan) (leb attempts 255) (bufferFits buffer) (λ port. page q port form attempts buffer) l
 
   -- from the opening on, driven by steps that keep their promises, the buffer lent to each as the one before left it
-  pub form-driven : Keeps (saidPage t buffer ≡ lent buffer (andThen (openPort family device lan) (openForm form attempts buffer))) (standsPage t)
+  pub form-driven : Keeps (saidPage t buffer ≡ lent buffer (andThen (openPort family device lan) (openForm q form attempts buffer))) (standsPage t)
       → (ks : List (Exchange PageAt)) → AllKept followsPage (record { told = t; buffer = buffer }) ks
-      → AwaitedIn (asked (lent buffer (andThen (openPort family device lan) (openForm form attempts buffer)))) (answersOf ks)
-      → driven saidAt (record { told = t; buffer = buffer }) ks ≡ formRun form family device lan attempts buffer (answersOf ks)
+      → AwaitedIn (asked (lent buffer (andThen (openPort family device lan) (openForm q form attempts buffer)))) (answersOf ks)
+      → driven saidAt (record { told = t; buffer = buffer }) ks ≡ formRun q form family device lan attempts buffer (answersOf ks)
   unfolding openForm
   form-driven k ks kept w = by (bufferFits buffer) refl ∙ page-runs (k .yields) (answersOf ks)
     where
@@ -154,29 +153,29 @@ module _ (form : Form) (family device lan attempts : ℕ) (buffer : List ℕ) (t
           opened-runs saidAt followsPage standsAt page-on (record { told = t; buffer = buffer }) ks (record { yields = ap asked (k .yields); limits = (k .limits, e) }) kept w
       by false e =
           refused-runs saidAt (record { told = t; buffer = buffer }) ks
-          (subst (λ q. Refuses (asked q)) (sym (k .yields)) (short-refused buffer (openPort family device lan) (leb attempts 255) (bufferFits buffer) _ e))
+          (subst (λ x. Refuses (asked x)) (sym (k .yields)) (short-refused buffer (openPort family device lan) (leb attempts 255) (bufferFits buffer) _ e))
 
 -- so of each of the two openings
-module _ (family device lan attempts : ℕ) (buffer : List ℕ) (t : PageTold) where
-  pub page-driven : Keeps (saidPage t buffer ≡ openPage family device lan attempts buffer) (standsPage t) → (ks : List (Exchange PageAt))
-      → AllKept followsPage (record { told = t; buffer = buffer }) ks → AwaitedIn (asked (openPage family device lan attempts buffer)) (answersOf ks)
-      → driven saidAt (record { told = t; buffer = buffer }) ks ≡ formRun Sff8472 family device lan attempts buffer (answersOf ks)
+module _ (q : Sequence) (family device lan attempts : ℕ) (buffer : List ℕ) (t : PageTold) where
+  pub page-driven : Keeps (saidPage t buffer ≡ openPage q family device lan attempts buffer) (standsPage t) → (ks : List (Exchange PageAt))
+      → AllKept followsPage (record { told = t; buffer = buffer }) ks → AwaitedIn (asked (openPage q family device lan attempts buffer)) (answersOf ks)
+      → driven saidAt (record { told = t; buffer = buffer }) ks ≡ formRun q Sff8472 family device lan attempts buffer (answersOf ks)
   unfolding openPage
-  page-driven k ks kept w = form-driven Sff8472 family device lan attempts buffer t k ks kept w
+  page-driven k ks kept w = form-driven q Sff8472 family device lan attempts buffer t k ks kept w
 
-  pub qsfp-page-driven : Keeps (saidPage t buffer ≡ openQsfpPage family device lan attempts buffer) (standsPage t) → (ks : List (Exchange PageAt))
-      → AllKept followsPage (record { told = t; buffer = buffer }) ks → AwaitedIn (asked (openQsfpPage family device lan attempts buffer)) (answersOf ks)
-      → driven saidAt (record { told = t; buffer = buffer }) ks ≡ formRun Sff8636 family device lan attempts buffer (answersOf ks)
+  pub qsfp-page-driven : Keeps (saidPage t buffer ≡ openQsfpPage q family device lan attempts buffer) (standsPage t) → (ks : List (Exchange PageAt))
+      → AllKept followsPage (record { told = t; buffer = buffer }) ks → AwaitedIn (asked (openQsfpPage q family device lan attempts buffer)) (answersOf ks)
+      → driven saidAt (record { told = t; buffer = buffer }) ks ≡ formRun q Sff8636 family device lan attempts buffer (answersOf ks)
   unfolding openQsfpPage
-  qsfp-page-driven k ks kept w = form-driven Sff8636 family device lan attempts buffer t k ks kept w
+  qsfp-page-driven k ks kept w = form-driven q Sff8636 family device lan attempts buffer t k ks kept w
 
 -- each successful acquire gets one release call before the next acquire or the end, for every list of answers
 pub page-paired : (q : Sequence) (port : Port) (form : Form) (tries : ℕ) (buffer : List ℕ) (l : List Answer) → Paired (page q port form tries buffer) l
 page-paired q port form tries buffer l = pairs-paired _ l (page-holds q port form tries Keeping (pairs-spreads q port) buffer)
 
 -- the accesses of a run show the attempts that it begins, for every list of answers
-pub page-shown : (q : Sequence) (port : Port) (form : Form) (tries : ℕ) (buffer : List ℕ) (l : List Answer) → Shown (layoutOf (port .family)) (page q port form tries buffer) l
-page-shown q port form tries buffer l = shows-shown _ _ _ l (page-holds q port form tries (Showing port) (shows-spreads q port) buffer)
+pub page-shown : (q : Sequence) (port : Port) (form : Form) (tries : ℕ) (buffer : List ℕ) (l : List Answer) → Shown q (layoutOf (port .family)) (page q port form tries buffer) l
+page-shown q port form tries buffer l = shows-shown _ _ _ _ l (page-holds q port form tries (Showing q port) (shows-spreads q port) buffer)
 
 -- its number falls at every accepted step
 pub page-falls : Falls saidAt followsPage standsAt

@@ -16,7 +16,7 @@ use Rattle.hardware.specs.Lent.{lent, asked}
 use Rattle.hardware.specs.Prog.{Ok, Counted, blank}
 use Rattle.hardware.specs.Promise.{Keeps}
 use Rattle.hardware.specs.Runs.{Status, ended, waiting, Run, run, runAsked, onAnswer, counted, countedStatus, meterIn, AwaitedIn, Exchange, answersOf, AllKept, lastTold, led, driven}
-use Rattle.i2c.specs.I2c.{standard}
+use Rattle.transfer.specs.declared.attempt.Sequence.{Sequence}
 use Rattle.page.specs.declared.walk.Form.{Form}
 use Rattle.page.specs.declared.sums.Paged.{Paged}
 use Rattle.page.specs.declared.sums.Paged.the-variants.{Ok as PagedOk, FirstSum as PagedFirst, SecondSum as PagedSecond, Err as PagedErr}
@@ -87,20 +87,20 @@ only-ok PagedSecond e = cc
 only-ok (PagedErr x) e = cc
 
 -- of an accepted opening of either form, driven by steps that keep their promises
-module _ (form : Form) (family device lan attempts : ℕ) (buffer : List ℕ) (port : Port) (t : PageTold)
+module _ (q : Sequence) (form : Form) (family device lan attempts : ℕ) (buffer : List ℕ) (port : Port) (t : PageTold)
     (o : openPort family device lan ≡ yes port) (a : leb attempts 255 ≡ true) (b : bufferFits buffer ≡ true)
-    (k : Keeps (saidPage t buffer ≡ lent buffer (andThen (openPort family device lan) (openForm form attempts buffer))) (standsPage t))
+    (k : Keeps (saidPage t buffer ≡ lent buffer (andThen (openPort family device lan) (openForm q form attempts buffer))) (standsPage t))
     (ks : List (Exchange PageAt)) (kept : AllKept followsPage (record { told = t; buffer = buffer }) ks)
-    (w : AwaitedIn (asked (lent buffer (andThen (openPort family device lan) (openForm form attempts buffer)))) (answersOf ks)) where
+    (w : AwaitedIn (asked (lent buffer (andThen (openPort family device lan) (openForm q form attempts buffer)))) (answersOf ks)) where
   -- what was told last, with the buffer then
   abbrev final : PageAt
   final = lastTold (record { told = t; buffer = buffer }) ks
 
   -- the run that the host sees is that of the page
   seen : driven saidAt (record { told = t; buffer = buffer }) ks
-      ≡ yes (counted (meterIn blank (page standard port form attempts buffer) (answersOf ks)) (run (page standard port form attempts buffer) (answersOf ks)))
+      ≡ yes (counted (meterIn blank (page q port form attempts buffer) (answersOf ks)) (run (page q port form attempts buffer) (answersOf ks)))
   unfolding andThen question
-  seen = let d = form-driven form family device lan attempts buffer t k ks kept w in rw (o, a, b) at d
+  seen = let d = form-driven q form family device lan attempts buffer t k ks kept w in rw (o, a, b) at d
 
   fits : 96 ≤ length buffer
   unfolding bufferFits
@@ -108,31 +108,31 @@ module _ (form : Form) (family device lan attempts : ℕ) (buffer : List ℕ) (p
 
   -- where an end was told last, the page ends so, and with the buffer as it then is
   pub page-ended-told : (p : Paged) (m : Meter) → final .told ≡ End p m
-      → PageEnds standard port form attempts buffer (answersOf ks) (record { result = pagedOf p; buffer = final .buffer })
+      → PageEnds q port form attempts buffer (answersOf ks) (record { result = pagedOf p; buffer = final .buffer })
   page-ended-told p m e =
-      page-ends-as standard port form attempts buffer (answersOf ks) _ fits .0 (uncounted _ _ _ (told-ended _ ks p m _ kept e seen))
+      page-ends-as q port form attempts buffer (answersOf ks) _ fits .0 (uncounted _ _ _ (told-ended _ ks p m _ kept e seen))
 
   -- and where the page ends so, an end was told last, with that result and that buffer
-  pub page-told : (f : Filled) → PageEnds standard port form attempts buffer (answersOf ks) f
+  pub page-told : (f : Filled) → PageEnds q port form attempts buffer (answersOf ks) f
       → (p : Paged) × (m : Meter) × (final .told ≡ End p m) × (pagedOf p ≡ f .result) × (final .buffer ≡ f .buffer)
   unfolding countedStatus
   page-told f h =
-      let e = page-ends-as standard port form attempts buffer (answersOf ks) f fits .1 h in
-      let (p, m, z) = ended-told _ ks _ _ kept seen (ap (countedStatus (meterIn blank (page standard port form attempts buffer) (answersOf ks))) e) in
+      let e = page-ends-as q port form attempts buffer (answersOf ks) f fits .1 h in
+      let (p, m, z) = ended-told _ ks _ _ kept seen (ap (countedStatus (meterIn blank (page q port form attempts buffer) (answersOf ks))) e) in
       let same : ended f ≡ ended (record { result = pagedOf p; buffer = final .buffer }) = sym e ∙ uncounted _ _ _ (told-ended _ ks p m _ kept z seen) in
       let filled : f ≡ record { result = pagedOf p; buffer = final .buffer } = cc in
       (p, m, z, sym (ap (λ g. g .result) filled), sym (ap (λ g. g .buffer) filled))
 
   -- so success is told exactly where the page is accepted, and with the buffer as it then is
-  pub page-accepted-told : ((m : Meter) × (final .told ≡ End PagedOk m) → Accepted standard port form attempts buffer (answersOf ks) (final .buffer))
-      × ((after : List ℕ) → Accepted standard port form attempts buffer (answersOf ks) after → (m : Meter) × (final .told ≡ End PagedOk m))
+  pub page-accepted-told : ((m : Meter) × (final .told ≡ End PagedOk m) → Accepted q port form attempts buffer (answersOf ks) (final .buffer))
+      × ((after : List ℕ) → Accepted q port form attempts buffer (answersOf ks) after → (m : Meter) × (final .told ≡ End PagedOk m))
   unfolding pagedOf
   page-accepted-told = (
     λ (m, e).
-        page-accepted standard port form attempts buffer (final .buffer) (answersOf ks) fits .0
-        (page-ends-as standard port form attempts buffer (answersOf ks) _ fits .1 (page-ended-told PagedOk m e)),
+        page-accepted q port form attempts buffer (final .buffer) (answersOf ks) fits .0
+        (page-ends-as q port form attempts buffer (answersOf ks) _ fits .1 (page-ended-told PagedOk m e)),
     λ after h.
-        let e = page-accepted standard port form attempts buffer after (answersOf ks) fits .1 h in
-        let (p, m, z, success, _) = page-told _ (page-ends-as standard port form attempts buffer (answersOf ks) _ fits .0 e) in
+        let e = page-accepted q port form attempts buffer after (answersOf ks) fits .1 h in
+        let (p, m, z, success, _) = page-told _ (page-ends-as q port form attempts buffer (answersOf ks) _ fits .0 e) in
         (m, z ∙ ap (λ u. End u m) (only-ok p success)),
   )

@@ -14,7 +14,7 @@ use Rattle.hardware.specs.Lent.{Lent, refused, goes, lent, asked}
 use Rattle.hardware.specs.Numbers.{refusalNumber}
 use Rattle.hardware.specs.Promise.{Stores}
 use Rattle.hardware.specs.Prog.{Prog, ret, ask, Counted, blank, tally, pick}
-use Rattle.i2c.specs.I2c.{standard}
+use Rattle.transfer.specs.declared.attempt.Sequence.{Sequence}
 use Rattle.page.specs.declared.walk.Form.{Form}
 use Rattle.page.specs.declared.walk.Form.the-variants.{Sff8472, Sff8636}
 use Rattle.page.specs.declared.walk.Page.{Page}
@@ -30,16 +30,16 @@ unfoldable pub bufferFits : List ℕ → Bool
 bufferFits buffer = leb 96 (length buffer)
 
 -- 4 and 9
-unfoldable pub openForm : Form → ℕ → List ℕ → Port → Asked (Prog (Counted Filled))
-openForm form attempts buffer port =
-    question (leb attempts 255) 4 (question (bufferFits buffer) 9 (yes (tally blank (page standard port form attempts buffer))))
+unfoldable pub openForm : Sequence → Form → ℕ → List ℕ → Port → Asked (Prog (Counted Filled))
+openForm q form attempts buffer port =
+    question (leb attempts 255) 4 (question (bufferFits buffer) 9 (yes (tally blank (page q port form attempts buffer))))
 
 -- 1, 2, 4 and 9
-unfoldable pub openPage : ℕ → ℕ → ℕ → ℕ → List ℕ → Lent (Counted Filled)
-openPage family device lan attempts buffer = lent buffer (andThen (openPort family device lan) (openForm Sff8472 attempts buffer))
+unfoldable pub openPage : Sequence → ℕ → ℕ → ℕ → ℕ → List ℕ → Lent (Counted Filled)
+openPage q family device lan attempts buffer = lent buffer (andThen (openPort family device lan) (openForm q Sff8472 attempts buffer))
 
-unfoldable pub openQsfpPage : ℕ → ℕ → ℕ → ℕ → List ℕ → Lent (Counted Filled)
-openQsfpPage family device lan attempts buffer = lent buffer (andThen (openPort family device lan) (openForm Sff8636 attempts buffer))
+unfoldable pub openQsfpPage : Sequence → ℕ → ℕ → ℕ → ℕ → List ℕ → Lent (Counted Filled)
+openQsfpPage q family device lan attempts buffer = lent buffer (andThen (openPort family device lan) (openForm q Sff8636 attempts buffer))
 
 unfoldable pub validCall : Port → Form → ℕ → Meter → Page → Bool
 validCall port form tries m s = pick (validPort port) (validPage port form tries m s) false

@@ -11,7 +11,7 @@ use Rattle.hardware.specs.Lent.{asked}
 use Rattle.hardware.specs.Longest.{lasting}
 use Rattle.hardware.specs.Prog.{Counted, blank}
 use Rattle.hardware.specs.Runs.{Run, run, meterIn, counted, AwaitedIn}
-use Rattle.i2c.specs.I2c.{standard}
+use Rattle.transfer.specs.declared.attempt.Sequence.{Sequence}
 use Rattle.page.specs.declared.walk.Form.{Form}
 use Rattle.page.specs.declared.calls.PageTold.{PageTold}
 use Rattle.page.specs.Page.{Filled, page}
@@ -19,10 +19,10 @@ use Rattle.page.specs.Calls.{bufferFits, saidPage, followsBuffer}
 
 -- what an opening of either form comes to over a list of answers; the count beside the result is that of the attempts that
 -- the run begins
-abbrev pub formRun : Form → ℕ → ℕ → ℕ → ℕ → List ℕ → List Answer → Asked (Run (Counted Filled))
-formRun form family device lan attempts buffer l =
+abbrev pub formRun : Sequence → Form → ℕ → ℕ → ℕ → ℕ → List ℕ → List Answer → Asked (Run (Counted Filled))
+formRun q form family device lan attempts buffer l =
     andThen (openPort family device lan) (λ port. question (leb attempts 255) 4 (question (bufferFits buffer) 9
-    (yes (counted (meterIn blank (page standard port form attempts buffer) l) (run (page standard port form attempts buffer) l)))))
+    (yes (counted (meterIn blank (page q port form attempts buffer) l) (run (page q port form attempts buffer) l)))))
 
 -- the accesses left, at most: a number of the state alone, since how long a page lasts is not by what its buffer holds
 unfoldable pub pageLeft : PageTold → ℕ

@@ -23,6 +23,7 @@ ghost use Rattle.hardware.specs.Marks.{FULL};
 ghost use Rattle.hardware.specs.Promise.{Keeps, Stores};
 ghost use Rattle.hardware.specs.Prog.{tally};
 ghost use Rattle.page.specs.Walk.{pageNext, validPageNext};
+ghost use Rattle.i2c.specs.I2c.{standard};
 ghost use Rattle.page.specs.Calls.{openForm, validCall, kept, bufferStepped, bufferAfter, steppedPage, openPage, openQsfpPage, stepPage, saidPage, standsPage};
 
 // Going: with the clearing sequence of its transfers, which page it is, the attempts for each byte, and the meter.
@@ -50,9 +51,9 @@ fn told(port: Port, q: Sequence, form: Form, tries: u8, m: Meter, n: PageNext) -
     }
 }
 
-// Questions 4 and 9, where no sequence is named.
-fn opened(port: Port, form: Form, attempts: u32, buffer: &[u8]) -> PageTold
-    ensures { λ t. ⌜ Keeps (saidPage t (now (buffer .entry)) ≡ lent (now (buffer .entry)) (openForm form attempts (now (buffer .entry)) port)) (validPort port ≡ true → standsPage t) ⌝ }
+// Questions 4 and 9.
+fn opened(port: Port, q: Sequence, form: Form, attempts: u32, buffer: &[u8]) -> PageTold
+    ensures { λ t. ⌜ Keeps (saidPage t (now (buffer .entry)) ≡ lent (now (buffer .entry)) (openForm q form attempts (now (buffer .entry)) port)) (validPort port ≡ true → standsPage t) ⌝ }
 {
     if 255 < attempts {
         return PageTold::Refused(Refusal::Attempts);
@@ -60,7 +61,6 @@ fn opened(port: Port, form: Form, attempts: u32, buffer: &[u8]) -> PageTold
     if buffer.len() < 96 {
         return PageTold::Refused(Refusal::Buffer);
     }
-    let q = i2c::standard();
     let tries = attempts as u8;
     told(
         port,
@@ -72,24 +72,51 @@ fn opened(port: Port, form: Form, attempts: u32, buffer: &[u8]) -> PageTold
     )
 }
 
-// SFF-8472's page. Questions 1, 2, 4 and 9.
-pub fn page_open(family: u32, device: u16, lan: u32, attempts: u32, buffer: &[u8]) -> PageTold
-    ensures { λ t. ⌜ Keeps (saidPage t (now (buffer .entry)) ≡ openPage family device lan attempts (now (buffer .entry))) (standsPage t) ⌝ }
+// SFF-8472's page. Questions 1, 2, 4 and 9. sequence: the clearing after a failed attempt, by its name.
+pub fn page_open_with(
+    family: u32,
+    device: u16,
+    lan: u32,
+    attempts: u32,
+    buffer: &[u8],
+    sequence: Sequence,
+) -> PageTold
+    ensures { λ t. ⌜ Keeps (saidPage t (now (buffer .entry)) ≡ openPage sequence family device lan attempts (now (buffer .entry))) (standsPage t) ⌝ }
 {
     match hardware::open_port(family, device, lan) {
-        Opening::Port(p) => opened(p, Form::Sff8472, attempts, buffer),
+        Opening::Port(p) => opened(p, sequence, Form::Sff8472, attempts, buffer),
         Opening::Refused(q) => PageTold::Refused(q),
     }
 }
 
 // SFF-8636's.
-pub fn qsfp_page_open(family: u32, device: u16, lan: u32, attempts: u32, buffer: &[u8]) -> PageTold
-    ensures { λ t. ⌜ Keeps (saidPage t (now (buffer .entry)) ≡ openQsfpPage family device lan attempts (now (buffer .entry))) (standsPage t) ⌝ }
+pub fn qsfp_page_open_with(
+    family: u32,
+    device: u16,
+    lan: u32,
+    attempts: u32,
+    buffer: &[u8],
+    sequence: Sequence,
+) -> PageTold
+    ensures { λ t. ⌜ Keeps (saidPage t (now (buffer .entry)) ≡ openQsfpPage sequence family device lan attempts (now (buffer .entry))) (standsPage t) ⌝ }
 {
     match hardware::open_port(family, device, lan) {
-        Opening::Port(p) => opened(p, Form::Sff8636, attempts, buffer),
+        Opening::Port(p) => opened(p, sequence, Form::Sff8636, attempts, buffer),
         Opening::Refused(q) => PageTold::Refused(q),
     }
+}
+
+// Both with the default sequence.
+pub fn page_open(family: u32, device: u16, lan: u32, attempts: u32, buffer: &[u8]) -> PageTold
+    ensures { λ t. ⌜ Keeps (saidPage t (now (buffer .entry)) ≡ openPage standard family device lan attempts (now (buffer .entry))) (standsPage t) ⌝ }
+{
+    page_open_with(family, device, lan, attempts, buffer, i2c::standard())
+}
+
+pub fn qsfp_page_open(family: u32, device: u16, lan: u32, attempts: u32, buffer: &[u8]) -> PageTold
+    ensures { λ t. ⌜ Keeps (saidPage t (now (buffer .entry)) ≡ openQsfpPage standard family device lan attempts (now (buffer .entry))) (standsPage t) ⌝ }
+{
+    qsfp_page_open_with(family, device, lan, attempts, buffer, i2c::standard())
 }
 
 fn valid(port: Port, form: Form, tries: u8, m: Meter, t: Page) -> bool

@@ -29,8 +29,19 @@ fn device(d: u32) -> u16 {
 fn known(call: u32) -> bool {
     match call {
         0..=8 | 10..=17 | 20..=25 => true,
+        111..=114 | 120..=122 | 124..=125 => true,
         _ => false,
     }
+}
+
+// The number of the call, whatever its sequence.
+fn number(words: &[u32; 45]) -> u32 {
+    words[0] % 100
+}
+
+// Whether the call is that with the default sequence.
+fn standard(words: &[u32; 45]) -> bool {
+    100 <= words[0]
 }
 
 // Whether the numbers, so many of them, are a case.
@@ -68,6 +79,7 @@ fn asked(words: &[u32; 45]) -> Asked {
         low: low(words[5]),
         high: high(words[5]),
         lock: words[6] == 1,
+        standard: standard(words),
     }
 }
 
@@ -75,10 +87,11 @@ fn asked(words: &[u32; 45]) -> Asked {
 fn transfer(words: &[u32; 45]) -> Summary {
     let h = host_of(words);
     let q = asked(words);
+    let n = number(words);
     if 255 < words[4] {
         return calls::unended(h);
     }
-    match words[0] {
+    match n {
         11 => transfers::read_byte(h, q),
         12 => transfers::write_byte(h, q),
         13 => transfers::read_combined(h, q),
@@ -92,7 +105,9 @@ fn call(words: &[u32; 45]) -> Summary {
     let device = device(words[2]);
     let lan = words[3];
     let a = words[4];
-    match words[0] {
+    let s = standard(words);
+    let n = number(words);
+    match n {
         0 => calls::lock(h, family),
         1 => calls::unlock(h, family),
         2 => calls::acquire(h, family, device, lan, a),
@@ -106,12 +121,12 @@ fn call(words: &[u32; 45]) -> Summary {
         15 => scripts::script(h, family, device, lan, a, words[5]),
         16 => plain::ones_add(h, a, words[5]),
         17 => plain::port(h, family, device, lan, a),
-        20 => modules::identify(h, family, device, lan),
-        21 => modules::identify_qsfp(h, family, device, lan),
-        22 => modules::soft_rate_select(h, family, device, lan, a == 1),
+        20 => modules::identify(h, family, device, lan, s),
+        21 => modules::identify_qsfp(h, family, device, lan, s),
+        22 => modules::soft_rate_select(h, family, device, lan, a == 1, s),
         23 => methods::method(h, family, device, lan, a, words[5], words[6]),
-        24 => pages::page(h, family, device, lan, a),
-        25 => pages::qsfp_page(h, family, device, lan, a),
+        24 => pages::page(h, family, device, lan, a, s),
+        25 => pages::qsfp_page(h, family, device, lan, a, s),
         _ => transfer(words),
     }
 }

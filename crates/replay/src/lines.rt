@@ -99,18 +99,18 @@ fn paged(l: Lines) -> Lines {
 pub(crate) fn queued(l: Lines, call: u32, a1: u32, a2: u32, a3: u32) -> Lines {
     let mut next = l;
     match call {
-        20..=21 => {
+        20..=21 | 120..=121 => {
             next.left = 12;
             next.w1 = a1;
             next.w2 = a2;
             next.w3 = a3;
         }
-        22 => {
+        22 | 122 => {
             next.left = 8;
             next.w1 = a2;
             next.w2 = a3;
         }
-        24..=25 => {
+        24..=25 | 124..=125 => {
             next.left = 96;
             next.paged = true;
             next.w2 = a2;

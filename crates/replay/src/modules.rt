@@ -8,6 +8,7 @@ use identify::calls::IdentifyTold;
 use identify::walk::Identified;
 use sfp::Identity;
 use softrate::calls::RateTold;
+use transfer::attempt::Sequence;
 
 // The kind's number, with 256 for multispeed.
 fn class(m: Identity) -> u32 {
@@ -83,17 +84,49 @@ fn select(h: Host, first: RateTold) -> Summary {
     calls::unended(host)
 }
 
-pub(crate) fn identify(h: Host, family: u32, device: u16, lan: u32) -> Summary {
-    run(h, identify::calls::identify_open(family, device, lan))
+// With the default sequence, else with that of the Rust by name.
+pub(crate) fn identify(h: Host, family: u32, device: u16, lan: u32, standard: bool) -> Summary {
+    if standard {
+        return run(h, identify::calls::identify_open(family, device, lan));
+    }
+    run(
+        h,
+        identify::calls::identify_open_with(family, device, lan, Sequence::Pulses),
+    )
 }
 
-pub(crate) fn identify_qsfp(h: Host, family: u32, device: u16, lan: u32) -> Summary {
-    run(h, identify::calls::identify_qsfp_open(family, device, lan))
+pub(crate) fn identify_qsfp(
+    h: Host,
+    family: u32,
+    device: u16,
+    lan: u32,
+    standard: bool,
+) -> Summary {
+    if standard {
+        return run(h, identify::calls::identify_qsfp_open(family, device, lan));
+    }
+    run(
+        h,
+        identify::calls::identify_qsfp_open_with(family, device, lan, Sequence::Pulses),
+    )
 }
 
-pub(crate) fn soft_rate_select(h: Host, family: u32, device: u16, lan: u32, ten: bool) -> Summary {
+pub(crate) fn soft_rate_select(
+    h: Host,
+    family: u32,
+    device: u16,
+    lan: u32,
+    ten: bool,
+    standard: bool,
+) -> Summary {
+    if standard {
+        return select(
+            h,
+            softrate::calls::soft_rate_select_open(family, device, lan, ten),
+        );
+    }
     select(
         h,
-        softrate::calls::soft_rate_select_open(family, device, lan, ten),
+        softrate::calls::soft_rate_select_open_with(family, device, lan, ten, Sequence::Pulses),
     )
 }

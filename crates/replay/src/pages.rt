@@ -6,6 +6,7 @@ use crate::host::Host;
 use crate::rng;
 use page::calls::PageTold;
 use page::sums::Paged;
+use transfer::attempt::Sequence;
 
 // Byte i of the buffer begins as 255 - i.
 fn fill(buffer: &mut [u8]) {
@@ -71,18 +72,48 @@ fn summed(h: Host, first: PageTold, buffer: &mut [u8]) -> Summary {
     summary
 }
 
+// With the default sequence, else with that of the Rust by name.
+fn page_told(
+    family: u32,
+    device: u16,
+    lan: u32,
+    attempts: u32,
+    standard: bool,
+    buffer: &[u8],
+) -> PageTold {
+    if standard {
+        return page::calls::page_open(family, device, lan, attempts, buffer);
+    }
+    page::calls::page_open_with(family, device, lan, attempts, buffer, Sequence::Pulses)
+}
+
+fn qsfp_page_told(
+    family: u32,
+    device: u16,
+    lan: u32,
+    attempts: u32,
+    standard: bool,
+    buffer: &[u8],
+) -> PageTold {
+    if standard {
+        return page::calls::qsfp_page_open(family, device, lan, attempts, buffer);
+    }
+    page::calls::qsfp_page_open_with(family, device, lan, attempts, buffer, Sequence::Pulses)
+}
+
 fn page_in(
     h: Host,
     family: u32,
     device: u16,
     lan: u32,
     attempts: u32,
+    standard: bool,
     buffer: &mut [u8],
 ) -> Summary {
     fill(buffer);
     summed(
         h,
-        page::calls::page_open(family, device, lan, attempts, buffer),
+        page_told(family, device, lan, attempts, standard, buffer),
         buffer,
     )
 }
@@ -93,22 +124,37 @@ fn qsfp_page_in(
     device: u16,
     lan: u32,
     attempts: u32,
+    standard: bool,
     buffer: &mut [u8],
 ) -> Summary {
     fill(buffer);
     summed(
         h,
-        page::calls::qsfp_page_open(family, device, lan, attempts, buffer),
+        qsfp_page_told(family, device, lan, attempts, standard, buffer),
         buffer,
     )
 }
 
-pub(crate) fn page(h: Host, family: u32, device: u16, lan: u32, attempts: u32) -> Summary {
+pub(crate) fn page(
+    h: Host,
+    family: u32,
+    device: u16,
+    lan: u32,
+    attempts: u32,
+    standard: bool,
+) -> Summary {
     let mut buffer = [0u8; 100];
-    page_in(h, family, device, lan, attempts, &mut buffer)
+    page_in(h, family, device, lan, attempts, standard, &mut buffer)
 }
 
-pub(crate) fn qsfp_page(h: Host, family: u32, device: u16, lan: u32, attempts: u32) -> Summary {
+pub(crate) fn qsfp_page(
+    h: Host,
+    family: u32,
+    device: u16,
+    lan: u32,
+    attempts: u32,
+    standard: bool,
+) -> Summary {
     let mut buffer = [0u8; 100];
-    qsfp_page_in(h, family, device, lan, attempts, &mut buffer)
+    qsfp_page_in(h, family, device, lan, attempts, standard, &mut buffer)
 }

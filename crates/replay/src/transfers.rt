@@ -6,8 +6,10 @@ use crate::host::Host;
 use hardware::Word;
 use i2c::calls::SetupTold;
 use i2c::calls::TransferTold;
+use transfer::attempt::Sequence;
 
-// A transfer as its numbers name it: low is the offset or register, high the attempts or the value.
+// A transfer as its numbers name it: low is the offset or register, high the attempts or the value. standard: with the default
+// sequence, else with that of the Rust by name.
 pub struct Asked {
     pub family: u32,
     pub device: u16,
@@ -16,6 +18,7 @@ pub struct Asked {
     pub low: u16,
     pub high: u16,
     pub lock: bool,
+    pub standard: bool,
 }
 
 // The transfers made go with every result.
@@ -55,23 +58,99 @@ fn byte(v: u16) -> u8 {
     (v % 256) as u8
 }
 
+fn read_byte_told(q: Asked, offset: u8, attempts: u32) -> TransferTold {
+    if q.standard {
+        return i2c::calls::read_byte_open(
+            q.family,
+            q.device,
+            q.lan,
+            q.address,
+            offset,
+            attempts,
+            q.lock,
+        );
+    }
+    i2c::calls::read_byte_open_with(
+        q.family,
+        q.device,
+        q.lan,
+        q.address,
+        offset,
+        attempts,
+        q.lock,
+        Sequence::Pulses,
+    )
+}
+
+fn write_byte_told(q: Asked, offset: u8, value: u8) -> TransferTold {
+    if q.standard {
+        return i2c::calls::write_byte_open(
+            q.family,
+            q.device,
+            q.lan,
+            q.address,
+            offset,
+            value,
+            q.lock,
+        );
+    }
+    i2c::calls::write_byte_open_with(
+        q.family,
+        q.device,
+        q.lan,
+        q.address,
+        offset,
+        value,
+        q.lock,
+        Sequence::Pulses,
+    )
+}
+
+fn read_combined_told(q: Asked) -> TransferTold {
+    if q.standard {
+        return i2c::calls::read_combined_open(q.family, q.device, q.lan, q.address, q.low, q.lock);
+    }
+    i2c::calls::read_combined_open_with(
+        q.family,
+        q.device,
+        q.lan,
+        q.address,
+        q.low,
+        q.lock,
+        Sequence::Pulses,
+    )
+}
+
+fn write_combined_told(q: Asked) -> TransferTold {
+    if q.standard {
+        return i2c::calls::write_combined_open(
+            q.family,
+            q.device,
+            q.lan,
+            q.address,
+            q.low,
+            q.high,
+            q.lock,
+        );
+    }
+    i2c::calls::write_combined_open_with(
+        q.family,
+        q.device,
+        q.lan,
+        q.address,
+        q.low,
+        q.high,
+        q.lock,
+        Sequence::Pulses,
+    )
+}
+
 pub(crate) fn read_byte(h: Host, q: Asked) -> Summary {
     if 255 < q.low {
         return calls::unended(h);
     }
     let attempts = q.high as u32;
-    run(
-        h,
-        i2c::calls::read_byte_open(
-            q.family,
-            q.device,
-            q.lan,
-            q.address,
-            byte(q.low),
-            attempts,
-            q.lock,
-        ),
-    )
+    run(h, read_byte_told(q, byte(q.low), attempts))
 }
 
 pub(crate) fn write_byte(h: Host, q: Asked) -> Summary {
@@ -81,40 +160,15 @@ pub(crate) fn write_byte(h: Host, q: Asked) -> Summary {
     if 255 < q.high {
         return calls::unended(h);
     }
-    run(
-        h,
-        i2c::calls::write_byte_open(
-            q.family,
-            q.device,
-            q.lan,
-            q.address,
-            byte(q.low),
-            byte(q.high),
-            q.lock,
-        ),
-    )
+    run(h, write_byte_told(q, byte(q.low), byte(q.high)))
 }
 
 pub(crate) fn read_combined(h: Host, q: Asked) -> Summary {
-    run(
-        h,
-        i2c::calls::read_combined_open(q.family, q.device, q.lan, q.address, q.low, q.lock),
-    )
+    run(h, read_combined_told(q))
 }
 
 pub(crate) fn write_combined(h: Host, q: Asked) -> Summary {
-    run(
-        h,
-        i2c::calls::write_combined_open(
-            q.family,
-            q.device,
-            q.lan,
-            q.address,
-            q.low,
-            q.high,
-            q.lock,
-        ),
-    )
+    run(h, write_combined_told(q))
 }
 
 pub(crate) fn qsfp_setup(h: Host) -> Summary {

@@ -62,7 +62,9 @@ fn meaning(f: Fault) {
         Fault::Long => text(b"a word has at most 4096 bytes\n"),
         Fault::Second => text(b"an image is named already, and a setting is NAME=VALUE\n"),
         Fault::Name => {
-            text(b"the names are family port device stage taken page next sda a0 a2 control");
+            text(
+                b"the names are family port device stage taken page next sda a0 a2 control sequence",
+            );
             text(b"; put ./ before an image whose path has =\n");
         }
         Fault::Twice => text(b"the name was given before\n"),
@@ -75,6 +77,7 @@ fn meaning(f: Fault) {
         Fault::Page => text(b"the page is A0 or A2\n"),
         Fault::Next => text(b"the next byte is offset or data\n"),
         Fault::Sda => text(b"the SDA noted is low or high\n"),
+        Fault::Sequence => text(b"the clearing sequence is rounds or pulses\n"),
     }
 }
 
@@ -100,7 +103,7 @@ pub(crate) fn control(place: usize) {
 
 pub(crate) fn too_many(words: usize) {
     decimal(words);
-    text(b" words: at most 12 are taken, an image and 11 settings\n");
+    text(b" words: at most 13 are taken, an image and 12 settings\n");
 }
 
 pub(crate) fn no_image() {

@@ -25,7 +25,14 @@ fn identified(p: Port, s: Settings, path: &[u8], image: Image) {
     let a2 = image.a2;
     let before = start::described(family, s, a0, a2);
     let v = s.values;
-    let run = onbench::identify_at_once(v[settings::FAMILY], p.device, v[settings::PORT], before);
+    let sequence = settings::sequence(s);
+    let run = onbench::identify_at_once(
+        v[settings::FAMILY],
+        p.device,
+        v[settings::PORT],
+        before,
+        sequence,
+    );
     let mut page = [0u8; 96];
     let read = pages::read(
         v[settings::FAMILY],
@@ -33,8 +40,9 @@ fn identified(p: Port, s: Settings, path: &[u8], image: Image) {
         p,
         run.state,
         &mut page,
+        sequence,
     );
-    record::all(path, p, before, run, read, page);
+    record::all(path, p, before, sequence, run, read, page);
 }
 
 fn read(p: Port, s: Settings) {
@@ -89,7 +97,7 @@ fn main() {
     let count = os::arg_count();
     if count < 2 {
         table::all();
-    } else if count <= 13 {
+    } else if count <= 14 {
         words(settings::all(count));
     } else {
         faults::too_many(count - 1);

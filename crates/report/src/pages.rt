@@ -6,6 +6,7 @@ use hardware::Family;
 use hardware::Port;
 use page::calls::PageTold;
 use page::sums::Paged;
+use transfer::attempt::Sequence;
 
 // Over: how the call ended, and the transfers made.
 pub enum PageEnd {
@@ -56,8 +57,22 @@ fn run(family: Family, first: PageTold, d: BenchState, buffer: &mut [u8]) -> Pag
 
 // With the attempts that the port's later requests have. The family and the port number are the words' own: they were asked
 // before.
-pub(crate) fn read(family: u32, lan: u32, p: Port, d: BenchState, buffer: &mut [u8]) -> PageEnd {
+pub(crate) fn read(
+    family: u32,
+    lan: u32,
+    p: Port,
+    d: BenchState,
+    buffer: &mut [u8],
+    sequence: Sequence,
+) -> PageEnd {
     let f = p.family;
-    let told = page::calls::page_open(family, p.device, lan, i2c::attempts(p), buffer);
+    let told = page::calls::page_open_with(
+        family,
+        p.device,
+        lan,
+        i2c::attempts(p),
+        buffer,
+        sequence,
+    );
     run(f, told, d, buffer)
 }

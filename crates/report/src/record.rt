@@ -11,6 +11,7 @@ use onbench::Ending;
 use onbench::Run;
 use page::sums::Paged;
 use sfp::Identity;
+use transfer::attempt::Sequence;
 ghost use Prim.Native.Nat.{_≤_};
 ghost use lib.ListN.{length};
 
@@ -191,12 +192,29 @@ fn end(p: Port, before: Bench, d: BenchState) {
     offsets(after.a0, after.a2);
 }
 
-pub(crate) fn all(path: &[u8], p: Port, before: BenchState, r: Run, read: PageEnd, page: [u8; 96]) {
+fn sequence(q: Sequence) {
+    print::text(b"sequence    ");
+    match q {
+        Sequence::Pulses => print::text(b"pulses\n"),
+        Sequence::Rounds => print::text(b"rounds\n"),
+    }
+}
+
+pub(crate) fn all(
+    path: &[u8],
+    p: Port,
+    before: BenchState,
+    q: Sequence,
+    r: Run,
+    read: PageEnd,
+    page: [u8; 96],
+) {
     print::text(b"image       ");
     print::shown(print::STDOUT, path);
     print::text(b"\n");
     port(p);
     start(before);
+    sequence(q);
     let h = r.ending;
     ending(p, h);
     end(p, before.bench, r.state);

@@ -2,6 +2,7 @@
 use hardware::FamilyOpening;
 use hardware::Opening;
 use hardware::Refusal;
+use transfer::attempt::Sequence;
 ghost use Prim.Native.Nat.{_≤_};
 ghost use lib.ListN.{length};
 ghost use mathlib.Core.Path.{_≡_};
@@ -30,14 +31,16 @@ pub const A2: usize = 9;
 
 pub const CONTROL: usize = 10;
 
+pub const SEQUENCE: usize = 11;
+
 // How many there are, and the number of every other name.
-const NAMES: usize = 11;
+const NAMES: usize = 12;
 
 // values: each setting as a number. places: the word that gave it, from 1, and 0 where none did. image: the word that names
 // the image, likewise.
 pub struct Settings {
-    pub values: [u32; 11],
-    pub places: [usize; 11],
+    pub values: [u32; 12],
+    pub places: [usize; 12],
     pub image: usize,
 }
 
@@ -55,6 +58,7 @@ pub enum Fault {
     Page,
     Next,
     Sda,
+    Sequence,
 }
 
 pub enum Value {
@@ -70,11 +74,11 @@ pub struct Reading {
 }
 
 // 82599, port number 0, PCI device 10fb; Idle, no bits taken, page A0, data next, SDA noted high, both offsets 0. The
-// default of I2CCTL goes by the family.
+// default of I2CCTL goes by the family, that of the sequence is the library's.
 fn defaults() -> Settings {
     Settings {
-        values: [0, 0, 0x10fb, 0, 0, 0, 0, 1, 0, 0, 0],
-        places: [0; 11],
+        values: [0, 0, 0x10fb, 0, 0, 0, 0, 1, 0, 0, 0, 0],
+        places: [0; 12],
         image: 0,
     }
 }
@@ -95,7 +99,7 @@ fn find(text: &[u8], b: u8) -> usize
 }
 
 fn state_number(name: &[u8]) -> usize
-    ensures { λ r. ⌜ r ≤ 11 ⌝ }
+    ensures { λ r. ⌜ r ≤ 12 ⌝ }
 {
     if check::same(name, b"taken") {
         return TAKEN;
@@ -118,11 +122,14 @@ fn state_number(name: &[u8]) -> usize
     if check::same(name, b"control") {
         return CONTROL;
     }
+    if check::same(name, b"sequence") {
+        return SEQUENCE;
+    }
     NAMES
 }
 
 fn number(name: &[u8]) -> usize
-    ensures { λ r. ⌜ r ≤ 11 ⌝ }
+    ensures { λ r. ⌜ r ≤ 12 ⌝ }
 {
     if check::same(name, b"family") {
         return FAMILY;
@@ -259,6 +266,7 @@ fn parsed(number: usize, text: &[u8]) -> Value {
         PAGE => either(text, b"A0", b"A2", Fault::Page),
         NEXT => either(text, b"data", b"offset", Fault::Next),
         SDA => either(text, b"low", b"high", Fault::Sda),
+        SEQUENCE => either(text, b"rounds", b"pulses", Fault::Sequence),
         CONTROL => hex_value(text, 8),
         _ => hex_value(text, 2),
     }
@@ -323,6 +331,19 @@ fn word_at(s: Settings, place: usize) -> Reading {
         return wrong(s, place, Fault::Long);
     }
     word(s, &text[..n], place)
+}
+
+// The clearing sequence that is named, or the library's default.
+pub(crate) fn sequence(s: Settings) -> Sequence {
+    let v = s.values;
+    let places = s.places;
+    if places[SEQUENCE] == 0 {
+        return i2c::standard();
+    }
+    if v[SEQUENCE] == 0 {
+        return Sequence::Rounds;
+    }
+    Sequence::Pulses
 }
 
 pub(crate) fn sound(r: Reading) -> bool {

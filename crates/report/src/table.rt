@@ -1,4 +1,4 @@
-// The shipped images, each from every stage of the receiver.
+// The shipped images, each from every stage of the receiver, with the default clearing sequence and with that of the Rust.
 use crate::ends;
 use crate::faults;
 use crate::files;
@@ -13,6 +13,7 @@ use onbench::Ending;
 use onbench::Run;
 use sfp::Identity;
 use std::num::wrapping_add_u32;
+use transfer::attempt::Sequence;
 ghost use Prim.Native.Nat.{_≤_};
 
 // The port: the 82599 by its number, port number 0, PCI device 10fb.
@@ -65,8 +66,8 @@ fn outcome(h: Ending) -> Seen {
     }
 }
 
-fn identify(d: BenchState) -> Run {
-    onbench::identify_at_once(FAMILY_NUMBER, DEVICE, PORT_NUMBER, d)
+fn identify(q: Sequence, d: BenchState) -> Run {
+    onbench::identify_at_once(FAMILY_NUMBER, DEVICE, PORT_NUMBER, d, q)
 }
 
 fn state(image: Image, n: u8) -> BenchState {
@@ -119,9 +120,9 @@ fn one_if(yes: bool) -> u32
     0
 }
 
-fn counted(t: Tally, idle: Seen, image: Image, n: u8) -> Tally {
+fn counted(q: Sequence, t: Tally, idle: Seen, image: Image, n: u8) -> Tally {
     let before = state(image, n);
-    let r = identify(before);
+    let r = identify(q, before);
     let h = r.ending;
     let s = outcome(h);
     if right(idle, before, s, r.state) {
@@ -133,10 +134,10 @@ fn counted(t: Tally, idle: Seen, image: Image, n: u8) -> Tally {
     t
 }
 
-fn tallied(idle: Seen, image: Image) -> Tally {
+fn tallied(q: Sequence, idle: Seen, image: Image) -> Tally {
     let mut t = Tally { right: 0, more: 0 };
     for n in 0..start::STATES {
-        t = counted(t, idle, image, n);
+        t = counted(q, t, idle, image, n);
     }
     t
 }
@@ -199,28 +200,34 @@ fn ending(s: Seen) {
     print::text(b"\n");
 }
 
-fn counts(idle: Seen, t: Tally) {
+fn counts(idle: Seen, t: Tally, old: Tally) {
     print::decimal(idle.made as u64);
     print::text(b" ");
     print::decimal(t.right as u64);
     print::text(b" ");
     print::decimal(t.more as u64);
+    print::text(b" ");
+    print::decimal(old.right as u64);
     print::text(b"  ");
 }
 
-fn run(image: Image, n: u8) -> Seen {
-    let r = identify(state(image, n));
+fn run(q: Sequence, image: Image, n: u8) -> Seen {
+    let r = identify(q, state(image, n));
     let h = r.ending;
     outcome(h)
 }
 
 fn row(name: &[u8], image: Image) {
-    let idle = run(image, start::IDLE);
-    let t = tallied(idle, image);
+    let q = i2c::standard();
+    let idle = run(q, image, start::IDLE);
     print::left(name, 10);
     module(idle.identity);
-    counts(idle, t);
-    ending(run(image, start::ACK_WRITE));
+    counts(
+        idle,
+        tallied(q, idle, image),
+        tallied(Sequence::Pulses, idle, image),
+    );
+    ending(run(Sequence::Pulses, image, start::ACK_WRITE));
 }
 
 fn title() {
@@ -237,8 +244,9 @@ fn title() {
     print::text(b"  OK        states with the same kind and multispeed, no byte of the module\n");
     print::text(b"            changed, and at the end the module Idle and both lines released\n");
     print::text(b"  +1        those of them with one transfer more, as the module pulled SDA\n");
-    print::text(b"  AckWrite  what this state gave, and after how many transfers\n");
-    print::text(b"image     kind             m 0  3  6  8  supported by    T OK +1 AckWrite\n");
+    print::text(b"  old       states that are OK with sequence=pulses, the original's clearing\n");
+    print::text(b"  AckWrite  what this state gave with that, and after how many transfers\n");
+    print::text(b"image     kind             m 0  3  6  8  supported by    T OK +1 old AckWrite\n");
 }
 
 // Whether the image can be read; if so and `printed`, its line.

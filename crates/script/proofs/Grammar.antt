@@ -87,30 +87,30 @@ step Begin Start l h = h
 step Begin (Send b) l h = absurd h
 step Begin (Read v) l h = absurd h
 step Begin Stop l h = absurd h
-step Begin Free l h = absurd h
+step Begin (Free p) l h = absurd h
 step Address Start l h = absurd h
 step Address (Send a) l h = addressed a l h
 step Address (Read v) l h = absurd h
 step Address Stop l h = absurd h
-step Address Free l h = absurd h
+step Address (Free p) l h = absurd h
 step Sending Start l h = record { part = []; rest = Start ∷ l; whole = refl; of = noMore; after = inr h }
 step Sending (Send b) l h =
     record { part = Send b ∷ h .part; rest = h .rest; whole = ap (λ m. Send b ∷ m) (h .whole); of = another (h .of); after = h .after }
 step Sending (Read v) l h = absurd h
 step Sending Stop l h = record { part = []; rest = Stop ∷ l; whole = refl; of = noMore; after = inl (ap (λ m. Stop ∷ m) h) }
-step Sending Free l h = absurd h
+step Sending (Free p) l h = absurd h
 step Reading Start l h = absurd h
 step Reading (Send b) l h = absurd h
 step Reading (Read true) l h = record { part = Read true ∷ []; rest = l; whole = refl; of = last; after = h }
 step Reading (Read false) l h =
     record { part = Read false ∷ h .part; rest = h .rest; whole = ap (λ m. Read false ∷ m) (h .whole); of = before (h .of); after = h .after }
 step Reading Stop l h = absurd h
-step Reading Free l h = absurd h
+step Reading (Free p) l h = absurd h
 step Between Start l h = inr h
 step Between (Send b) l h = absurd h
 step Between (Read v) l h = absurd h
 step Between Stop l h = inl (ap (λ m. Stop ∷ m) h)
-step Between Free l h = absurd h
+step Between (Free p) l h = absurd h
 step End c l h = absurd h
 step Wrong c l h = absurd h
 

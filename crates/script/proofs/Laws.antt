@@ -10,7 +10,9 @@ use lib.ListN.{length, getD, set, take, drop, length-drop, drop-of-length-le, Li
 use lib.Seq.{take-length, drop-cons, drop-drop, getD-drop}
 use borrow.Author.Tests.{leb-true, ltb-true, ltb-false}
 use Rattle.hardware.specs.Prog.{pick}
+use Rattle.bus.specs.declared.command.Command.{Command}
 use Rattle.bus.specs.declared.command.Command.the-variants.{Start, Send, Read, Stop, Free}
+use Rattle.bus.specs.declared.command.Piece.{Piece}
 use Rattle.script.specs.declared.cursor.Where.{Where}
 use Rattle.script.specs.declared.cursor.Where.the-variants.{Begin, Address, Sending, Reading, Between, End, Wrong}
 use Rattle.script.specs.Script.{alone, single, commands, complete, starts, onCommand, headSends, headCommand, headWidth, headKnown, commandAt, nextAt, leads, follows, isScript, lengthFits, judged}
@@ -156,16 +158,16 @@ aligned-past s place at l before =
       | false ↦ λ e. on-past s at (omega (arith, ltb-false at place e))
     ] refl
 
--- the middle of the clearing sequence stands in no script
-pub free-wrong : (w : Where) → follows w Free ≡ Wrong
+-- no piece of a clearing sequence stands in a script
+pub free-wrong : (p : Piece) (w : Where) → follows w (Free p) ≡ Wrong
 unfolding follows leads
-free-wrong Begin = refl
-free-wrong Address = refl
-free-wrong Sending = refl
-free-wrong Reading = refl
-free-wrong Between = refl
-free-wrong End = refl
-free-wrong Wrong = refl
+free-wrong p Begin = refl
+free-wrong p Address = refl
+free-wrong p Sending = refl
+free-wrong p Reading = refl
+free-wrong p Between = refl
+free-wrong p End = refl
+free-wrong p Wrong = refl
 
 -- what users of the cursor cite
 
@@ -187,15 +189,39 @@ pub complete-past : (s : List ℕ) (at : ℕ) → length s ≤ at → complete (
 unfolding complete
 complete-past s at l = rw drop-of-length-le
 
-pub command-not-free : (s : List ℕ) (at : ℕ) → commandAt s at ≡ Free → ⊥
-unfolding commandAt headCommand alone pick
-command-not-free s at =
-    let go : (x y z w : Bool) (v : ℕ) → pick x (Send v) (pick y Start (pick z (Read false) (pick w (Read true) Stop))) ≡ Free → ⊥ =
-    λ x y z w v. elim x [
+-- no piece of a clearing sequence is among the commands of a script
+
+alone-not-free : (p : Piece) (b : ℕ) → alone b ≡ Free p → ⊥
+unfolding alone pick
+alone-not-free p b =
+    let go : (x y z : Bool) → pick x Start (pick y (Read false) (pick z (Read true) Stop)) ≡ Free p → ⊥ =
+    λ x y z. elim x [
       | true ↦ λ e. let q : _≡_ {A = ℕ} 0 1 = cc in omega arith
-      | false ↦ elim y [ true ↦ λ e. let q : _≡_ {A = ℕ} 0 1 = cc in omega arith | false ↦ elim z [ true ↦ λ e. let q : _≡_ {A = ℕ} 0 1 = cc in omega arith | false ↦ elim w [ true ↦ λ e. let q : _≡_ {A = ℕ} 0 1 = cc in omega arith | false ↦ λ e. let q : _≡_ {A = ℕ} 0 1 = cc in omega arith ] ] ]
+      | false ↦ elim y [ true ↦ λ e. let q : _≡_ {A = ℕ} 0 1 = cc in omega arith | false ↦ elim z [ true ↦ λ e. let q : _≡_ {A = ℕ} 0 1 = cc in omega arith | false ↦ λ e. let q : _≡_ {A = ℕ} 0 1 = cc in omega arith ] ]
     ] in
-    go (headSends (drop at s)) (eqb (getD (drop at s) 0 0) 0x10) (eqb (getD (drop at s) 0 0) 0x30) (eqb (getD (drop at s) 0 0) 0x31) (getD (drop at s) 1 0)
+    go (eqb b 0x10) (eqb b 0x30) (eqb b 0x31)
+
+send-not-free : (p : Piece) (v : ℕ) → Send v ≡ Free p → ⊥
+send-not-free p v e = let q : _≡_ {A = ℕ} 0 1 = cc in omega arith
+
+pub command-not-free : (p : Piece) (s : List ℕ) (at : ℕ) → commandAt s at ≡ Free p → ⊥
+unfolding commandAt headCommand pick
+command-not-free p s at =
+    elim (headSends (drop at s)) as (λ x. pick x (Send (getD (drop at s) 1 0)) (alone (getD (drop at s) 0 0)) ≡ Free p → ⊥) [ true ↦ send-not-free p _ | false ↦ alone-not-free p _ ]
+
+unfoldable pub Unfreed : List Command → Type 0
+Unfreed [] = Unit {0}
+Unfreed (c ∷ cs) = ((p : Piece) → c ≡ Free p → ⊥) × Unfreed cs
+
+pub commands-unfreed : (s : List ℕ) → Unfreed (commands s)
+unfolding commands Unfreed pick
+commands-unfreed [] = tt
+commands-unfreed (b ∷ []) = (λ p. alone-not-free p b, tt)
+commands-unfreed (b ∷ v ∷ s) =
+    elim (eqb b 0x20) as (λ x. Unfreed (pick x (Send v ∷ commands s) (alone b ∷ commands (v ∷ s)))) [
+      | true ↦ (λ p. send-not-free p v, commands-unfreed s)
+      | false ↦ (λ p. alone-not-free p b, commands-unfreed (v ∷ s))
+    ]
 
 pub next-after : (s : List ℕ) (at : ℕ) → at < length s → at < nextAt s at
 unfolding nextAt

@@ -77,7 +77,7 @@ leads start send read stop Start = start
 leads start send read stop (Send b) = send b
 leads start send read stop (Read level) = read level
 leads start send read stop Stop = stop
-leads start send read stop Free = Wrong
+leads start send read stop (Free p) = Wrong
 
 -- a walk over the commands: what each place lets follow
 unfoldable pub follows : Where → Command → Where
@@ -123,7 +123,7 @@ operand Start = 0
 operand (Send b) = b
 operand (Read level) = 0
 operand Stop = 0
-operand Free = 0
+operand (Free p) = 0
 
 -- the second command of a script sends the first address
 unfoldable pub firstAddress : List ℕ → ℕ

@@ -186,7 +186,7 @@ fn follows(w: Where, c: Command) -> Where
         Command::Send(a) => sent(w, a),
         Command::Read(level) => taken(w, level),
         Command::Stop => stopped(w),
-        Command::Free => Where::Wrong,
+        Command::Free(_) => Where::Wrong,
     }
 }
 
@@ -265,7 +265,7 @@ fn operand(c: Command) -> u8
         Command::Send(b) => b,
         Command::Read(_) => 0,
         Command::Stop => 0,
-        Command::Free => 0,
+        Command::Free(_) => 0,
     }
 }
 

@@ -30,9 +30,9 @@ pairs-spreads q port =
       requests = λ offset tries k e. pairs-then false _ k _ (transferred-pairs port (ReadByte EEPROM offset) (locked q) tries) e;
     }
 
-pub shows-spreads : {A : Type 0} (q : Sequence) (port : Port) → Spreads {A = A} q port (Showing port)
+pub shows-spreads : {A : Type 0} (q : Sequence) (port : Port) → Spreads {A = A} q port (Showing q port)
 shows-spreads q port =
-    record { ends = λ v. shows-ret port v; requests = λ offset tries k e. shows-then port (ReadByte EEPROM offset) q tries k e }
+    record { ends = λ v. shows-ret q port v; requests = λ offset tries k e. shows-then q port (ReadByte EEPROM offset) tries k e }
 
 module _ (q : Sequence) (port : Port) (P : Prog (R Identity) → Type 0) (s : Spreads q port P) where
   pick-holds : (b : Bool) (p r : Prog (R Identity)) → P p → P r → P (pick b p r)

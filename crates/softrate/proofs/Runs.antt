@@ -17,7 +17,7 @@ use Rattle.hardware.proofs.Laws.{asked-runs, StepsOn, is-true, opened-runs}
 use Rattle.hardware.proofs.Longest.{Falls, lasting-falls, Accepts, steps-few}
 use Rattle.hardware.proofs.Ends.{run-ends, ask-ends, ends-tally, ends-more, ends-bind, ret-ends}
 use Rattle.i2c.specs.declared.once.Request.the-variants.{ReadByte, WriteByte}
-use Rattle.i2c.specs.I2c.{standard, locked, attempts}
+use Rattle.i2c.specs.I2c.{locked, attempts}
 use Rattle.transfer.specs.declared.attempt.Sequence.{Sequence}
 use Rattle.bus.specs.Layout.{layoutOf}
 use Rattle.i2c.specs.Paired.{Paired}
@@ -42,10 +42,10 @@ use Rattle.softrate.specs.declared.spot.Place.{Place}
 use Rattle.softrate.specs.declared.spot.Place.the-variants.{Reading, Writing}
 use Rattle.softrate.specs.Spot.{requestAt, nextByte, onPlace, onAt}
 
-pub rate-runs : (family device lan : ℕ) (ten : Bool) (t : RateTold) → saidRate t ≡ openRate family device lan ten → (l : List Answer)
-    → runAsked (saidRate t) l ≡ andThen (openPort family device lan) (λ port. yes (counted (meterIn blank (softRateSelect standard port ten) l) (run (softRateSelect standard port ten) l)))
+pub rate-runs : (q : Sequence) (family device lan : ℕ) (ten : Bool) (t : RateTold) → saidRate t ≡ openRate q family device lan ten → (l : List Answer)
+    → runAsked (saidRate t) l ≡ andThen (openPort family device lan) (λ port. yes (counted (meterIn blank (softRateSelect q port ten) l) (run (softRateSelect q port ten) l)))
 unfolding openRate
-rate-runs family device lan ten t e l = ap (λ x. runAsked x l) e ∙ asked-runs (openPort family device lan) (λ port. softRateSelect standard port ten) l
+rate-runs q family device lan ten t e l = ap (λ x. runAsked x l) e ∙ asked-runs (openPort family device lan) (λ port. softRateSelect q port ten) l
 
 -- a long enough list of answers of the awaited kinds brings the call to its end
 pub rate-finishes : (q : Sequence) (port : Port) (ten : Bool) (l : List Answer) → RATE-STEPS (port .family) ≤ length l → Awaited (softRateSelect q port ten) l
@@ -70,9 +70,9 @@ pub rate-falls : Falls saidRate followsRate standsRate
 rate-falls = lasting-falls saidRate followsRate standsRate rate-on
 
 -- from the opening on, driven by steps that keep their promises
-pub rate-driven : (family device lan : ℕ) (ten : Bool) (t : RateTold) → Keeps (saidRate t ≡ openRate family device lan ten) (standsRate t) → (ks : List (Exchange RateTold)) → AllKept followsRate t ks
-    → AwaitedIn (openRate family device lan ten) (answersOf ks) → driven saidRate t ks ≡ andThen (openPort family device lan) (λ port. yes (counted (meterIn blank (softRateSelect standard port ten) (answersOf ks)) (run (softRateSelect standard port ten) (answersOf ks))))
-rate-driven family device lan ten t k ks kept w = opened-runs saidRate followsRate standsRate rate-on t ks k kept w ∙ rate-runs family device lan ten t (k .yields) (answersOf ks)
+pub rate-driven : (q : Sequence) (family device lan : ℕ) (ten : Bool) (t : RateTold) → Keeps (saidRate t ≡ openRate q family device lan ten) (standsRate t) → (ks : List (Exchange RateTold)) → AllKept followsRate t ks
+    → AwaitedIn (openRate q family device lan ten) (answersOf ks) → driven saidRate t ks ≡ andThen (openPort family device lan) (λ port. yes (counted (meterIn blank (softRateSelect q port ten) (answersOf ks)) (run (softRateSelect q port ten) (answersOf ks))))
+rate-driven q family device lan ten t k ks kept w = opened-runs saidRate followsRate standsRate rate-on t ks k kept w ∙ rate-runs q family device lan ten t (k .yields) (answersOf ks)
 
 not-pairs : (k : Bool → Prog (R Bool)) (f : ℕ → Prog (R Bool)) → ((b : Bool) → Pairs false (k b) (λ _. false)) → ((v : ℕ) → Pairs false (f v) (λ _. false))
     → (r : R ℕ) → Pairs false (orNot k f r) (λ _. false)
@@ -93,24 +93,24 @@ unfolding softRateSelect
 rate-paired q port ten l =
     pairs-paired _ l (rate-byte-pairs q port ten true 0x6e _ (λ ok. rate-byte-pairs q port ten ok 0x76 _ (λ both. pairs-ret false _)))
 
-not-shows : (port : Port) (k : Bool → Prog (R Bool)) (f : ℕ → Prog (R Bool)) → ((b : Bool) → Showing port (k b)) → ((v : ℕ) → Showing port (f v))
-    → (r : R ℕ) → Showing port (orNot k f r)
+not-shows : (q : Sequence) (port : Port) (k : Bool → Prog (R Bool)) (f : ℕ → Prog (R Bool)) → ((b : Bool) → Showing q port (k b)) → ((v : ℕ) → Showing q port (f v))
+    → (r : R ℕ) → Showing q port (orNot k f r)
 unfolding orNot
-not-shows port k f e g (Ok v) = g v
-not-shows port k f e g (Err error) = shows-either _ _ _ _ _ _ (λ _. e false) (λ _. shows-ret port _)
+not-shows q port k f e g (Ok v) = g v
+not-shows q port k f e g (Err error) = shows-either _ _ _ _ _ _ _ (λ _. e false) (λ _. shows-ret q port _)
 
-rate-byte-shows : (q : Sequence) (port : Port) (ten ok : Bool) (offset : ℕ) (k : Bool → Prog (R Bool)) → ((b : Bool) → Showing port (k b))
-    → Showing port (rateByte q port ten ok offset k)
+rate-byte-shows : (q : Sequence) (port : Port) (ten ok : Bool) (offset : ℕ) (k : Bool → Prog (R Bool)) → ((b : Bool) → Showing q port (k b))
+    → Showing q port (rateByte q port ten ok offset k)
 unfolding rateByte
 rate-byte-shows q port ten ok offset k e =
-    shows-then port (ReadByte DIAG offset) q _ _ (not-shows port k _ e (λ v.
-    shows-then port (WriteByte DIAG offset (selected ten v)) q 2 _ (not-shows port k _ e (λ _. e ok))))
+    shows-then q port (ReadByte DIAG offset) _ _ (not-shows q port k _ e (λ v.
+    shows-then q port (WriteByte DIAG offset (selected ten v)) 2 _ (not-shows q port k _ e (λ _. e ok))))
 
 -- the accesses of a run show the attempts that it begins, for every list of answers
-pub rate-shown : (q : Sequence) (port : Port) (ten : Bool) (l : List Answer) → Shown (layoutOf (port .family)) (softRateSelect q port ten) l
+pub rate-shown : (q : Sequence) (port : Port) (ten : Bool) (l : List Answer) → Shown q (layoutOf (port .family)) (softRateSelect q port ten) l
 unfolding softRateSelect
 rate-shown q port ten l =
-    shows-shown _ _ _ l (rate-byte-shows q port ten true 0x6e _ (λ ok. rate-byte-shows q port ten ok 0x76 _ (λ both. shows-ret port _)))
+    shows-shown _ _ _ _ l (rate-byte-shows q port ten true 0x6e _ (λ ok. rate-byte-shows q port ten ok 0x76 _ (λ both. shows-ret q port _)))
 
 -- the answers that may still be needed behind a byte, behind a request, and after the answer that is awaited
 abbrev pub nextAfter : Family → Bool → ℕ

@@ -10,7 +10,7 @@ use Rattle.hardware.specs.Asked.{Asked, yes, no, andThen, openPort, validPort, 
 use Rattle.hardware.specs.Numbers.{refusalNumber}
 use Rattle.hardware.specs.Prog.{Prog, ret, ask, R, Counted, blank, tally, pick}
 use Rattle.hardware.specs.Registers.{flag}
-use Rattle.i2c.specs.I2c.{standard}
+use Rattle.transfer.specs.declared.attempt.Sequence.{Sequence}
 use Rattle.sfp.specs.Rate.{softRateSelect}
 use Rattle.softrate.specs.declared.walk.Rate.{Rate}
 use Rattle.softrate.specs.declared.calls.RateCall.{RateCall}
@@ -21,8 +21,8 @@ use Rattle.softrate.specs.Walk.{accessRate, restRate, validRate}
 use Rattle.hardware.specs.Promise.{Keeps}
 
 -- 1 and 2
-unfoldable pub openRate : ℕ → ℕ → ℕ → Bool → Asked (Prog (Counted (R Bool)))
-openRate family device lan ten = andThen (openPort family device lan) (λ port. yes (tally blank (softRateSelect standard port ten)))
+unfoldable pub openRate : Sequence → ℕ → ℕ → ℕ → Bool → Asked (Prog (Counted (R Bool)))
+openRate q family device lan ten = andThen (openPort family device lan) (λ port. yes (tally blank (softRateSelect q port ten)))
 
 unfoldable pub validCall : Port → Bool → Meter → Rate → Bool
 validCall port ten m s = pick (validPort port) (validRate port ten m s) false

@@ -50,11 +50,10 @@ fn told(port: Port, q: Sequence, ten: bool, m: Meter, n: RateNext) -> RateTold
     }
 }
 
-// The call from its first byte on, where no sequence is named.
-fn opened(port: Port, ten: bool) -> RateTold
-    ensures { λ t. ⌜ Keeps (saidRate t ≡ yes (tally blank (softRateSelect standard port ten))) (validPort port ≡ true → standsRate t) ⌝ }
+// The call from its first byte on.
+fn opened(port: Port, q: Sequence, ten: bool) -> RateTold
+    ensures { λ t. ⌜ Keeps (saidRate t ≡ yes (tally blank (softRateSelect q port ten))) (validPort port ≡ true → standsRate t) ⌝ }
 {
-    let q = i2c::standard();
     let first = Spot {
         second: false,
         ok: true,
@@ -63,14 +62,27 @@ fn opened(port: Port, ten: bool) -> RateTold
     told(port, q, ten, BLANK, crate::walk::begin(port, q, ten, first))
 }
 
-// Questions 1 and 2. ten: 10G is selected, else 1G.
-pub fn soft_rate_select_open(family: u32, device: u16, lan: u32, ten: bool) -> RateTold
-    ensures { λ t. ⌜ Keeps (saidRate t ≡ openRate family device lan ten) (standsRate t) ⌝ }
+// Questions 1 and 2. ten: 10G is selected, else 1G. sequence: the clearing after a failed attempt, by its name.
+pub fn soft_rate_select_open_with(
+    family: u32,
+    device: u16,
+    lan: u32,
+    ten: bool,
+    sequence: Sequence,
+) -> RateTold
+    ensures { λ t. ⌜ Keeps (saidRate t ≡ openRate sequence family device lan ten) (standsRate t) ⌝ }
 {
     match hardware::open_port(family, device, lan) {
-        Opening::Port(p) => opened(p, ten),
+        Opening::Port(p) => opened(p, sequence, ten),
         Opening::Refused(q) => RateTold::Refused(q),
     }
+}
+
+// With the default sequence.
+pub fn soft_rate_select_open(family: u32, device: u16, lan: u32, ten: bool) -> RateTold
+    ensures { λ t. ⌜ Keeps (saidRate t ≡ openRate standard family device lan ten) (standsRate t) ⌝ }
+{
+    soft_rate_select_open_with(family, device, lan, ten, i2c::standard())
 }
 
 fn valid(port: Port, ten: bool, m: Meter, t: Rate) -> bool

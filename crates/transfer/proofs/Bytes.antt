@@ -17,15 +17,17 @@ use Rattle.bus.specs.declared.Layout.{Layout}
 use Rattle.bus.specs.declared.Taken.{Taken}
 use Rattle.bus.specs.declared.command.Command.{Command}
 use Rattle.bus.specs.declared.command.Command.the-variants.{Start, Send, Read, Stop, Free}
-use Rattle.bus.specs.Bus.{Held, Bus, none, isI2c, look, get, put, sda, releaseSda, start, stop, send, outBit, outBits, inBit, inBits, inByte, bitOf}
+use Rattle.bus.specs.declared.command.Piece.the-variants.{Pulses as PulsesPiece, Probe, Lower, Pull}
+use Rattle.bus.specs.Command.{freed}
+use Rattle.bus.specs.Bus.{Held, Bus, none, isI2c, look, get, put, sda, releaseSda, start, stop, send, outBit, outBits, inBit, inBits, inByte, bitOf, sclLow}
 use Rattle.bus.specs.Layout.{layoutOf}
-use Rattle.bus.proofs.Spreads.{Spreads, Throughout, clear-holds}
+use Rattle.bus.proofs.Spreads.{Spreads, Throughout, clear-holds, clear-rounds-holds}
 use Rattle.script.specs.Grammar.{Script, lastPhrase, phrase}
 use Rattle.script.specs.Script.{commands, device, judged}
 use Rattle.script.proofs.Grammar.{accepts-script, script-begins}
 use Rattle.script.proofs.Laws.{accepted}
 use Rattle.transfer.specs.declared.attempt.Sequence.{Sequence}
-use Rattle.transfer.specs.declared.attempt.Sequence.the-variants.{Pulses}
+use Rattle.transfer.specs.declared.attempt.Sequence.the-variants.{Pulses, Rounds}
 use Rattle.transfer.specs.declared.calls.ScriptTold.{ScriptTold}
 use Rattle.transfer.specs.Transfer.{handing, tells, did, isRead, tookBy, handed, transfer}
 use Rattle.transfer.specs.Attempt.{clearing, orCleared, cleared, orTried, tried, begun, attempting, attempt}
@@ -42,12 +44,15 @@ sda-tells l true k b ctl = refl
 sda-tells l false k b ctl = refl
 
 command-tells : (l : Layout) (device : ℕ) (c : Command) (k : ℕ → Bus) (b ctl : ℕ) → tells handing b (did l device c k ctl) ≡ give b (did l device c k ctl)
-unfolding tells did start look get stop send outBits outBit inByte inBits inBit releaseSda put
+unfolding tells did freed start look get stop send outBits outBit inByte inBits inBit releaseSda sclLow put
 command-tells l device Start k b ctl = refl
 command-tells l device (Send value) k b ctl = sda-tells l (bitOf value 7) _ b ctl
 command-tells l device (Read high) k b ctl = refl
 command-tells l device Stop k b ctl = sda-tells l false _ b ctl
-command-tells l device Free k b ctl = refl
+command-tells l device (Free PulsesPiece) k b ctl = refl
+command-tells l device (Free Probe) k b ctl = refl
+command-tells l device (Free Lower) k b ctl = refl
+command-tells l device (Free Pull) k b ctl = sda-tells l false _ b ctl
 
 -- a command follows each read
 Followed : List Command → Type 0
@@ -161,6 +166,9 @@ clearing-counts : (q : Sequence) (l : Layout) → Throughout Giveless (clearing 
 unfolding clearing Gives
 clearing-counts Pulses l =
     clear-holds Giveless (record { asked = λ x f g n a. g a n; failed = λ e ctl n. absurd }) (λ t ctl n. absurd)
+    (λ p k g d n. gives-bind (λ h. ⊥) (λ h. ⊥) p k n (g n) (λ h m z. d h m)) l
+clearing-counts Rounds l =
+    clear-rounds-holds Giveless (record { asked = λ x f g n a. g a n; failed = λ e ctl n. absurd }) (λ t ctl n. absurd)
     (λ p k g d n. gives-bind (λ h. ⊥) (λ h. ⊥) p k n (g n) (λ h m z. d h m)) l
 
 cleared-counts : (device : ℕ) (r : R Taken) (n : ℕ) → Gives Well (orCleared device r) n

@@ -5,21 +5,23 @@ use mathlib.Core.Path.{_≡_, refl}
 use mathlib.Core.List.{List, [], _∷_}
 use lib.ListN.{length, drop, length-drop}
 use native.Mathlib.Omega.{arith}
-use Rattle.hardware.specs.Prog.{Prog, ret, ask, note, give, R, Ok, Err}
+use Rattle.hardware.specs.Prog.{Prog, ret, ask, note, give, R, Ok, Err, pick}
 use Rattle.hardware.specs.Runs.{Ends}
 use Rattle.hardware.proofs.Ends.{ends-more, ends-bind, ends-try, ends-pick, ret-ends, note-ends, readRaw-ends, ends-or}
 use Rattle.bus.specs.declared.Layout.{Layout}
 use Rattle.bus.specs.declared.Taken.{Taken}
 use Rattle.bus.specs.declared.command.Command.{Command}
 use Rattle.bus.specs.declared.command.Command.the-variants.{Start, Send, Read, Stop, Free}
-use Rattle.bus.specs.Bus.{Bus, none}
-use Rattle.bus.specs.Steps.{SEND-STEPS, CLEAR-STEPS}
-use Rattle.bus.proofs.Ends.{EndsBus, bus-more, done-ends, start-ends, send-ends, in-byte-ends, out-bit-ends, stop-ends, free-ends, clear-ends, jobAfter, clearAfter, job-rest-ends, clear-rest-ends}
+use Rattle.hardware.specs.Failures.{I2c}
+use Rattle.bus.specs.Bus.{Bus, none, fail, look, sda, sdaSeen}
+use Rattle.bus.specs.Steps.{GET-STEPS, SDA-STEPS, SEND-STEPS, CLEAR-STEPS, CLEAR-ROUNDS-STEPS}
+use Rattle.bus.proofs.Ends.{EndsBus, bus-more, done-ends, fail-ends, look-ends, sda-ends, start-ends, send-ends, in-byte-ends, out-bit-ends, stop-ends, free-ends, clear-ends, clear-rounds-ends, jobAfter, clearAfter, job-rest-ends, clear-rest-ends}
 use Rattle.transfer.specs.declared.attempt.Sequence.{Sequence}
-use Rattle.transfer.specs.declared.attempt.Sequence.the-variants.{Pulses}
+use Rattle.transfer.specs.declared.attempt.Sequence.the-variants.{Pulses, Rounds}
 use Rattle.transfer.specs.Transfer.{Mode, handing, keeping, tells, did, tookBy, handed, transfer, ranOn, restTransfer}
 use Rattle.transfer.specs.Attempt.{clearing, orCleared, cleared, orTried, tried, begun, attempting, attempt, restAttempt}
 use mathlib.Core.Bool.{Bool, true, false}
+use Rattle.hardware.specs.Registers.{noneOf}
 use lib.Dec.{ltb}
 use borrow.Author.Tests.{ltb-true, ltb-false}
 use Rattle.hardware.specs.declared.Answer.{Answer}
@@ -32,6 +34,11 @@ use Rattle.transfer.specs.declared.attempt.Attempt.the-variants.{New, Mo
 -- the longest command sends a byte
 abbrev pub COMMAND-STEPS : ℕ
 COMMAND-STEPS = SEND-STEPS
+
+-- a clearing sequence
+abbrev pub CLEARING-STEPS : Sequence → ℕ
+CLEARING-STEPS Pulses = CLEAR-STEPS
+CLEARING-STEPS Rounds = CLEAR-ROUNDS-STEPS
 
 -- I2CCTL read, n accesses on the bus, and the clearing after a failure
 abbrev pub ATTEMPT-STEPS : ℕ → ℕ
@@ -60,7 +67,7 @@ command-ends l device (Send value) k n e = send-ends l device value (k 0) n (e 0
 command-ends l device (Read high) k n e =
     bus-more _ _ (COMMAND-STEPS + n) (in-byte-ends l _ _ (λ value. out-bit-ends l high (k value) n (e value))) (omega arith)
 command-ends l device Stop k n e = bus-more _ _ (COMMAND-STEPS + n) (stop-ends l (k 0) n (e 0)) (omega arith)
-command-ends l device Free k n e = bus-more _ _ (COMMAND-STEPS + n) (free-ends l (k 0) n (e 0)) (omega arith)
+command-ends l device (Free p) k n e = bus-more _ _ (COMMAND-STEPS + n) (free-ends l p k n e) (omega arith)
 
 handed-ends : (m : Mode) (c : Command) (b : ℕ) (k : Bus) (n : ℕ) → EndsBus k n → EndsBus (handed m c b k) n
 unfolding handed
@@ -74,32 +81,56 @@ transfer-ends m l device (c ∷ cs) t =
     (command-ends l device c _ (COMMAND-STEPS * length cs) (λ b. handed-ends m c b _ _ (transfer-ends m l device cs (tookBy c t b))))
     (omega arith)
 
-pub clearing-ends : (q : Sequence) (l : Layout) → EndsBus (clearing q l) CLEAR-STEPS
+pub clearing-ends : (q : Sequence) (l : Layout) → EndsBus (clearing q l) (CLEARING-STEPS q)
 unfolding clearing
 clearing-ends Pulses l = clear-ends l
+clearing-ends Rounds l = clear-rounds-ends l
+
+-- no sequence takes more than that of the Rust
+pub clearing-most : (q : Sequence) → CLEARING-STEPS q ≤ CLEAR-STEPS
+clearing-most Pulses = omega arith
+clearing-most Rounds = omega arith
 
 or-cleared-ends : (device : ℕ) (r : R Taken) → Ends (orCleared device r) 0
 unfolding orCleared
 or-cleared-ends device (Ok t) = ret-ends _ 0
 or-cleared-ends device (Err e) = ret-ends _ 0
 
-or-tried-ends : (q : Sequence) (l : Layout) (device ctl : ℕ) (r : R Taken) → Ends (orTried q l device ctl r) CLEAR-STEPS
+or-tried-ends : (q : Sequence) (l : Layout) (device ctl : ℕ) (r : R Taken) → Ends (orTried q l device ctl r) (CLEARING-STEPS q)
 unfolding orTried cleared
-or-tried-ends q l device ctl (Ok t) = ret-ends _ CLEAR-STEPS
+or-tried-ends q l device ctl (Ok t) = ret-ends _ (CLEARING-STEPS q)
 or-tried-ends q l device ctl (Err e) =
-    ends-pick _ _ _ CLEAR-STEPS (ends-bind _ _ CLEAR-STEPS 0 (clearing-ends q l ctl) (λ h. or-cleared-ends device (h .out))) (ret-ends _ CLEAR-STEPS)
+    let n : ℕ = CLEARING-STEPS q in
+    ends-pick _ _ _ n (ends-more _ (n + 0) n (ends-bind _ _ n 0 (clearing-ends q l ctl) (λ h. or-cleared-ends device (h .out))) (omega arith)) (ret-ends _ n)
 
 -- n: the accesses of what the attempt does on the bus
-begun-ends : (q : Sequence) (l : Layout) (device : ℕ) (f : Bus) (n : ℕ) → EndsBus f n → (ctl : ℕ) → Ends (begun q l device f ctl) (n + CLEAR-STEPS)
+begun-ends : (q : Sequence) (l : Layout) (device : ℕ) (f : Bus) (n : ℕ) → EndsBus f n → (ctl : ℕ) → Ends (begun q l device f ctl) (n + CLEARING-STEPS q)
 unfolding begun tried
-begun-ends q l device f n e ctl = ends-bind _ _ n CLEAR-STEPS (e ctl) (λ h. or-tried-ends q l device (h .ctl) (h .out))
+begun-ends q l device f n e ctl = ends-bind _ _ n (CLEARING-STEPS q) (e ctl) (λ h. or-tried-ends q l device (h .ctl) (h .out))
 
-pub attempt-ends : (q : Sequence) (l : Layout) (device : ℕ) (f : Bus) (n : ℕ) → EndsBus f n → Ends (attempt q l device f) (ATTEMPT-STEPS n)
+pub attempt-ends-by : (q : Sequence) (l : Layout) (device : ℕ) (f : Bus) (n : ℕ) → EndsBus f n → Ends (attempt q l device f) (1 + n + CLEARING-STEPS q)
 unfolding attempt attempting
-attempt-ends q l device f n e =
-    ends-more _ (1 + (n + CLEAR-STEPS)) (ATTEMPT-STEPS n)
-    (note-ends _ _ _ (ends-try _ _ 1 (n + CLEAR-STEPS) (readRaw-ends _) (begun-ends q l device f n e)))
+attempt-ends-by q l device f n e =
+    ends-more _ (1 + (n + CLEARING-STEPS q)) (1 + n + CLEARING-STEPS q)
+    (note-ends _ _ _ (ends-try _ _ 1 (n + CLEARING-STEPS q) (readRaw-ends _) (begun-ends q l device f n e)))
     (omega arith)
+
+-- with either sequence
+pub attempt-ends : (q : Sequence) (l : Layout) (device : ℕ) (f : Bus) (n : ℕ) → EndsBus f n → Ends (attempt q l device f) (ATTEMPT-STEPS n)
+attempt-ends q l device f n e = ends-more _ (1 + n + CLEARING-STEPS q) (ATTEMPT-STEPS n) (attempt-ends-by q l device f n e) (omega (arith, clearing-most q))
+
+-- where SDA is seen low, what was to come after the look plays no part
+pub low-look : (l : Layout) (k : Bus) (v : ℕ) → noneOf v (l .sdain) ≡ true → sdaSeen l k v ≡ sdaSeen l (fail (I2c 0)) v
+unfolding sdaSeen pick
+low-look l k v e = rw e
+
+-- so an attempt that fails at its first look is one whose start ends there
+pub first-look-ends : (q : Sequence) (l : Layout) (device : ℕ) → Ends (attempt q l device (look l (sda l true (fail (I2c 0))))) (1 + (GET-STEPS + SDA-STEPS) + CLEARING-STEPS q)
+first-look-ends q l device =
+    attempt-ends-by q l device _ (GET-STEPS + SDA-STEPS) (bus-more _ _ (GET-STEPS + SDA-STEPS) (look-ends l _ _ (sda-ends l true _ 0 (fail-ends _ 0))) (omega arith))
+
+pub first-look-steps : (1 + (GET-STEPS + SDA-STEPS) + CLEARING-STEPS Pulses ≡ 24101) × (1 + (GET-STEPS + SDA-STEPS) + CLEARING-STEPS Rounds ≡ 22088)
+first-look-steps = (refl, refl)
 
 -- an attempt at a list of commands
 pub commands-ends : (m : Mode) (q : Sequence) (l : Layout) (device : ℕ) (cs : List Command) (t : Taken)
@@ -137,8 +168,10 @@ pub attempt-rest-ends : (m : Mode) (q : Sequence) (l : Layout) (device : ℕ) (s
     → Ends (restAttempt m q l device s t a) (attemptAfter t)
 unfolding restAttempt tried cleared
 attempt-rest-ends m q l device s New a h =
-    ends-or _ _ (COMMAND-STEPS * 64 + CLEAR-STEPS) (begun-ends q l device _ (COMMAND-STEPS * 64) (bus-more _ _ (COMMAND-STEPS * 64) (transfer-ends m l device (commands s) none) (omega (arith, commands-length s, h))))
+    ends-or _ _ (COMMAND-STEPS * 64 + CLEAR-STEPS) (λ ctl. ends-more _ (COMMAND-STEPS * 64 + CLEARING-STEPS q) (COMMAND-STEPS * 64 + CLEAR-STEPS)
+    (begun-ends q l device _ (COMMAND-STEPS * 64) (bus-more _ _ (COMMAND-STEPS * 64) (transfer-ends m l device (commands s) none) (omega (arith, commands-length s, h))) ctl) (omega (arith, clearing-most q)))
 attempt-rest-ends m q l device s (Moving t) a h =
-    ends-bind _ _ (transferAfter t) CLEAR-STEPS (transfer-rest-ends m l device s t a h) (λ r. or-tried-ends q l device (r .ctl) (r .out))
+    ends-more _ (transferAfter t + CLEARING-STEPS q) (transferAfter t + CLEAR-STEPS)
+    (ends-bind _ _ (transferAfter t) (CLEARING-STEPS q) (transfer-rest-ends m l device s t a h) (λ r. or-tried-ends q l device (r .ctl) (r .out))) (omega (arith, clearing-most q))
 attempt-rest-ends m q l device s (Clearing c) a h =
     ends-more _ (clearAfter c + 0) (clearAfter c) (ends-bind _ _ (clearAfter c) 0 (clear-rest-ends l c a) (λ r. or-cleared-ends device (r .out))) (omega arith)

@@ -21,7 +21,7 @@ use Rattle.bus.specs.declared.Layout.{Layout}
 use Rattle.bus.specs.declared.Taken.{Taken}
 use Rattle.bus.specs.declared.command.Command.{Command}
 use Rattle.bus.specs.declared.command.Command.the-variants.{Start, Send, Read, Stop, Free}
-use Rattle.bus.specs.Bus.{Held, Bus, clear}
+use Rattle.bus.specs.Bus.{Held, Bus}
 use Rattle.bus.specs.Command.{commanded}
 use Rattle.bus.specs.Layout.{layoutOf}
 use Rattle.bus.proofs.Commands.{job-start, job-send, job-read, job-stop, job-free}
@@ -30,7 +30,6 @@ use Rattle.script.specs.declared.cursor.Judged.{Judged}
 use Rattle.script.specs.declared.cursor.Judged.the-variants.{Accepted, Refused}
 use Rattle.script.specs.Script.{commands, commandAt, nextAt, judged, judgedAs, device}
 use Rattle.script.proofs.Laws.{commands-at}
-use Rattle.transfer.specs.declared.attempt.Sequence.{Sequence}
 use Rattle.transfer.specs.declared.attempt.Sequence.the-variants.{Pulses}
 use Rattle.transfer.specs.declared.attempt.Attempt.{Attempt}
 use Rattle.transfer.specs.declared.attempt.Attempt.the-variants.{New}
@@ -38,7 +37,7 @@ use Rattle.transfer.specs.declared.attempt.AttemptNext.{AttemptNext}
 use Rattle.transfer.specs.declared.attempt.AttemptNext.the-variants.{Going}
 use Rattle.transfer.specs.declared.transfer.TransferNext.the-variants.{End}
 use Rattle.transfer.specs.Transfer.{Mode, handing, keeping, tells, did, isRead, tookBy, handed, transfer, ranOn, transferNext}
-use Rattle.transfer.specs.Attempt.{clearing, attempting, attempt, accessAttempt, restAttempt, awaiting, attemptNext}
+use Rattle.transfer.specs.Attempt.{attempting, attempt, accessAttempt, restAttempt, awaiting, attemptNext}
 use Rattle.transfer.specs.Calls.{dropped, single, script, restScript, judgedThen}
 
 pub tells-stays : {A : Type 0} (b : ℕ) (n : Note) (p : Prog A) → stays n (tells handing b p) ≡ tells handing b (stays n p)
@@ -64,7 +63,7 @@ job-did l device Start k = job-start l device k
 job-did l device (Send value) k = job-send l device value k
 job-did l device (Read high) k = job-read l device high k
 job-did l device Stop k = job-stop l device k
-job-did l device Free k = job-free l device k
+job-did l device (Free p) k = job-free l device p k
 
 -- what spreads holds of a command wherever it holds of what comes after it
 pub did-holds : (P : Prog Held → Type 0) → Spreads P → (l : Layout) (device : ℕ) (c : Command) (k : ℕ → Bus) → ((b : ℕ) → Throughout P (k b))
@@ -74,7 +73,7 @@ did-holds P s l device Start k e = start-holds P s l (k 0) (e 0)
 did-holds P s l device (Send value) k e = send-holds P s l device value (k 0) (e 0)
 did-holds P s l device (Read high) k e = in-byte-holds P s l _ (λ value. out-bit-holds P s l high (k value) (e value))
 did-holds P s l device Stop k e = stop-holds P s l (k 0) (e 0)
-did-holds P s l device Free k e = free-holds P s l (k 0) (e 0)
+did-holds P s l device (Free p) k e = free-holds P s l p k e
 
 -- a position on the script: its command comes, and then the rest
 pub transfer-at : (m : Mode) (l : Layout) (device : ℕ) (s : List ℕ) (at : ℕ) (t : Taken) (ctl : ℕ) → at < length s
@@ -111,10 +110,6 @@ pub told-on : {A B : Type 0} (m : Mode) (b : ℕ) (x : Access) (p : Answer → P
 unfolding tells followed _>>=_
 told-on keeping b x p k = going x p k
 told-on handing b x p k = ap (give b) (going x p k)
-
-pub only : (q : Sequence) (l : Layout) → clear l ≡ clearing q l
-unfolding clearing
-only Pulses l = refl
 
 -- a script that is accepted or refused
 

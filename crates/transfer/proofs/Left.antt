@@ -20,7 +20,7 @@ use Rattle.transfer.specs.declared.attempt.Attempt.{Attempt}
 use Rattle.transfer.specs.declared.attempt.Attempt.the-variants.{New, Moving, Clearing}
 use Rattle.transfer.specs.Attempt.{clearing}
 use Rattle.transfer.specs.Left.{behind, COMMANDS-STEPS, transferLeft, attemptLeft}
-use Rattle.transfer.proofs.Ends.{clearing-ends, next-beyond}
+use Rattle.transfer.proofs.Ends.{CLEARING-STEPS, clearing-ends, clearing-most, next-beyond}
 
 pub accepted-length : (s : List ℕ) → judged s ≡ 0 → length s ≤ 64
 accepted-length s h = fits-length s (accepted s h .0) .1
@@ -30,7 +30,7 @@ pub next-behind : (s : List ℕ) (at : ℕ) → length s ≤ 64 → nextAt s at 
 next-behind s at h l = omega (arith, next-after s at (omega (arith, next-beyond s at, l)), h, l)
 
 pub clear-opens : (q : Sequence) (l : Layout) (ctl : ℕ) (r : ClearNext) → clearNext l r ≡ erase (clearing q l ctl) → longest (clearNext l r) ≤ CLEAR-STEPS
-clear-opens q l ctl r e = longest-opened _ CLEAR-STEPS e (clearing-ends q l ctl)
+clear-opens q l ctl r e = omega (arith, longest-opened _ (CLEARING-STEPS q) e (clearing-ends q l ctl), clearing-most q)
 
 -- a state that awaits an answer has an access left
 pub attempt-some : (l : Layout) (t : Attempt) → 0 < attemptLeft l t

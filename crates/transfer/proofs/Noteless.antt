@@ -7,9 +7,9 @@ use Rattle.bus.specs.declared.Layout.{Layout}
 use Rattle.bus.specs.declared.Taken.{Taken}
 use Rattle.bus.specs.declared.command.Command.{Command}
 use Rattle.bus.specs.Bus.{Bus}
-use Rattle.bus.proofs.Noteless.{Noteless, NotelessBus, ret-noteless, bind-noteless, pick-noteless, noteless-spreads, done-noteless, clear-noteless}
+use Rattle.bus.proofs.Noteless.{Noteless, NotelessBus, ret-noteless, bind-noteless, pick-noteless, noteless-spreads, done-noteless, clear-noteless, clear-rounds-noteless}
 use Rattle.transfer.specs.declared.attempt.Sequence.{Sequence}
-use Rattle.transfer.specs.declared.attempt.Sequence.the-variants.{Pulses}
+use Rattle.transfer.specs.declared.attempt.Sequence.the-variants.{Pulses, Rounds}
 use Rattle.transfer.specs.Transfer.{Mode, handing, keeping, tells, tookBy, handed, transfer}
 use Rattle.transfer.specs.Attempt.{clearing, orCleared, cleared, orTried, tried, begun, attempting}
 use Rattle.transfer.proofs.Laws.{did-holds}
@@ -35,6 +35,7 @@ transfer-noteless m l device (c ∷ cs) t =
 clearing-noteless : (q : Sequence) (l : Layout) → NotelessBus (clearing q l)
 unfolding clearing
 clearing-noteless Pulses l = clear-noteless l
+clearing-noteless Rounds l = clear-rounds-noteless l
 
 or-cleared-noteless : (device : ℕ) (r : R Taken) → Noteless (orCleared device r)
 unfolding orCleared

@@ -10,11 +10,11 @@ use Rattle.hardware.specs.Prog.{Prog, ret, ask, note, Attempt as Begins, erase,
 use Rattle.hardware.specs.Registers.{readRaw, raw}
 use Rattle.bus.specs.declared.Layout.{Layout}
 use Rattle.bus.specs.declared.Taken.{Taken}
-use Rattle.bus.specs.Bus.{Held, Bus, none, isI2c, clear}
+use Rattle.bus.specs.Bus.{Held, Bus, none, isI2c, clear, clearRounds}
 use Rattle.bus.specs.Clear.{accessClear, restClear, validClear}
 use Rattle.script.specs.Script.{commands}
 use Rattle.transfer.specs.declared.attempt.Sequence.{Sequence}
-use Rattle.transfer.specs.declared.attempt.Sequence.the-variants.{Pulses}
+use Rattle.transfer.specs.declared.attempt.Sequence.the-variants.{Pulses, Rounds}
 use Rattle.transfer.specs.declared.attempt.Attempt.{Attempt}
 use Rattle.transfer.specs.declared.attempt.Attempt.the-variants.{New, Moving, Clearing}
 use Rattle.transfer.specs.declared.attempt.Got.{Got}
@@ -25,6 +25,7 @@ use Rattle.transfer.specs.Transfer.{Mode, tells, transfer, accessTransfe
 
 unfoldable pub clearing : Sequence → Layout → Bus
 clearing Pulses l = clear l
+clearing Rounds l = clearRounds l
 
 unfoldable pub orI2c : ℕ → Failure → Failure
 orI2c device e = pick (isI2c e) (I2c device) e

@@ -13,8 +13,8 @@ use Rattle.bus.specs.declared.Layout.{Layout}
 use Rattle.bus.specs.declared.Taken.{Taken}
 use Rattle.bus.specs.declared.command.Command.{Command}
 use Rattle.bus.specs.declared.command.Command.the-variants.{Start, Send, Read, Stop, Free}
-use Rattle.bus.specs.Bus.{Held, Bus, done, fail, took, start, stop, send, inByte, outBit, releaseSda, pulses}
-use Rattle.bus.specs.Command.{accessJob, restJob, validJob}
+use Rattle.bus.specs.Bus.{Held, Bus, done, fail, took, start, stop, send, inByte, outBit}
+use Rattle.bus.specs.Command.{freed, accessJob, restJob, validJob}
 use Rattle.script.specs.Script.{commands, commandAt, nextAt, onCommand}
 use Rattle.transfer.specs.declared.transfer.Transfer.{Transfer}
 use Rattle.transfer.specs.declared.transfer.TransferNext.{TransferNext}
@@ -38,14 +38,14 @@ did l device Start k = start l (k 0)
 did l device (Send value) k = send l device value (k 0)
 did l device (Read high) k = inByte l (λ value. outBit l high (k value))
 did l device Stop k = stop l (k 0)
-did l device Free k = releaseSda l (pulses l 9 (k 0))
+did l device (Free p) k = freed l p k
 
 unfoldable pub isRead : Command → Bool
 isRead Start = false
 isRead (Send value) = false
 isRead (Read high) = true
 isRead Stop = false
-isRead Free = false
+isRead (Free p) = false
 
 unfoldable pub tookBy : Command → Taken → ℕ → Taken
 tookBy c t b = pick (isRead c) (took t b) t

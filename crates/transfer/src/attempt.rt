@@ -29,9 +29,11 @@ ghost use Rattle.transfer.specs.Transfer.{Mode, transfer, transferNext, 
 ghost use Rattle.transfer.specs.Attempt.{clearing, orI2c, cleared, orTried, tried, begun, accessAttempt, restAttempt, attemptNext, validAttempt, validAttemptNext};
 ghost use Rattle.transfer.specs.Left.{COMMANDS-STEPS, transferNextLeft, attemptLeft, attemptNextLeft};
 
-// The clearing sequences by name. Pulses: that of the Rust, nine pulses of SCL between two starts.
+// The clearing sequences by name. Pulses: that of the Rust, nine pulses of SCL between two starts, and a stop. Rounds: up to
+// ten rounds until SDA is read high; then SDA is pulled while SCL is high, SCL lowered, and a stop.
 pub enum Sequence {
     Pulses,
+    Rounds,
 }
 
 // New: the read of I2CCTL with which an attempt begins.
@@ -59,6 +61,7 @@ fn clear(q: Sequence, l: Layout, ctl: u32) -> ClearNext
 {
     match q {
         Sequence::Pulses => bus::clear::open(l, ctl),
+        Sequence::Rounds => bus::rounds::open(l, ctl),
     }
 }
 

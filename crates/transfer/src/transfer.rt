@@ -45,7 +45,7 @@ fn is_read(c: Command) -> bool
         Command::Send(_) => false,
         Command::Read(_) => true,
         Command::Stop => false,
-        Command::Free => false,
+        Command::Free(_) => false,
     }
 }
 

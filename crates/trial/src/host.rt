@@ -5,6 +5,7 @@ use hardware::Answer;
 use hardware::Port;
 use hardware::Word;
 use i2c::calls::TransferTold;
+use transfer::attempt::Sequence;
 ghost use mathlib.Core.Path.{_≡_};
 ghost use Rattle.hardware.specs.Prog.{pick};
 ghost use Rattle.bus.specs.Layout.{layoutOf};
@@ -82,13 +83,13 @@ fn run(port: Port, d: BenchState, first: TransferTold) -> Outcome {
     unended(state)
 }
 
-// `read_byte` of A0 under the lock, with the family's attempts; `number` is the port's family.
-pub(crate) fn read(number: u32, port: Port, d: BenchState) -> Outcome {
+// `read_byte` of A0 under the lock, with the family's attempts and a clearing sequence; `number` is the port's family.
+pub(crate) fn read(number: u32, port: Port, q: Sequence, d: BenchState) -> Outcome {
     let attempts = i2c::attempts(port);
     let lan = port.lan as u32;
     run(
         port,
         d,
-        i2c::calls::read_byte_open(number, port.device, lan, 0xa0, OFFSET, attempts, true),
+        i2c::calls::read_byte_open_with(number, port.device, lan, 0xa0, OFFSET, attempts, true, q),
     )
 }

@@ -8,6 +8,7 @@ use bench::register::BenchState;
 use hardware::Error;
 use hardware::Port;
 use hardware::Word;
+use transfer::attempt::Sequence;
 
 const STDOUT: i32 = 1;
 
@@ -95,10 +96,10 @@ fn module(port: Port, before: BenchState, after: BenchState) {
     either(bench::same(b, a), b" same", b" changed");
 }
 
-fn cell(number: u32, port: Port, row: Row, column: u8) {
+fn cell(number: u32, port: Port, q: Sequence, row: Row, column: u8) {
     let family = port.family;
     let before = start::state(family, row, column);
-    let outcome = host::read(number, port, before);
+    let outcome = host::read(number, port, q, before);
     let after = outcome.state;
     text(b" | ");
     result(outcome);
@@ -116,13 +117,13 @@ fn label(port: Port, row: Row) {
     either(bench::pulls_low(bench), b" pulls", b"      ");
 }
 
-pub(crate) fn line(number: u32, port: Port, n: u8) {
+pub(crate) fn line(number: u32, port: Port, q: Sequence, n: u8) {
     let row = start::row_at(n);
     label(port, row);
-    cell(number, port, row, 0);
-    cell(number, port, row, 1);
-    cell(number, port, row, 2);
-    cell(number, port, row, 3);
+    cell(number, port, q, row, 0);
+    cell(number, port, q, row, 1);
+    cell(number, port, q, row, 2);
+    cell(number, port, q, row, 3);
     text(b"\n");
 }
 
@@ -142,11 +143,20 @@ pub(crate) fn words(port: Port) {
     text(b"\n");
 }
 
-pub(crate) fn title(name: &[u8], port: Port) {
+fn sequence(q: Sequence) {
+    match q {
+        Sequence::Pulses => text(b"pulses"),
+        Sequence::Rounds => text(b"rounds"),
+    }
+}
+
+pub(crate) fn title(name: &[u8], port: Port, q: Sequence) {
     text(name);
     text(b": byte ");
     io::print_hex(STDOUT, host::OFFSET as u64, 2);
     text(b" of A0, ");
     io::print_decimal(STDOUT, i2c::attempts(port) as u64);
-    text(b" attempts\n");
+    text(b" attempts, cleared by ");
+    sequence(q);
+    text(b"\n");
 }

@@ -104,10 +104,15 @@ module _ (l : Layout) (g : Distinct l) (o : Side) (scl-free : (s : o .State) →
   no-ack {a} {s} left k e h =
       Lines.sda-released l g o (moved (turn-low o s a false) (up (Lines.pause l g o 4 (Lines.not-acked l g o left _ e (down (Lines.pause l g o 5 h))))))
 
-  -- the second half of a start: SDA falls while SCL is high, then SCL falls
+  -- SDA falls while SCL is high, then SCL falls
+  pub pull : {s : o .State} {k : Bus} {Q : Claim o} → o .pulls s .sda ≡ false → From l o true true (o .takes Fall (o .takes START s)) k Q
+      → From l o false false s (sda l false (wait 4 (sclLow l (wait 5 k)))) Q
+  pull {s} e h = Lines.sda-low l g o (moved (turn-start o s e (scl-free s)) (Lines.pause l g o 4 (down (Lines.pause l g o 5 h))))
+
+  -- the second half of a start
   start-ends : {s : o .State} {k : Bus} {Q : Claim o} → o .pulls s .sda ≡ false → From l o true true (o .takes Fall (o .takes START s)) k Q
       → From l o false false s (wait 5 (sda l false (wait 4 (sclLow l (wait 5 k))))) Q
-  start-ends {s} e h = Lines.pause l g o 5 (Lines.sda-low l g o (moved (turn-start o s e (scl-free s)) (Lines.pause l g o 4 (down (Lines.pause l g o 5 h)))))
+  start-ends e h = Lines.pause l g o 5 (pull e h)
 
   -- a start while the master holds SCL low
   pub start-low : {a : Bool} {s : o .State} {k : Bus} {Q : Claim o} → o .pulls s .sda ≡ false → o .pulls (o .takes (Bit true) s) .sda ≡ false

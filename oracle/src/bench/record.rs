@@ -9,12 +9,15 @@ use super::module::{layout, Module, Receiver, Stage, Wired};
 use super::start::Start;
 use super::{run, End};
 use crate::case::FAMILIES;
-use crate::driver::{i2c, Error, Family, Port};
+use crate::driver::i2c::{self, Sequence};
+use crate::driver::{Error, Family, Port};
 use crate::fresh::Choice;
 use crate::page;
 
 const NAMES: [&str; 5] = ["82599", "X540", "X550", "X552", "X553"];
 const PAGES: [&str; 2] = ["A0", "A2"];
+/// In the order of `Sequence`.
+const SEQUENCES: [&str; 2] = ["pulses", "rounds"];
 const STAGES: [(&str, u8); 7] =
     [("idle", 0), ("address", 9), ("receive", 9), ("ackread", 0), ("ackwrite", 0), ("send", 8), ("listen", 0)];
 
@@ -56,6 +59,7 @@ fn name(stage: Stage) -> String {
 /// The image's name, and the start that the words give.
 fn start(words: &str, folder: &str) -> Result<(String, Start), String> {
     let mut image = String::new();
+    let mut sequence = Sequence::Rounds;
     let mut port = Port { family: Family::F82599, device: 0x10fb, lan: 0 };
     let mut receiver =
         Receiver { stage: Stage::Idle, bits: 0, page: 0, offset_next: false, noted: true };
@@ -77,6 +81,9 @@ fn start(words: &str, folder: &str) -> Result<(String, Start), String> {
             "a0" => offsets[0] = hex(value)? as u8,
             "a2" => offsets[1] = hex(value)? as u8,
             "control" => word = Some(hex(value)?),
+            "sequence" => {
+                sequence = [Sequence::Pulses, Sequence::Rounds][place(&SEQUENCES, value)?];
+            }
             _ => return Err(format!("'{w}' has no such name")),
         }
     }
@@ -88,7 +95,7 @@ fn start(words: &str, folder: &str) -> Result<(String, Start), String> {
         Family::X552 | Family::X553 => 0x2800,
         _ => 0x000a,
     };
-    Ok((image, Start { port, word: word.unwrap_or(default), module, answers: 0 }))
+    Ok((image, Start { sequence, port, word: word.unwrap_or(default), module, answers: 0 }))
 }
 
 fn text(bytes: &[u8]) -> String {
@@ -102,7 +109,7 @@ fn or(yes: bool, one: &'static str, other: &'static str) -> &'static str {
 }
 
 fn record(image: &str, start: &Start, end: &End) -> Result<String, std::fmt::Error> {
-    let Start { port, word, module, .. } = start;
+    let Start { sequence, port, word, module, .. } = start;
     let mut out = String::new();
     writeln!(out, "image       {image}")?;
     let family = NAMES[FAMILIES.iter().position(|f| *f == port.family).unwrap_or(0)];
@@ -115,6 +122,7 @@ fn record(image: &str, start: &Start, end: &End) -> Result<String, std::fmt::Err
     writeln!(out, "start       {}, {kept}, next {next}, sda {sda}, a0 {o0:02x}, a2 {o2:02x}", name(r.stage))?;
     let pulls = or(module.pulls_sda(), "pulls", "does not pull");
     writeln!(out, "control     {word:08x}; the module {pulls} SDA")?;
+    writeln!(out, "sequence    {}", SEQUENCES[*sequence as usize])?;
     match &end.result {
         Ok(m) => {
             writeln!(out, "kind        {:?}", m.kind)?;
@@ -144,7 +152,9 @@ fn texts(out: &mut String, start: &Start, end: &End) -> std::fmt::Result {
     let mut host = Host::at(start, end.wired.clone());
     let mut buffer = [0; page::BYTES];
     i2c::probe_transfers();
-    let read = page::read(&mut host, start.port, 0, i2c::attempts(start.port), &mut buffer);
+    let attempts = i2c::attempts(start.port);
+    let read =
+        i2c::probe_with(start.sequence, || page::read(&mut host, start.port, 0, attempts, &mut buffer));
     let number = match read {
         Ok(()) => page::judged(&buffer),
         Err(Error::I2c { .. }) => 23,
@@ -189,6 +199,7 @@ impl Choice {
             ("sda", self.one(&["low", "high"]).into()),
             ("a0", format!("{:02x}", self.below(256))),
             ("a2", format!("{:x}", self.below(256))),
+            ("sequence", self.one(&SEQUENCES).into()),
         ];
         for (name, value) in all {
             if self.percent(60) {

@@ -1,12 +1,14 @@
-//! Starts chosen at random: any port, any module, any word of I2CCTL that the
-//! papers allow.
+//! Starts chosen at random: either sequence, any port, any module, any word of
+//! I2CCTL that the papers allow.
 
 use super::module::{layout, Module, Receiver, Stage};
 use crate::case::FAMILIES;
+use crate::driver::i2c::Sequence;
 use crate::driver::{Family, Port};
 use crate::fresh::Choice;
 
 pub struct Start {
+    pub sequence: Sequence,
     pub port: Port,
     pub word: u32,
     pub module: Module,
@@ -18,8 +20,10 @@ const QSFP_DEVICE: u16 = 0x1558;
 
 impl Choice {
     pub fn start(&mut self) -> Start {
+        let sequence = self.one(&[Sequence::Pulses, Sequence::Rounds]);
         let port = self.port();
         Start {
+            sequence,
             port,
             word: self.control(port.family),
             module: self.module(),

@@ -30,6 +30,15 @@ impl Choice {
         case
     }
 
+    /// Either sequence where the function takes one.
+    fn sequence(&mut self, function: u32) -> Sequence {
+        if sequenced(function) {
+            self.one(&[Sequence::Pulses, Sequence::Rounds])
+        } else {
+            Sequence::Pulses
+        }
+    }
+
     /// Without arguments and rules.
     pub fn at_port(&mut self, function: u32) -> Case {
         let any = self.below(0x1_0000);
@@ -39,6 +48,7 @@ impl Choice {
         let family = if device == QSFP_DEVICE { self.one(&[0, family]) } else { family };
         Case {
             function,
+            sequence: self.sequence(function),
             family,
             device,
             lan: self.below(2),

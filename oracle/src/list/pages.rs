@@ -1,4 +1,4 @@
-//! The groups of pages, which come last.
+//! The groups of pages.
 
 use super::sfp::*;
 use super::transfers::*;
@@ -6,7 +6,7 @@ use super::*;
 use crate::driver::STATUS;
 use crate::page::BYTES;
 
-const FORMS: [u32; 2] = [PAGE, QSFP_PAGE];
+pub const FORMS: [u32; 2] = [PAGE, QSFP_PAGE];
 
 pub fn add(list: &mut List) {
     pages(list);
@@ -18,7 +18,7 @@ pub fn add(list: &mut List) {
 }
 
 /// The ports, those of the 82599 with PCI device 1558 too.
-fn ports() -> Vec<(Family, u32, u32)> {
+pub fn ports() -> Vec<(Family, u32, u32)> {
     let usual_ports = every_port().map(|(family, lan)| (family, lan, usual(family)));
     usual_ports.chain([0, 1].map(|lan| (Family::F82599, lan, QSFP_DEVICE))).collect()
 }
@@ -31,7 +31,7 @@ fn port(number: usize) -> (Family, u32, u32) {
 
 impl List {
     /// A page going well; the sums are wrong by `shape`.
-    fn page(&mut self, function: u32, port: (Family, u32, u32), attempts: u32, shape: u32) -> Case {
+    pub fn page(&mut self, function: u32, port: (Family, u32, u32), attempts: u32, shape: u32) -> Case {
         let (family, lan, device) = port;
         let call = Call { function, args: [attempts, self.word(), shape] };
         self.over(call, family, lan, device, locks(family, lan))

@@ -34,8 +34,8 @@ pub fn add(list: &mut List) {
 /// A call and the bytes that the module sends to it, in the order of their
 /// requests; `ten` is an argument of the rate select only.
 #[derive(Clone)]
-struct Plan {
-    function: u32,
+pub struct Plan {
+    pub function: u32,
     ten: u32,
     bytes: Vec<u8>,
 }
@@ -87,7 +87,7 @@ impl List {
     }
 
     /// The plan going well. What it leaves of the queue is random.
-    fn planned(&mut self, plan: &Plan, family: Family, lan: u32, device: u32) -> Case {
+    pub fn planned(&mut self, plan: &Plan, family: Family, lan: u32, device: u32) -> Case {
         self.planned_over(plan, family, lan, device, locks(family, lan))
     }
 
@@ -163,7 +163,7 @@ pub fn refused(case: &Case, number: u32, attempts: u32) -> Case {
 /// The calls that get faults: `identify` through the 10G-BX test, of an active
 /// cable, and with 03 at the fifth reading; an `identify_qsfp` with all its
 /// requests; the rate select in both directions.
-fn plans() -> Vec<Plan> {
+pub fn plans() -> Vec<Plan> {
     vec![
         sfp(0x40, 0, 0, &[0x67, 0, 10]),
         sfp(0, 0, 0x08, &[0x04]),

@@ -8,7 +8,7 @@ use Phrase::{Read, Send};
 
 pub const QSFP_DEVICE: u32 = 0x1558;
 /// Tries of `scl_high`, samples of an acknowledgement, tries at the QSFP grant.
-const STRETCH: u32 = 500;
+pub const STRETCH: u32 = 500;
 pub const SAMPLES: u32 = 10;
 pub const GRANTS: u32 = 200;
 /// One family of each layout.
@@ -69,12 +69,12 @@ impl List {
         self.seeds.next()
     }
 
-    fn read_byte(&mut self, attempts: u32, lock: bool) -> Call {
+    pub fn read_byte(&mut self, attempts: u32, lock: bool) -> Call {
         let (device, offset) = (self.word() & 0xfe, self.word() & 0xff);
         read_byte(device, offset, attempts, lock)
     }
 
-    fn write_byte(&mut self, lock: bool) -> Call {
+    pub fn write_byte(&mut self, lock: bool) -> Call {
         let (device, offset, value) = (self.word() & 0xfe, self.word() & 0xff, self.word() & 0xff);
         Call { function: WRITE_BYTE, args: packed(device, offset, value, lock) }
     }
@@ -95,7 +95,7 @@ impl List {
     }
 
     /// The four calls with random devices, registers and values.
-    fn calls(&mut self, attempts: u32, lock: bool) -> [Call; 4] {
+    pub fn calls(&mut self, attempts: u32, lock: bool) -> [Call; 4] {
         [
             self.read_byte(attempts, lock),
             self.write_byte(lock),
@@ -106,7 +106,7 @@ impl List {
 
     /// A call that goes well: the locks and the QSFP grant come at once, at
     /// port 1 as the hardware shows them, and every byte is acknowledged.
-    fn good(&mut self, call: Call, family: Family, lan: u32, device: u32) -> Case {
+    pub fn good(&mut self, call: Call, family: Family, lan: u32, device: u32) -> Case {
         let locks = if call.locked() { locks(family, lan) } else { vec![] };
         self.over(call, family, lan, device, locks)
     }
@@ -158,13 +158,13 @@ pub fn touches(access: &Access, case: &Case) -> bool {
 /// accesses, and the lines before it.
 pub struct Seen {
     pub number: u32,
-    at: usize,
+    pub at: usize,
     wires: Wires,
 }
 
 impl Seen {
     /// The first look at SCL after its rise.
-    fn rise(&self) -> bool {
+    pub fn rise(&self) -> bool {
         self.wires.scl && self.wires.since == 0
     }
 
@@ -219,7 +219,7 @@ pub fn sda_low(case: &Case, at: u32, run: u32) -> Case {
     window(case, at, run, (!case.lines.expect("lines").layout.sda_in, 0))
 }
 
-fn scl_low(case: &Case, at: u32, run: u32) -> Case {
+pub fn scl_low(case: &Case, at: u32, run: u32) -> Case {
     window(case, at, run, (!case.lines.expect("lines").layout.scl_in, 0))
 }
 
@@ -270,7 +270,7 @@ fn setup(list: &mut List) {
 }
 
 /// Every port with PCI device 1558 and another, with and without lock.
-fn settings() -> Vec<(Family, u32, u32, bool)> {
+pub fn settings() -> Vec<(Family, u32, u32, bool)> {
     let mut all = Vec::new();
     for (family, lan) in every_port() {
         for device in [QSFP_DEVICE, usual(family)] {

@@ -10,8 +10,8 @@ open-port-requires c κs = search needs
 enum-known-p : tie.Need-enum-known-p
 enum-known-p c = search needs
 
-identify-open-requires : tie.Need-identify-open-requires
-identify-open-requires c κs = search needs
+identify-open-with-requires : tie.Need-identify-open-with-requires
+identify-open-with-requires c κs = search needs
 
 play-requires : tie.Need-play-requires
 play-requires c κs = search needs
@@ -22,15 +22,15 @@ enum-known-q c = search needs
 returns : tie.Need-returns
 returns c =
     let a = c .before .before .before .before .before .before .before .args in
-    opened (a .family) (a .device) (a .lan) (a .d) (a .origin) (a .answers .now) (c .before .before .before .before .before .open-port .result) _ (c .before .identify-open .result) (c .play .result)
-    (c .before .before .before .p .given .1) (c .before .before .before .before .before .open-port .ensures) (c .before .identify-open .ensures .yields) (c .before .identify-open .ensures .limits) (c .play .ensures)
+    opened (a .sequence) (a .family) (a .device) (a .lan) (a .d) (a .origin) (a .answers .now) (c .before .before .before .before .before .open-port .result) _ (c .before .identify-open-with .result) (c .play .result)
+    (c .before .before .before .p .given .1) (c .before .before .before .before .before .open-port .ensures) (c .before .identify-open-with .ensures .yields) (c .before .identify-open-with .ensures .limits) (c .play .ensures)
 
 returns-2 : tie.Need-returns-2
 returns-2 c =
     let a = c .before .before .before .before .before .args in
-    unopened (a .family) (a .device) (a .lan) (a .d) (a .origin) (a .answers .now) (c .before .before .before .open-port .result) _ (c .before .q .given .1) (c .before .before .before .open-port .ensures)
+    unopened (a .sequence) (a .family) (a .device) (a .lan) (a .d) (a .origin) (a .answers .now) (c .before .before .before .open-port .result) _ (c .before .q .given .1) (c .before .before .before .open-port .ensures)
 
 pub from-opening-spec : {M : Type 1} → statement M
 from-opening-spec =
-    tie.close (tie.spec open-port-requires enum-known-p identify-open-requires play-requires enum-known-q returns
+    tie.close (tie.spec open-port-requires enum-known-p identify-open-with-requires play-requires enum-known-q returns
     returns-2)

@@ -22,7 +22,7 @@ unfolding sourceOf decodedAll
 returns c =
     let a = c .before .before .before .before .before .args in (
       c .from-opening .ensures,
-      λ port y go. at-once-claim (a .family) (a .device) (a .lan) (a .d) (c .before .before .bytes .ensures .1) port y go _ (c .from-opening .ensures),
+      λ port y go. at-once-claim (a .sequence) (a .family) (a .device) (a .lan) (a .d) (c .before .before .bytes .ensures .1) port y go _ (c .from-opening .ensures),
     )
 
 pub identify-at-once-spec : {M : Type 1} → statement M

@@ -19,7 +19,7 @@ unfolding sourceOf
 returns c =
     let a = c .before .before .before .before .before .args in (
       c .from-opening .ensures,
-      λ port y go. lent-claim (a .family) (a .device) (a .lan) (a .d) (c .before .bytes .ensures .1) port y go (a .answers .now) _ (c .from-opening .ensures),
+      λ port y go. lent-claim (a .sequence) (a .family) (a .device) (a .lan) (a .d) (c .before .bytes .ensures .1) port y go (a .answers .now) _ (c .from-opening .ensures),
     )
 
 pub identify-on-bench-spec : {M : Type 1} → statement M

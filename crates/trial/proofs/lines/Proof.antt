@@ -5,10 +5,10 @@ use Rattle.trial.proofs.lines.Statement.{statement}
 use Rattle.trial.proofs.lines.Tie as tie
 
 abbrev Inv-loop : tie.InvT-loop
-Inv-loop number port n₀ n = n ≤ 39
+Inv-loop number port q n₀ n = n ≤ 39
 
 abbrev μ-loop : tie.MeasureT-loop
-μ-loop number port n₀ n = 39 - n
+μ-loop number port q n₀ n = 39 - n
 
 loop-holds : tie.Need-loop-holds Inv-loop μ-loop
 loop-holds c = search needs

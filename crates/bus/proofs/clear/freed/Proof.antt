@@ -1,8 +1,8 @@
 -- `freed` meets its contract.
 use Rattle.bus.specs.Bus.{orHeld}
-use Rattle.bus.specs.Clear.{accessClear, clearNext, commandOf, restClear, restPart, validClear, validClearNext}
+use Rattle.bus.specs.Clear.{accessClear, clearNext, commandOf, restClear, restPart, validClear, validClearNext, validPart}
 use Rattle.bus.specs.Command.{jobNext, validJobNext}
-use Rattle.hardware.specs.Prog.{erase}
+use Rattle.hardware.specs.Prog.{erase, pick}
 use Rattle.hardware.specs.Registers.{byte}
 use borrow.Author.Needs.{needs}
 use mathlib.Core.Path.{refl}
@@ -25,7 +25,7 @@ enum-known-b : tie.Need-enum-known-b
 enum-known-b c = search needs
 
 returns : tie.Need-returns
-unfolding clearNext accessClear restClear restPart jobNext validClearNext validClear commandOf validJobNext
+unfolding clearNext accessClear restClear restPart jobNext validClearNext validClear validPart commandOf validJobNext pick
 returns c = (rw (c .before .n .given .1), λ h. rw (c .before .n .given .1) at h)
 
 returns-2 : tie.Need-returns-2

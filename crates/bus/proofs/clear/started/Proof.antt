@@ -1,6 +1,6 @@
 -- `started` meets its contract.
 use Rattle.bus.specs.Bus.{orHeld, orQuiet, quieted}
-use Rattle.bus.specs.Clear.{accessClear, clearNext, commandOf, restClear, restPart, validClear, validClearNext}
+use Rattle.bus.specs.Clear.{accessClear, clearNext, commandOf, restClear, restPart, validClear, validClearNext, validPart}
 use Rattle.bus.specs.Command.{jobNext, validJobNext}
 use Rattle.hardware.specs.Prog.{_>>=_, erase, followed, pick}
 use Rattle.hardware.specs.Registers.{byte}
@@ -36,7 +36,7 @@ unfolding followed _>>=_ jobNext orHeld byte quieted orQuiet erase pick validCle
 returns c = (rw (c .before .before .before .before .before .before .before .n2 .given .1, c .before .before .before .before .b .given .1, ← c .before .before .is-i2c .ensures, c .before .if1 .taken) (c .stop2 .ensures .0), λ h. c .stop2 .ensures .1)
 
 returns-2 : tie.Need-returns-2
-unfolding clearNext accessClear restClear restPart jobNext validClearNext validClear commandOf validJobNext
+unfolding clearNext accessClear restClear restPart jobNext validClearNext validClear validPart commandOf validJobNext pick
 returns-2 c = (rw (c .before .n .given .1) (going _ _ _), λ h. rw (c .before .n .given .1) at h)
 
 returns-3 : tie.Need-returns-3

@@ -28,8 +28,8 @@ enum-told-2 c = search needs
 end-requires : tie.Need-end-requires
 end-requires c κs = search needs
 
-enum-told-3 : tie.Need-enum-told-3
-enum-told-3 c = search needs
+enum-known-c-3 : tie.Need-enum-known-c-3
+enum-known-c-3 c = search needs
 
 free-requires : tie.Need-free-requires
 free-requires c κs = search needs
@@ -52,9 +52,9 @@ returns-4 c = rw (c .before .enum-told2 .given .1) (c .end .ensures)
 
 returns-5 : tie.Need-returns-5
 unfolding callAt
-returns-5 c = rw (c .before .enum-told3 .given .1) (c .free .ensures)
+returns-5 c = rw (c .before .before .c3 .given .1) (c .free .ensures)
 
 pub call-spec : {M : Type 1} → statement M
 call-spec =
     tie.close (tie.spec enum-told start-requires enum-known-c send-requires enum-known-c-2 read-requires enum-told-2
-    end-requires enum-told-3 free-requires returns returns-2 returns-3 returns-4 returns-5)
+    end-requires enum-known-c-3 free-requires returns returns-2 returns-3 returns-4 returns-5)

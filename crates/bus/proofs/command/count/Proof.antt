@@ -19,8 +19,11 @@ enum-told-4 c = search needs
 stop-count-requires : tie.Need-stop-count-requires
 stop-count-requires c κs = search needs
 
-enum-told-5 : tie.Need-enum-told-5
-enum-told-5 c = search needs
+enum-known-c : tie.Need-enum-known-c
+enum-known-c c = search needs
+
+free-count-requires : tie.Need-free-count-requires
+free-count-requires c κs = search needs
 
 returns : tie.Need-returns
 unfolding callCount
@@ -40,9 +43,9 @@ returns-4 c = rw (c .before .enum-told4 .given .1) (c .stop-count .ensures)
 
 returns-5 : tie.Need-returns-5
 unfolding callCount
-returns-5 c = rw (c .enum-told5 .given .1)
+returns-5 c = rw (c .before .before .c .given .1) (c .free-count .ensures)
 
 pub count-spec : {M : Type 1} → statement M
 count-spec =
-    tie.close (tie.spec enum-told enum-told-2 enum-told-3 enum-told-4 stop-count-requires enum-told-5 returns
-    returns-2 returns-3 returns-4 returns-5)
+    tie.close (tie.spec enum-told enum-told-2 enum-told-3 enum-told-4 stop-count-requires enum-known-c
+    free-count-requires returns returns-2 returns-3 returns-4 returns-5)

@@ -8,9 +8,6 @@ use native.Mathlib.Omega.{arith}
 use Rattle.identify.proofs.calls.opened.Statement.{statement}
 use Rattle.identify.proofs.calls.opened.Tie as tie
 
-standard-requires : tie.Need-standard-requires
-standard-requires c κs = search needs
-
 begin-requires : tie.Need-begin-requires
 begin-requires c κs = search needs
 
@@ -20,9 +17,9 @@ told-requires c κs = search needs
 returns : tie.Need-returns
 returns c =
     record {
-      yields = rw (← c .before .before .standard .ensures) (c .told .ensures .yields (omega arith) ∙ ap yes (ap (tally blank) (c .before .begin .ensures .yields) ∙ tally-erase blank _));
+      yields = (c .told .ensures .yields (omega arith) ∙ ap yes (ap (tally blank) (c .before .begin .ensures .yields) ∙ tally-erase blank _));
       limits = λ p v h. c .told .ensures .limits p (c .before .begin .ensures .limits blank v (omega (arith, h)));
     }
 
 pub opened-spec : {M : Type 1} → statement M
-opened-spec = tie.close (tie.spec standard-requires begin-requires told-requires returns)
+opened-spec = tie.close (tie.spec begin-requires told-requires returns)

@@ -21,9 +21,6 @@ returns-2 : tie.Need-returns-2
 unfolding openForm question lent bufferFits saidPage standsPage
 returns-2 c = record { yields = rw (le-leb _ _ (c .before .if1 .left), lt-leb _ _ (c .if2 .taken)); limits = λ p. tt }
 
-standard-requires : tie.Need-standard-requires
-standard-requires c κs = search needs
-
 cast-tries : tie.Need-cast-tries
 cast-tries c = search needs
 
@@ -37,9 +34,9 @@ returns-3 : tie.Need-returns-3
 unfolding openForm question lent bufferFits page
 returns-3 c =
     record {
-      yields = rw (le-leb _ _ (c .before .before .before .before .if1 .left), le-leb _ _ (c .before .before .before .if2 .left), ← c .before .before .standard .ensures) (c .told .ensures .yields _ (omega arith) ∙ ap goes (ap (tally blank) (c .before .begin .ensures .yields _) ∙ tally-erase blank _));
+      yields = rw (le-leb _ _ (c .before .before .before .if1 .left), le-leb _ _ (c .before .before .if2 .left)) (c .told .ensures .yields _ (omega arith) ∙ ap goes (ap (tally blank) (c .before .begin .ensures .yields _) ∙ tally-erase blank _));
       limits = λ p. c .told .ensures .limits p (c .before .begin .ensures .limits blank (omega arith) (cap-first _));
     }
 
 pub opened-spec : {M : Type 1} → statement M
-opened-spec = tie.close (tie.spec returns returns-2 standard-requires cast-tries begin-requires told-requires returns-3)
+opened-spec = tie.close (tie.spec returns returns-2 cast-tries begin-requires told-requires returns-3)

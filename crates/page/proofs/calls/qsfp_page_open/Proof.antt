@@ -1,32 +1,16 @@
 -- `qsfp_page_open` meets its contract.
-use Rattle.hardware.proofs.Laws.{opened-valid}
-use Rattle.hardware.specs.Asked.{andThen, portOpened}
-use Rattle.hardware.specs.Lent.{lent}
-use Rattle.page.specs.Calls.{openQsfpPage, saidPage, standsPage}
 use borrow.Author.Needs.{needs}
 use Rattle.page.proofs.calls.qsfp_page_open.Statement.{statement}
 use Rattle.page.proofs.calls.qsfp_page_open.Tie as tie
 
-open-port-requires : tie.Need-open-port-requires
-open-port-requires c κs = search needs
+standard-requires : tie.Need-standard-requires
+standard-requires c κs = search needs
 
-enum-known-p : tie.Need-enum-known-p
-enum-known-p c = search needs
-
-opened-requires : tie.Need-opened-requires
-opened-requires c κs = search needs
-
-enum-known-q : tie.Need-enum-known-q
-enum-known-q c = search needs
+qsfp-page-open-with-requires : tie.Need-qsfp-page-open-with-requires
+qsfp-page-open-with-requires c κs = search needs
 
 returns : tie.Need-returns
-unfolding openQsfpPage andThen portOpened
-returns c = record { yields = rw (← c .before .before .before .before .open-port .ensures, c .before .before .p .given .1) (c .opened .ensures .yields); limits = c .opened .ensures .limits (opened-valid _ _ _ (c .before .before .p .given .1) (c .before .before .before .before .open-port .ensures)) }
-
-returns-2 : tie.Need-returns-2
-unfolding openQsfpPage andThen portOpened lent saidPage standsPage
-returns-2 c = record { yields = rw (← c .before .before .before .open-port .ensures, c .before .q .given .1); limits = tt }
+returns c = rw (← c .before .standard .ensures) (c .qsfp-page-open-with .ensures)
 
 pub qsfp-page-open-spec : {M : Type 1} → statement M
-qsfp-page-open-spec =
-    tie.close (tie.spec open-port-requires enum-known-p opened-requires enum-known-q returns returns-2)
+qsfp-page-open-spec = tie.close (tie.spec standard-requires qsfp-page-open-with-requires returns)

@@ -5,10 +5,10 @@ use Rattle.report.proofs.table.tallied.Statement.{statement}
 use Rattle.report.proofs.table.tallied.Tie as tie
 
 abbrev Inv-loop : tie.InvT-loop
-Inv-loop idle image t₀ n₀ t n = n ≤ 39
+Inv-loop q idle image t₀ n₀ t n = n ≤ 39
 
 abbrev μ-loop : tie.MeasureT-loop
-μ-loop idle image t₀ n₀ t n = 39 - n
+μ-loop q idle image t₀ n₀ t n = 39 - n
 
 loop-holds : tie.Need-loop-holds Inv-loop μ-loop
 loop-holds c = search needs

@@ -45,7 +45,7 @@ returns-4 : tie.Need-returns-4
 returns-4 c = rw (c .before .enum-told2 .given .1) (c .stopped .ensures)
 
 returns-5 : tie.Need-returns-5
-returns-5 c = rw (c .enum-told3 .given .1) (sym (free-wrong _))
+returns-5 c = rw (c .enum-told3 .given .1) (sym (free-wrong _ _))
 
 pub follows-spec : {M : Type 1} → statement M
 follows-spec =

@@ -10,9 +10,6 @@ use native.Mathlib.Omega.{arith}
 use Rattle.softrate.proofs.calls.opened.Statement.{statement}
 use Rattle.softrate.proofs.calls.opened.Tie as tie
 
-standard-requires : tie.Need-standard-requires
-standard-requires c κs = search needs
-
 begin-requires : tie.Need-begin-requires
 begin-requires c κs = search needs
 
@@ -23,9 +20,9 @@ returns : tie.Need-returns
 unfolding validSpot capAt before upTo triesAt pick
 returns c =
     record {
-      yields = rw (← c .before .before .standard .ensures) (c .told .ensures .yields (omega arith) ∙ ap yes (ap (tally blank) (c .before .begin .ensures .yields ∙ ap erase (first-placed _ _ _)) ∙ tally-erase blank _));
+      yields = (c .told .ensures .yields (omega arith) ∙ ap yes (ap (tally blank) (c .before .begin .ensures .yields ∙ ap erase (first-placed _ _ _)) ∙ tally-erase blank _));
       limits = λ p. c .told .ensures .limits p (c .before .begin .ensures .limits blank refl (omega arith));
     }
 
 pub opened-spec : {M : Type 1} → statement M
-opened-spec = tie.close (tie.spec standard-requires begin-requires told-requires returns)
+opened-spec = tie.close (tie.spec begin-requires told-requires returns)

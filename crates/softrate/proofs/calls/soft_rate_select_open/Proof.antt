@@ -1,35 +1,16 @@
 -- `soft_rate_select_open` meets its contract.
-use Rattle.hardware.proofs.Laws.{opened-valid}
-use Rattle.hardware.specs.Asked.{andThen, portOpened}
-use Rattle.softrate.specs.Calls.{openRate, saidRate, standsRate}
 use borrow.Author.Needs.{needs}
 use Rattle.softrate.proofs.calls.soft_rate_select_open.Statement.{statement}
 use Rattle.softrate.proofs.calls.soft_rate_select_open.Tie as tie
 
-open-port-requires : tie.Need-open-port-requires
-open-port-requires c κs = search needs
+standard-requires : tie.Need-standard-requires
+standard-requires c κs = search needs
 
-enum-known-p : tie.Need-enum-known-p
-enum-known-p c = search needs
-
-opened-requires : tie.Need-opened-requires
-opened-requires c κs = search needs
-
-enum-known-q : tie.Need-enum-known-q
-enum-known-q c = search needs
+soft-rate-select-open-with-requires : tie.Need-soft-rate-select-open-with-requires
+soft-rate-select-open-with-requires c κs = search needs
 
 returns : tie.Need-returns
-unfolding openRate andThen portOpened
-returns c =
-    record {
-      yields = rw (← c .before .before .before .before .open-port .ensures, c .before .before .p .given .1) (c .opened .ensures .yields);
-      limits = c .opened .ensures .limits (opened-valid _ _ _ (c .before .before .p .given .1) (c .before .before .before .before .open-port .ensures));
-    }
-
-returns-2 : tie.Need-returns-2
-unfolding openRate andThen portOpened saidRate standsRate
-returns-2 c = record { yields = rw (← c .before .before .before .open-port .ensures, c .before .q .given .1); limits = tt }
+returns c = rw (← c .before .standard .ensures) (c .soft-rate-select-open-with .ensures)
 
 pub soft-rate-select-open-spec : {M : Type 1} → statement M
-soft-rate-select-open-spec =
-    tie.close (tie.spec open-port-requires enum-known-p opened-requires enum-known-q returns returns-2)
+soft-rate-select-open-spec = tie.close (tie.spec standard-requires soft-rate-select-open-with-requires returns)

@@ -1,0 +1,3 @@
+pub mod Finite
+pub mod Exact
+pub mod Signed

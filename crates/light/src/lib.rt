@@ -1,0 +1,3 @@
+// Temperature and received light of a module, from its bytes (SFF-8472, page A2).
+pub mod power;
+pub mod words;

@@ -1,0 +1,5 @@
+pub mod Powers
+pub mod Levels
+pub mod Examples
+mod Table
+mod Search

@@ -1,0 +1,3 @@
+// Received light as a level in dBm.
+pub mod dbm;
+pub mod lookup;

@@ -5,21 +5,28 @@ use mathlib.Core.Bool.{Bool, true, false}
 use native.Mathlib.Nat.{zero-add}
 use native.Mathlib.Omega.{arith}
 use lib.Dec.{ltb}
-use lib.IntN.{pos, negsuc, _-ℤ_}
+use lib.IntN.{ℤ, pos, negsuc, _-ℤ_}
 use mir.Syntax.{w16}
 use mir.Val.{SFits, toZ, ofZ, sel}
-use mir.Facts.{ofZ-toZ, sfits-toZ, toZ-pos}
+use mir.Facts.{ofZ-toZ, sfits-toZ, toZ-ofZ, toZ-pos}
 use borrow.Author.Tests.{lt-ltb}
 use Rattle.hardware.specs.Prog.{pick}
 use Rattle.light.specs.Words.{signed, temperatureOf, wordOf}
 
-signed-is : (w : ℕ) → w < 65536 → signed w ≡ toZ w16 w
+pub signed-is : (w : ℕ) → w < 65536 → signed w ≡ toZ w16 w
 unfolding signed pick
 signed-is w h = rw (lt-ltb w 65536 h) (go (ltb w 0x8000))
   where
     go : (b : Bool) → pick b (pos w) (negsuc (65536 - suc w)) ≡ sel b (pos w) (negsuc (65536 - suc w))
     go true = refl
     go false = refl
+
+signed-fits : (w : ℕ) → w < 65536 → SFits w16 (signed w)
+signed-fits w h = rw (signed-is w h) (sfits-toZ {w = w16} (record { fits = h }))
+
+-- it is held in 16 bits
+pub signed-held : (w : ℕ) (z : ℤ) → w < 65536 → z ≡ signed w → toZ w16 (ofZ w16 z) ≡ signed w
+signed-held w z h e = rw e (toZ-ofZ {w = w16} (signed-fits w h))
 
 below : (high low : ℕ) → high < 256 → low < 256 → wordOf high low < 65536
 below high low h l = omega arith
@@ -33,7 +40,7 @@ pub temperature-bits : (high low : ℕ) → high < 256 → low < 256 → ofZ w16
 temperature-bits high low h l = ap (ofZ w16) (temperature-is high low h l) ∙ ofZ-toZ {w = w16} (record { fits = below high low h l })
 
 pub temperature-fits : (high low : ℕ) → high < 256 → low < 256 → SFits w16 (temperatureOf high low)
-temperature-fits high low h l = rw (temperature-is high low h l) (sfits-toZ {w = w16} (record { fits = below high low h l }))
+temperature-fits high low h l = signed-fits (wordOf high low) (below high low h l)
 
 -- -32768 and -1: -128 degrees and 1/256 degree below zero
 pub temperature-8000 : temperatureOf 0x80 0x00 ≡ negsuc 32767

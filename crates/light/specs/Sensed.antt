@@ -1,0 +1,110 @@
+-- What the bytes of a module say that were read one after another, each behind those before it: byte 92 of A0, the words of A2
+-- from byte 96 on, and its patterns from byte 56 on.
+use Prim.Native.Nat.{ℕ, _+_, _*_, _/_, _%_, _^_}
+use mathlib.Core.Bool.{Bool}
+use mathlib.Core.List.{[]}
+use lib.Dec.{eqb}
+use lib.IntN.{pos}
+use Rattle.hardware.specs.Failures.{Failure, failureOf}
+use Rattle.hardware.specs.Numbers.{errorNumber}
+use Rattle.hardware.specs.Prog.{R, Ok, Err, pick}
+use Rattle.hardware.specs.Registers.{noneOf}
+use Rattle.sfp.specs.Classes.{has}
+use Rattle.light.specs.declared.power.Patterns.{Patterns}
+use Rattle.light.specs.declared.power.Powered.{Powered}
+use Rattle.light.specs.declared.power.Powered.the-variants.{Ok as PoweredOk, Coefficient as PoweredCoefficient, Result as PoweredResult}
+use Rattle.light.specs.declared.power.Reading.{Reading}
+use Rattle.light.specs.declared.power.Reading.the-variants.{Internal, Calibrated, Absent}
+use Rattle.light.specs.declared.sensed.Sensed.{Sensed}
+use Rattle.light.specs.declared.sensed.Measures.{Measures}
+use Rattle.light.specs.declared.sensed.Measured.{Measured}
+use Rattle.light.specs.declared.sensed.Measured.the-variants.{Ok as MeasuredOk, Coefficient as MeasuredCoefficient, Result as MeasuredResult, Err as MeasuredErr}
+use Rattle.light.specs.Power.{powerOf}
+use Rattle.light.specs.Words.{signed, wordOf}
+
+-- before the first byte
+abbrev pub fresh : Sensed
+fresh = record { kind = 0; temperature = 0; voltage = 0; bias = 0; sent = 0; received = 0; patterns = record { c4 = 0; c3 = 0; c2 = 0; c1 = 0; c0 = 0 } }
+
+-- a word of two bytes and a pattern of four, with a byte behind those before it; here: it is theirs
+unfoldable pub wordOn : Bool → ℕ → ℕ → ℕ
+wordOn here word byte = pick here (wordOf (word % 256) byte) word
+
+unfoldable pub patternOn : Bool → ℕ → ℕ → ℕ
+patternOn here pattern byte = pick here (pattern % 2 ^ 24 * 256 + byte) pattern
+
+unfoldable pub patternsOn : Patterns → ℕ → ℕ → Patterns
+patternsOn p left byte = record {
+  c4 = patternOn (eqb (left / 4) 4) (p .c4) byte;
+  c3 = patternOn (eqb (left / 4) 3) (p .c3) byte;
+  c2 = patternOn (eqb (left / 4) 2) (p .c2) byte;
+  c1 = patternOn (eqb (left / 4) 1) (p .c1) byte;
+  c0 = patternOn (eqb (left / 4) 0) (p .c0) byte;
+}
+
+-- the byte with so many after it was read
+unfoldable pub taken : Sensed → ℕ → ℕ → Sensed
+taken s left byte = record {
+  kind = pick (eqb left 30) byte (s .kind);
+  temperature = wordOn (eqb (left / 2) 14) (s .temperature) byte;
+  voltage = wordOn (eqb (left / 2) 13) (s .voltage) byte;
+  bias = wordOn (eqb (left / 2) 12) (s .bias) byte;
+  sent = wordOn (eqb (left / 2) 11) (s .sent) byte;
+  received = wordOn (eqb (left / 2) 10) (s .received) byte;
+  patterns = patternsOn (s .patterns) left byte;
+}
+
+-- bits 6, 5 and 4 of byte 92
+abbrev pub MONITORED : ℕ
+MONITORED = 0x40
+
+abbrev pub INTERNAL : ℕ
+INTERNAL = 0x20
+
+abbrev pub EXTERNAL : ℕ
+EXTERNAL = 0x10
+
+-- every byte was read, and that is not finite
+abbrev pub Coefficient : Failure
+Coefficient = record { number = 28; values = [] }
+
+abbrev pub Result : Failure
+Result = record { number = 29; values = [] }
+
+unfoldable pub measuresOf : Sensed → Reading → Measures
+measuresOf s reading = record { temperature = signed (s .temperature); voltage = s .voltage; bias = s .bias; sent = s .sent; reading = reading }
+
+-- without an external calibration
+unfoldable pub readingOf : Sensed → Reading
+readingOf s = pick (has (s .kind) INTERNAL) (Internal (s .received)) Absent
+
+-- with one
+unfoldable pub calibratedOf : Sensed → Powered → R Measures
+calibratedOf s (PoweredOk x) = Ok (measuresOf s (Calibrated x))
+calibratedOf s PoweredCoefficient = Err Coefficient
+calibratedOf s PoweredResult = Err Result
+
+-- of a module that is not monitored
+abbrev pub nothing : Measures
+nothing = record { temperature = pos 0; voltage = 0; bias = 0; sent = 0; reading = Absent }
+
+-- bit 6 clear: absent, the other values zero; else bit 4 set: calibrated; else bit 5 set: internal; else absent
+unfoldable pub measured : Sensed → R Measures
+measured s =
+    pick (noneOf (s .kind) MONITORED) (Ok nothing)
+    (pick (has (s .kind) EXTERNAL) (calibratedOf s (powerOf (s .patterns) (s .received)))
+    (Ok (measuresOf s (readingOf s))))
+
+-- the papers' number of an end, or 0
+abbrev pub measuredNumber : Measured → ℕ
+measuredNumber (MeasuredOk m) = 0
+measuredNumber MeasuredCoefficient = 28
+measuredNumber MeasuredResult = 29
+measuredNumber (MeasuredErr e) = errorNumber e
+
+-- what a case of the code's enum tells
+unfoldable pub measuredOf : Measured → R Measures
+measuredOf (MeasuredOk m) = Ok m
+measuredOf MeasuredCoefficient = Err (record { number = measuredNumber MeasuredCoefficient; values = [] })
+measuredOf MeasuredResult = Err (record { number = measuredNumber MeasuredResult; values = [] })
+measuredOf (MeasuredErr e) = Err (failureOf e)

@@ -26,6 +26,8 @@ use Rattle.demand.specs.Fine.{AtOnce}
 use Rattle.bench.specs.AtOnce.{atOnceAt, atOnce}
 use Rattle.demand.proofs.Locks.{aside}
 use Rattle.sfp.proofs.Spreads.{identify-holds}
+use Rattle.light.specs.Light.{light, requestAt as lightRequest}
+use Rattle.light.proofs.Spreads.{light-holds}
 use Rattle.i2c.proofs.Masks.{mask-plain}
 use Rattle.i2c.proofs.Noteless.{once-noteless}
 use Rattle.demand.proofs.AtOnce.{at-once-then, at-once-try, at-once-pick, at-once-ret, at-once-note, noteless-at-once, delay-at-once, read-at-once, change-at-once, acquire-at-once, release-at-once}
@@ -148,3 +150,7 @@ module _ (port : Port) where
   pub rate-at-once : (q : Sequence) (ten : Bool) → AtOnces port (softRateSelect q port ten)
   unfolding softRateSelect
   rate-at-once q ten = rate-byte-at-once q ten true 0x6e _ (λ ok. rate-byte-at-once q ten ok 0x76 _ (λ both. ret-at-once _))
+
+  pub light-at-once : (q : Sequence) (tries : ℕ) → AtOnces port (light q port tries)
+  light-at-once q tries =
+      light-holds (λ p. AtOnces port p) (λ v. ret-at-once v) q port tries (λ left k h. bind-at-once _ k (transferred-at-once (lightRequest left) (locked q) tries) h)

@@ -16,6 +16,7 @@ pub mod Runs
 pub mod Claim
 pub mod Possible
 pub mod Page
+pub mod Light
 pub mod WriteByte
 pub mod Rate
 pub mod Library

@@ -27,12 +27,13 @@ use Rattle.sfp.specs.declared.Identity.{Identity}
 use Rattle.sfp.specs.Identify.{identify}
 use Rattle.sfp.specs.Steps.{IDENTIFY-STEPS}
 use Rattle.page.specs.declared.walk.Form.{Form}
+use Rattle.light.specs.Light.{light}
 use Rattle.demand.specs.Fine.{AtOnce}
 use Rattle.demand.specs.Claim.{machine, benchRun, Works, Premise, atStart, Premises, CallPremises}
 use Rattle.demand.specs.PageClaim.{pageCall}
 use Rattle.demand.specs.WriteClaim.{addressOf, writeCall, rateCall}
 use Rattle.demand.proofs.AtOnce.{at-once-stays}
-use Rattle.demand.proofs.AtOnceCalls.{AtOnces, transferred-at-once, identify-at-once, page-at-once, rate-at-once}
+use Rattle.demand.proofs.AtOnceCalls.{AtOnces, transferred-at-once, identify-at-once, page-at-once, rate-at-once, light-at-once}
 
 -- each of the atOnce answers works
 at-once-works : (x : Access) → Works x (atOnce x)
@@ -127,6 +128,11 @@ module _ (q : Sequence) (port : Port) (b : Bench) (word : ℕ) where
       → (answers : List Answer) × CallPremises port (pageCall q port form tries buffer) b word answers × (n ≤ length answers) × Finished (benchRun port (pageCall q port form tries buffer) b word answers .outcome)
   unfolding CallPremises
   page-possible form tries buffer n = list-possible port (pageCall q port form tries buffer) b word n (page-at-once port q form tries buffer)
+
+  -- and for light and temperature
+  pub light-possible : (tries n : ℕ)
+      → (answers : List Answer) × CallPremises port (light q port tries) b word answers × (n ≤ length answers) × Finished (benchRun port (light q port tries) b word answers .outcome)
+  light-possible tries n = list-possible port (light q port tries) b word n (light-at-once port q tries)
 
 module _ (port : Port) (b : Bench) (word n : ℕ) where
   -- For a byte written, and for a rate select

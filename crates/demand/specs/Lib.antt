@@ -1,5 +1,6 @@
 pub mod Claim
 pub mod PageClaim
 pub mod WriteClaim
+pub mod LightClaim
 pub mod Fine
 pub mod Library

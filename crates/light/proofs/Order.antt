@@ -5,7 +5,7 @@ use mathlib.Core.Bool.{true}
 use mathlib.Core.List.{[]}
 use native.Mathlib.Omega.{arith}
 use Rattle.hardware.specs.declared.Port.{Port}
-use Rattle.hardware.specs.Prog.{orErr, pick}
+use Rattle.hardware.specs.Prog.{pick}
 use Rattle.transfer.specs.declared.attempt.Sequence.{Sequence}
 use Rattle.sfp.specs.Classes.{Bytes}
 use Rattle.light.specs.Sensed.{fresh, patternOn, patternsOn, taken, wordOn}

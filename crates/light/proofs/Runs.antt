@@ -12,9 +12,9 @@ use Rattle.hardware.specs.declared.Answer.{Answer}
 use Rattle.hardware.specs.declared.Meter.{Meter}
 use Rattle.hardware.specs.declared.Port.{Port}
 use Rattle.hardware.specs.Asked.{Asked, no, yes, andThen, question, openPort, fits, admitting}
-use Rattle.hardware.specs.Prog.{Prog, R, Counted, blank, tally}
+use Rattle.hardware.specs.Prog.{Prog, R, blank, tally}
 use Rattle.hardware.specs.Promise.{Keeps}
-use Rattle.hardware.specs.Runs.{Run, run, runAsked, Awaited, AwaitedIn, driven, ended, meterIn, counted, leftAfter, leftAskedAfter, Exchange, answersOf, AllKept, Asks, IfYes, Lasts}
+use Rattle.hardware.specs.Runs.{run, runAsked, Awaited, AwaitedIn, driven, ended, meterIn, counted, leftAfter, leftAskedAfter, Exchange, answersOf, AllKept, Asks, IfYes, Lasts}
 use Rattle.hardware.proofs.Laws.{run-tally, StepsOn, is-true, opened-runs}
 use Rattle.hardware.proofs.Ends.{run-ends, ask-ends, ends-tally}
 use Rattle.hardware.proofs.Longest.{Falls, lasting-falls, Accepts, steps-few}

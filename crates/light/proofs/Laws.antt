@@ -1,7 +1,7 @@
 -- Bytes one after another: what the machine's proofs use.
 use Prim.Native.Nat.{ℕ, _+_, _*_, _-_, _<_, _≤_, suc}
 use mathlib.Core.Path.{_≡_, ap}
-use mathlib.Core.Bool.{true}
+use mathlib.Core.Bool.{true, false, true≢false}
 use native.Mathlib.Nat.{mul-le-mul, suc-mul}
 use native.Mathlib.Omega.{arith}
 use lib.Dec.{leb}
@@ -16,7 +16,7 @@ use Rattle.i2c.specs.Retry.{wanted}
 use Rattle.i2c.proofs.Laws.{fits-below}
 use Rattle.light.specs.declared.sensed.Sensed.{Sensed}
 use Rattle.light.specs.declared.walk.Light.{Light}
-use Rattle.light.specs.Light.{FIRST, lightFrom, requestAt}
+use Rattle.light.specs.Light.{FIRST, lightFrom, requestAt, stops}
 use Rattle.light.specs.Walk.{capAt, validLight}
 
 -- at most 31 bytes with 255 attempts each
@@ -51,6 +51,11 @@ cap-next n tries left z h k = rw (next) (one-more n (suc (FIRST - left)) tries k
   where
     next : FIRST - (left - 1) ≡ suc (FIRST - left)
     next = omega arith
+
+-- where one follows, there is one
+pub follows-some : (kind left : ℕ) → stops kind left ≡ false → left ≡ 0 → ⊥
+unfolding stops pick
+follows-some kind left h z = true≢false (rw z at h)
 
 -- with bytes left, the next is the one that has one fewer after it
 pub again : (q : Sequence) (port : Port) (tries left : ℕ) (s : Sensed) → (left ≡ 0 → ⊥)

@@ -3,6 +3,7 @@ pub mod Exact
 pub mod Signed
 pub mod Laws
 pub mod Order
+pub mod Results
 pub mod Spreads
 pub mod Ends
 pub mod Runs

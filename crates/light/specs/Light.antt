@@ -1,6 +1,6 @@
 -- Light and temperature of a module: each byte by one locked `read_byte`, and byte 92 of A0, the first, decides which follow.
 use Prim.Native.Nat.{ℕ, _+_, _-_, suc, zero}
-use mathlib.Core.Bool.{Bool, false}
+use mathlib.Core.Bool.{Bool}
 use lib.Dec.{eqb, ltb}
 use Rattle.hardware.specs.declared.Port.{Port}
 use Rattle.hardware.specs.Prog.{Prog, ret, R, orErr, pick, _>>=_}
@@ -15,7 +15,7 @@ use Rattle.light.specs.declared.sensed.Sensed.{Sensed}
 use Rattle.light.specs.declared.sensed.Measures.{Measures}
 use Rattle.light.specs.Sensed.{EXTERNAL, MONITORED, fresh, measured, taken}
 
--- the most bytes after one
+-- the bytes after the first
 abbrev pub FIRST : ℕ
 FIRST = 30
 
@@ -29,9 +29,9 @@ offsetAt left = pick (ltb 29 left) 92 (pick (ltb 19 left) (96 + (29 - left)) (56
 unfoldable pub requestAt : ℕ → Request
 requestAt left = ReadByte (deviceAt left) (offsetAt left)
 
--- nothing more is read after the byte with so many after it: bit 6 is clear, or all is read but the coefficients and bit 4 is clear
+-- nothing is read after this byte: after byte 92 where bit 6 is clear, after byte 105 where bit 4 is, after the last
 unfoldable pub stops : ℕ → ℕ → Bool
-stops kind left = pick (eqb left 30) (noneOf kind MONITORED) (pick (eqb left 20) (noneOf kind EXTERNAL) false)
+stops kind left = pick (eqb left 30) (noneOf kind MONITORED) (pick (eqb left 20) (noneOf kind EXTERNAL) (eqb left 0))
 
 -- a byte was taken; again: the next ones
 unfoldable pub lightOn : (Sensed → Prog (R Measures)) → ℕ → Sensed → Prog (R Measures)

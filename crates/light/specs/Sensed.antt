@@ -75,14 +75,14 @@ unfoldable pub measuresOf : Sensed → Reading → Measures
 measuresOf s reading = record { temperature = signed (s .temperature); voltage = s .voltage; bias = s .bias; sent = s .sent; reading = reading }
 
 -- without an external calibration
-unfoldable pub readingOf : Sensed → Reading
-readingOf s = pick (has (s .kind) INTERNAL) (Internal (s .received)) Absent
+unfoldable pub readingOf : ℕ → ℕ → Reading
+readingOf kind received = pick (has kind INTERNAL) (Internal received) Absent
 
--- with one
-unfoldable pub calibratedOf : Sensed → Powered → R Measures
-calibratedOf s (PoweredOk x) = Ok (measuresOf s (Calibrated x))
-calibratedOf s PoweredCoefficient = Err Coefficient
-calibratedOf s PoweredResult = Err Result
+-- with one; values: the other four beside a reading
+unfoldable pub calibratedOf : (Reading → Measures) → Powered → R Measures
+calibratedOf values (PoweredOk x) = Ok (values (Calibrated x))
+calibratedOf values PoweredCoefficient = Err Coefficient
+calibratedOf values PoweredResult = Err Result
 
 -- of a module that is not monitored
 abbrev pub nothing : Measures
@@ -92,8 +92,8 @@ nothing = record { temperature = pos 0; voltage = 0; bias = 0; sent = 0; reading
 unfoldable pub measured : Sensed → R Measures
 measured s =
     pick (noneOf (s .kind) MONITORED) (Ok nothing)
-    (pick (has (s .kind) EXTERNAL) (calibratedOf s (powerOf (s .patterns) (s .received)))
-    (Ok (measuresOf s (readingOf s))))
+    (pick (has (s .kind) EXTERNAL) (calibratedOf (measuresOf s) (powerOf (s .patterns) (s .received)))
+    (Ok (measuresOf s (readingOf (s .kind) (s .received)))))
 
 -- the papers' number of an end, or 0
 abbrev pub measuredNumber : Measured → ℕ

@@ -139,17 +139,17 @@ fn values(s: Sensed, reading: Reading) -> Measures
 }
 
 // Without an external calibration.
-fn uncalibrated(s: Sensed) -> Reading
-    ensures { λ r. ⌜ r ≡ readingOf s ⌝ }
+fn uncalibrated(kind: u8, received: u16) -> Reading
+    ensures { λ r. ⌜ r ≡ readingOf kind received ⌝ }
 {
-    if sfp::class::has(s.kind, INTERNAL) {
-        return Reading::Internal(s.received);
+    if sfp::class::has(kind, INTERNAL) {
+        return Reading::Internal(received);
     }
     Reading::Absent
 }
 
 fn calibrated(s: Sensed, p: Powered) -> Measured
-    ensures { λ r. ⌜ measuredOf r ≡ calibratedOf s p ⌝ }
+    ensures { λ r. ⌜ measuredOf r ≡ calibratedOf (measuresOf s) p ⌝ }
 {
     match p {
         Powered::Ok(x) => Measured::Ok(values(s, Reading::Calibrated(x))),
@@ -169,5 +169,5 @@ pub fn judge(s: Sensed) -> Measured
         let p = s.patterns;
         return calibrated(s, crate::power::power(p, s.received));
     }
-    Measured::Ok(values(s, uncalibrated(s)))
+    Measured::Ok(values(s, uncalibrated(s.kind, s.received)))
 }

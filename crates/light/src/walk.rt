@@ -70,7 +70,7 @@ fn request(left: u8) -> Request
     Request::ReadByte(device(left), offset(left))
 }
 
-// Whether byte 92 asks for no byte after this one.
+// Whether no byte follows this one: byte 92, whose kind it is, asks for none, or there is none.
 fn last(kind: u8, left: u8) -> bool
     ensures { λ r. ⌜ r ≡ stops kind left ⌝ }
 {
@@ -80,7 +80,7 @@ fn last(kind: u8, left: u8) -> bool
     if left == 20 {
         return sfp::class::none_of(kind, EXTERNAL);
     }
-    false
+    left == 0
 }
 
 // The most transfers up to the byte that is read now, its own included.
@@ -120,9 +120,6 @@ fn next(port: Port, q: Sequence, tries: u8, left: u8, s: Sensed) -> LightNext
     ensures { λ t. ⌜ Keeps (lightNext q port tries t ≡ erase (lightOn (lightFrom q port tries left) left s)) ((m : Meter) → left ≤ 30 → m .transfers ≤ capAt tries left → validLightNext port tries m t ≡ true) ⌝ }
 {
     if last(s.kind, left) {
-        return LightNext::End(crate::sensed::judge(s));
-    }
-    if left == 0 {
         return LightNext::End(crate::sensed::judge(s));
     }
     let after = left - 1;

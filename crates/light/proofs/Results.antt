@@ -3,28 +3,37 @@ use Prim.Native.Nat.{ℕ, _<_, suc}
 use mathlib.Core.Path.{_≡_, _∙_, refl, ap}
 use mathlib.Core.Bool.{true, false}
 use mathlib.Core.List.{List, _∷_, _++_, append-assoc}
+use native.Mathlib.Omega.{arith}
 use borrow.Author.Tests.{not-false, not-true}
 use lib.ListN.{length}
 use Rattle.hardware.specs.declared.Answer.{Answer}
 use Rattle.hardware.specs.declared.Port.{Port}
-use Rattle.hardware.specs.Failures.{Failure}
-use Rattle.hardware.specs.Prog.{Prog, R, Ok, Err, orErr, pick}
+use Rattle.hardware.specs.Failures.{Failure, I2c}
+use Rattle.hardware.specs.Prog.{Prog, ret, R, Ok, Err, orErr, pick, _>>=_}
 use Rattle.hardware.specs.Registers.{noneOf}
 use Rattle.hardware.specs.Runs.{ended, run, EndsOver}
 use Rattle.hardware.proofs.Ends.{run-then}
 use Rattle.transfer.specs.declared.attempt.Sequence.{Sequence}
 use Rattle.i2c.specs.declared.once.Request.the-variants.{ReadByte}
-use Rattle.i2c.specs.I2c.{locked, transferred}
+use Rattle.i2c.specs.I2c.{locked, qsfp, transferred}
+use Rattle.i2c.proofs.Counts.{none-allowed}
 use Rattle.sfp.specs.Classes.{Bytes, has}
 use Rattle.sfp.specs.Identify.{EEPROM}
 use Rattle.sfp.specs.Rate.{DIAG}
 use Rattle.light.specs.declared.power.Patterns.{Patterns}
+use Rattle.light.specs.declared.power.Reading.the-variants.{Calibrated}
 use Rattle.light.specs.declared.sensed.Measures.{Measures}
-use Rattle.light.specs.Power.{powerOf}
+use Rattle.light.specs.Power.{counted, powerOf}
 use Rattle.light.specs.Sensed.{EXTERNAL, MONITORED, calibratedOf, measured, measuresOf, nothing, readingOf, taken}
 use Rattle.light.specs.Light.{light}
 use Rattle.light.specs.Order.{Brings, none, one, Fails, here, later, lightRead, measuresAt, patternsAt, placed, read, reads, receivedAt, sensedOf, span, takenAll}
+use Rattle.light.proofs.Exact.{power-straight, straight}
 use Rattle.light.proofs.Order.{all-placed, light-reads, values-placed}
+
+-- with 0 attempts, and no handshake, the call has ended before its first access
+pub light-none : (q : Sequence) (port : Port) → qsfp port ≡ false → light q port 0 ≡ ret (Err (I2c EEPROM))
+unfolding lightRead read orErr _>>=_
+light-none q port h = rw (light-reads q port 0, none-allowed port EEPROM 92 (locked q) h)
 
 clear : (kind bit : ℕ) → has kind bit ≡ false → noneOf kind bit ≡ true
 unfolding has
@@ -111,6 +120,12 @@ module _ (q : Sequence) (port : Port) (tries : ℕ) where
           (read-run EEPROM 92 kind _ first (l ++ (n ++ m)) e
           ∙ rw (set kind MONITORED h) (reads-run DIAG 96 l _ b _ (n ++ m)
           ∙ rw (set kind EXTERNAL g) (reads-run DIAG 56 n _ d _ m ∙ ap ended (ap measured (all-placed kind a2 small) ∙ says-calibrated kind a2 _ h g))))
+
+      -- the top three and the last coefficient +0 and Rx_PWR(1) = 1: the raw count, exactly
+      pub light-straight : has kind EXTERNAL ≡ true → patternsAt a2 ≡ straight → (n m : List Answer) → Brings q port tries DIAG 56 n (span a2 56 20)
+          → (run (light q port tries) (first ++ (l ++ (n ++ m)))) .status ≡ ended (Ok (measuresAt a2 (Calibrated (counted (receivedAt a2)))))
+      unfolding calibratedOf
+      light-straight g s n m d = light-calibrated g n m d ∙ rw (s, power-straight (receivedAt a2) (omega (arith, small 104, small 105)))
 
       pub coefficient-fails : has kind EXTERNAL ≡ true → (n m : List Answer) (x : Failure) → Fails q port tries DIAG 56 20 n x
           → (run (light q port tries) (first ++ (l ++ (n ++ m)))) .status ≡ ended (Err x)

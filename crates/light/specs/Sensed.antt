@@ -26,7 +26,7 @@ use Rattle.light.specs.Words.{signed, wordOf}
 abbrev pub fresh : Sensed
 fresh = record { kind = 0; temperature = 0; voltage = 0; bias = 0; sent = 0; received = 0; patterns = record { c4 = 0; c3 = 0; c2 = 0; c1 = 0; c0 = 0 } }
 
--- a word of two bytes and a pattern of four, with a byte behind those before it; here: it is theirs
+-- a word with a byte behind its low one, and a pattern with one behind its low three; here: the byte is theirs
 unfoldable pub wordOn : Bool → ℕ → ℕ → ℕ
 wordOn here word byte = pick here (wordOf (word % 256) byte) word
 
@@ -71,6 +71,7 @@ Coefficient = record { number = 28; values = [] }
 abbrev pub Result : Failure
 Result = record { number = 29; values = [] }
 
+-- the four values beside a reading
 unfoldable pub measuresOf : Sensed → Reading → Measures
 measuresOf s reading = record { temperature = signed (s .temperature); voltage = s .voltage; bias = s .bias; sent = s .sent; reading = reading }
 

@@ -35,6 +35,7 @@ pub enum Measured {
     Err(Error),
 }
 
+// Before the first byte.
 pub const FRESH: Sensed = Sensed {
     kind: 0,
     temperature: 0,
@@ -70,7 +71,7 @@ pub fn measured_number(r: Measured) -> u8
     }
 }
 
-// A byte behind those of a word, which keeps its last one before it; where it is not this word's, the word.
+// A word with a byte behind its low one, where the byte is this word's.
 fn word_on(here: bool, word: u16, byte: u8) -> u16
     ensures { λ r. ⌜ r ≡ wordOn here word byte ⌝ }
 {
@@ -80,6 +81,7 @@ fn word_on(here: bool, word: u16, byte: u8) -> u16
     word
 }
 
+// A pattern with a byte behind its low three.
 fn pattern_on(here: bool, pattern: u32, byte: u8) -> u32
     ensures { λ r. ⌜ r ≡ patternOn here pattern byte ⌝ }
 {
@@ -126,6 +128,7 @@ pub fn take(s: Sensed, left: u8, byte: u8) -> Sensed
     }
 }
 
+// The four values beside a reading.
 fn values(s: Sensed, reading: Reading) -> Measures
     ensures { λ r. ⌜ r ≡ measuresOf s reading ⌝ }
 {
@@ -148,6 +151,7 @@ fn uncalibrated(kind: u8, received: u16) -> Reading
     Reading::Absent
 }
 
+// With one.
 fn calibrated(s: Sensed, p: Powered) -> Measured
     ensures { λ r. ⌜ measuredOf r ≡ calibratedOf (measuresOf s) p ⌝ }
 {

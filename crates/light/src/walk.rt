@@ -70,7 +70,7 @@ fn request(left: u8) -> Request
     Request::ReadByte(device(left), offset(left))
 }
 
-// Whether no byte follows this one: byte 92, whose kind it is, asks for none, or there is none.
+// Whether no byte follows this one. kind: byte 92, which asks for those after it.
 fn last(kind: u8, left: u8) -> bool
     ensures { λ r. ⌜ r ≡ stops kind left ⌝ }
 {

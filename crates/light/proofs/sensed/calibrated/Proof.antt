@@ -29,6 +29,4 @@ unfolding measuredOf calibratedOf
 returns-3 c = rw (c .enum-told2 .given .1)
 
 pub calibrated-spec : {M : Type 1} → statement M
-calibrated-spec =
-    tie.close
-    (tie.spec enum-known-p values-requires enum-told enum-told-2 returns returns-2 returns-3)
+calibrated-spec = tie.close (tie.spec enum-known-p values-requires enum-told enum-told-2 returns returns-2 returns-3)

@@ -41,15 +41,5 @@ returns-3 c = rw (← c .before .before .before .before .before .none-of .ensure
 
 pub judge-spec : {M : Type 1} → statement M
 judge-spec =
-    tie.close
-    (tie.spec
-    none-of-requires
-    values-requires
-    returns
-    has-requires
-    power-requires
-    calibrated-requires
-    returns-2
-    uncalibrated-requires
-    values-requires-2
-    returns-3)
+    tie.close (tie.spec none-of-requires values-requires returns has-requires power-requires calibrated-requires
+    returns-2 uncalibrated-requires values-requires-2 returns-3)

@@ -25,11 +25,5 @@ returns c = cc
 
 pub patterns-on-spec : {M : Type 1} → statement M
 patterns-on-spec =
-    tie.close
-    (tie.spec
-    pattern-on-requires
-    pattern-on-requires-2
-    pattern-on-requires-3
-    pattern-on-requires-4
-    pattern-on-requires-5
-    returns)
+    tie.close (tie.spec pattern-on-requires pattern-on-requires-2 pattern-on-requires-3 pattern-on-requires-4
+    pattern-on-requires-5 returns)

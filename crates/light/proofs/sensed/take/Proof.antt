@@ -31,13 +31,5 @@ returns c = cc
 
 pub take-spec : {M : Type 1} → statement M
 take-spec =
-    tie.close
-    (tie.spec
-    kind-on-requires
-    word-on-requires
-    word-on-requires-2
-    word-on-requires-3
-    word-on-requires-4
-    word-on-requires-5
-    patterns-on-requires
-    returns)
+    tie.close (tie.spec kind-on-requires word-on-requires word-on-requires-2 word-on-requires-3 word-on-requires-4
+    word-on-requires-5 patterns-on-requires returns)

@@ -5,11 +5,12 @@ use crate::answers::{Failed, Fnv, Player, Rule, Stream};
 use crate::driver::i2c::{self, Sequence};
 use crate::driver::sfp::{self, Kind, Module};
 use crate::driver::{hostif, sync, Error, Family, Port};
+use crate::light;
 use crate::lines::{Lines, MARK};
 use crate::page;
 use crate::script::script;
 
-// Function numbers. 10 and up are `i2c`'s, 20 and up `sfp`'s, 24 and up pages.
+// Function numbers. 10 and up are `i2c`'s, 20 and up `sfp`'s, 24 and 25 pages.
 pub const LOCK: u32 = 0;
 pub const UNLOCK: u32 = 1;
 pub const ACQUIRE: u32 = 2;
@@ -33,6 +34,7 @@ pub const RATE_SELECT: u32 = 22;
 pub const METHOD: u32 = 23;
 pub const PAGE: u32 = 24;
 pub const QSFP_PAGE: u32 = 25;
+pub const LIGHT: u32 = 26;
 
 /// Added to a function's number on the line where the sequence is S-2's.
 pub const WITH_ROUNDS: u32 = 100;
@@ -112,6 +114,7 @@ impl Case {
     fn queue(&self) -> Vec<u8> {
         let words = match self.function {
             PAGE | QSFP_PAGE => return page::bytes(self.args[1], self.args[2]),
+            LIGHT => return light::bytes(self.args[1], self.args[2]),
             IDENTIFY | IDENTIFY_QSFP => &self.args[..],
             RATE_SELECT => &self.args[1..],
             _ => &[],
@@ -136,6 +139,7 @@ impl Case {
             IDENTIFY | IDENTIFY_QSFP | RATE_SELECT => self.module(io),
             PAGE => self.page(io, 0),
             QSFP_PAGE => self.page(io, 128),
+            LIGHT => self.light(io),
             LOCK => numbers(sync::probe_lock(io, self.family()), |()| [0; 3]),
             UNLOCK => numbers(sync::probe_unlock(io, self.family()), |()| [0; 3]),
             ACQUIRE => numbers(sync::acquire(io, self.port(), a1), |()| [0; 3]),
@@ -241,6 +245,18 @@ impl Case {
         result
     }
 
+    /// The third value is the count of transfers, failures included.
+    fn light(&self, io: &mut Player) -> [u32; 4] {
+        i2c::probe_transfers();
+        let mut result = match light::read(io, self.port(), self.args[0] as usize) {
+            Ok(Err(code)) => [code, 0, 0, 0],
+            Ok(Ok(measures)) => numbers(Ok(measures), |m| m.values()),
+            Err(failure) => numbers(Err::<(), _>(failure), |()| [0; 3]),
+        };
+        result[3] = i2c::probe_transfers();
+        result
+    }
+
     fn plain(&self, function: u32) -> u32 {
         match function {
             X550EM => i2c::probe_x550em(self.family()).into(),
@@ -320,6 +336,7 @@ impl Case {
             RATE_SELECT => a1 <= 1,
             METHOD => a1 <= NVM_KEY && a2 & !MULTISPEED < KINDS.len() as u32,
             PAGE | QSFP_PAGE => a1 <= 0xff && a3 <= 3,
+            LIGHT => a1 <= 0xff,
             _ => self.function <= PHY || self.function == QSFP_SETUP,
         };
         if !known {
@@ -337,7 +354,7 @@ impl Case {
 
 /// The function takes a clearing sequence by name.
 pub fn sequenced(function: u32) -> bool {
-    matches!(function, READ_BYTE..=WRITE_COMBINED | IDENTIFY..=RATE_SELECT | PAGE | QSFP_PAGE)
+    matches!(function, READ_BYTE..=WRITE_COMBINED | IDENTIFY..=RATE_SELECT | PAGE..=LIGHT)
 }
 
 /// The arguments of a transfer: the offset or register is `low`, the

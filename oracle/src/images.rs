@@ -1,9 +1,12 @@
-//! The images of modules that the program `report` ships: made here and not
-//! dumped from modules. Each is page A0 and then page A2, laid out by SFF-8472
-//! with all its sums right. Byte numbers below are SFF-8472's, decimal.
+//! The images of modules that the programs `report` and `monitor` ship: made
+//! here and not dumped from modules. Each is page A0 and then page A2, laid out
+//! by SFF-8472 with all its sums right. Byte numbers below are SFF-8472's,
+//! decimal.
 
 use std::fs;
 use std::path::Path;
+
+use crate::light::{EXTERNAL, INTERNAL, MONITORED};
 
 type Page = [u8; 256];
 
@@ -72,9 +75,52 @@ const fn plan(
 
 pub fn write(folder: &str) -> Result<(), String> {
     for (i, plan) in PLANS.iter().enumerate() {
-        let file = Path::new(folder).join(format!("{}.bin", plan.name));
-        let bytes = [a0(plan, i + 1), a2(plan)].concat();
-        fs::write(&file, bytes).map_err(|e| format!("{}: {e}", file.display()))?;
+        put(folder, plan.name, &[a0(plan, i + 1), a2(plan)].concat())?;
+    }
+    Ok(())
+}
+
+fn put(folder: &str, name: &str, bytes: &[u8]) -> Result<(), String> {
+    let file = Path::new(folder).join(format!("{name}.bin"));
+    fs::write(&file, bytes).map_err(|e| format!("{}: {e}", file.display()))
+}
+
+/// An image for `monitor`: its kind of calibration, the temperature, the count
+/// of received light and the coefficients, Rx_PWR(4) first.
+type Light = (&'static str, u8, u16, u16, [f32; 5]);
+
+const LINE: [f32; 5] = [0.0, 0.0, 0.0, 1.0, 0.0];
+const BENT: [f32; 5] = [1e-16, -2e-11, 1.5e-6, 0.98, -12.5];
+const LIGHTS: [Light; 12] = [
+    ("internal", INTERNAL, 0x2380, 4000, LINE),
+    ("straight", EXTERNAL, 0x2380, 4000, LINE),
+    ("curved", EXTERNAL, 0x1f41, 4000, BENT),
+    ("negative", EXTERNAL, 0x1f41, 10, BENT),
+    ("raw", 0, 0x2380, 4000, LINE),
+    ("nan", EXTERNAL, 0x2380, 4000, [0.0, 0.0, f32::NAN, 1.0, 0.0]),
+    ("infinite", EXTERNAL, 0x2380, 4000, [0.0, 0.0, 0.0, 1.0, f32::NEG_INFINITY]),
+    ("overflow", EXTERNAL, 0x2380, 4000, [f32::MAX, 0.0, 0.0, 1.0, 0.0]),
+    ("large", EXTERNAL, 0x2380, 4000, [1e20, 0.0, 0.0, 1.0, 0.0]),
+    ("coldest", INTERNAL, 0x8000, 0, LINE),
+    ("below0", INTERNAL, 0xffff, 1, LINE),
+    ("hottest", INTERNAL, 0x7fff, 0xffff, LINE),
+];
+
+/// The images of `monitor`: those above in a 10GBASE-SR, and a cable, which has
+/// no monitoring.
+pub fn lights(folder: &str) -> Result<(), String> {
+    let (cable, fibre) = (&PLANS[0], &PLANS[2]);
+    put(folder, "absent", &[a0(cable, 101), a2(cable)].concat())?;
+    for (i, (name, kind, temperature, count, coefficients)) in LIGHTS.into_iter().enumerate() {
+        let (mut first, mut second) = (a0(fibre, i + 102), a2(fibre));
+        first[92] = MONITORED | kind | 0x08;
+        first[95] = sum(&first[64..95]);
+        for (four, c) in second[56..76].chunks_exact_mut(4).zip(coefficients) {
+            four.copy_from_slice(&c.to_be_bytes());
+        }
+        second[95] = sum(&second[..95]);
+        words(&mut second[96..106], &[temperature, 33001, 3001, 5000, count]);
+        put(folder, name, &[first, second].concat())?;
     }
     Ok(())
 }

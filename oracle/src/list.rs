@@ -10,6 +10,7 @@ use crate::driver::sync::{self, EEP, I2C0, I2C1, PHY0, PHY1, SHARED_I2C, SW_MNG}
 use crate::driver::Family;
 use crate::rules::*;
 
+mod light;
 mod pages;
 mod rounds;
 mod sfp;
@@ -52,6 +53,7 @@ pub fn cases() -> Vec<Case> {
     sfp::add(&mut list);
     pages::add(&mut list);
     rounds::add(&mut list);
+    light::add(&mut list);
     list.cases
 }
 

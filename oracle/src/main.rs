@@ -7,6 +7,7 @@ mod case;
 mod driver;
 mod fresh;
 mod images;
+mod light;
 mod lines;
 mod list;
 mod page;
@@ -22,7 +23,7 @@ use fresh::Fresh;
 
 const USAGE: &str =
     "usage: oracle list | fresh SEED COUNT | replay FILE | trace FILE LINE | count FILE | bench SEED COUNT | images DIR \
-     | records FILE DIR | words SEED COUNT DIR";
+     | lights DIR | records FILE DIR | words SEED COUNT DIR";
 /// Differing lines that `replay` shows.
 const SHOWN: usize = 10;
 
@@ -37,6 +38,7 @@ fn main() -> ExitCode {
         ["count", file] => count(file),
         ["bench", seed, count] => bench(seed, count),
         ["images", folder] => images::write(folder),
+        ["lights", folder] => images::lights(folder),
         ["records", file, folder] => text(file).and_then(|list| bench::record::records(&list, folder)),
         ["words", seed, count, folder] => {
             numbers(seed, count).and_then(|(seed, count)| bench::record::words(seed, count, folder))

@@ -3,6 +3,7 @@ use crate::calls;
 use crate::calls::Summary;
 use crate::host;
 use crate::host::Host;
+use crate::lights;
 use crate::methods;
 use crate::modules;
 use crate::pages;
@@ -28,8 +29,8 @@ fn device(d: u32) -> u16 {
 // Whether the number names a call.
 fn known(call: u32) -> bool {
     match call {
-        0..=8 | 10..=17 | 20..=25 => true,
-        111..=114 | 120..=122 | 124..=125 => true,
+        0..=8 | 10..=17 | 20..=26 => true,
+        111..=114 | 120..=122 | 124..=126 => true,
         _ => false,
     }
 }
@@ -127,6 +128,7 @@ fn call(words: &[u32; 45]) -> Summary {
         23 => methods::method(h, family, device, lan, a, words[5], words[6]),
         24 => pages::page(h, family, device, lan, a, s),
         25 => pages::qsfp_page(h, family, device, lan, a, s),
+        26 => lights::light(h, family, device, lan, a, s),
         _ => transfer(words),
     }
 }

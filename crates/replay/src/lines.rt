@@ -1,5 +1,6 @@
 // A rule of the lines: I2CCTL answers as if a module that acknowledges every byte were on its lines.
 use crate::rng;
+use crate::sensors;
 
 // Added to the register's number on a line of the list.
 pub const MARK: u32 = 0x8000_0000;
@@ -13,7 +14,8 @@ const LATE: u32 = 0x1_5f5c;
 // the SCL pulse, 1 to 8 for a byte's bits and 9 for its acknowledgement. since: the reads since SCL rose. first: the byte is
 // the address after a START. sends: that address asks the module to send. The queue of bytes that it sends: left is their
 // number, the next is the lowest byte of w1. paged: they are a page, whose bytes are made one by one from the stream w2, with
-// the sum of its part so far in total; in w3 which check bytes are wrong.
+// the sum of its part so far in total; in w3 which check bytes are wrong. sensed: they are those of the call of light, made from
+// that stream and from the shape w3.
 pub struct Lines {
     pub used: bool,
     pub register: u32,
@@ -37,6 +39,7 @@ pub struct Lines {
     pub w3: u32,
     pub paged: bool,
     pub total: u32,
+    pub sensed: bool,
 }
 
 pub(crate) fn unused() -> Lines {
@@ -63,6 +66,7 @@ pub(crate) fn unused() -> Lines {
         w3: 0,
         paged: false,
         total: 0,
+        sensed: false,
     }
 }
 
@@ -95,6 +99,15 @@ fn paged(l: Lines) -> Lines {
     }
 }
 
+// The next byte of the call of light, with so many left.
+fn sensed(l: Lines) -> Lines {
+    let x = rng::next(l.w2);
+    let mut next = l;
+    next.w2 = x;
+    next.w1 = sensors::byte(l.w3, l.left, rng::swapped(x) % 256);
+    next
+}
+
 // The lines with the queue that a call's arguments give.
 pub(crate) fn queued(l: Lines, call: u32, a1: u32, a2: u32, a3: u32) -> Lines {
     let mut next = l;
@@ -116,6 +129,13 @@ pub(crate) fn queued(l: Lines, call: u32, a1: u32, a2: u32, a3: u32) -> Lines {
             next.w2 = a2;
             next.w3 = a3;
             next = paged(next);
+        }
+        26 | 126 => {
+            next.left = 31;
+            next.sensed = true;
+            next.w2 = a2;
+            next.w3 = a3;
+            next = sensed(next);
         }
         _ => {}
     }
@@ -202,6 +222,9 @@ fn sent(l: Lines) -> Lines {
     }
     if l.paged {
         return paged(next);
+    }
+    if l.sensed {
+        return sensed(next);
     }
     next.w1 = shifted(l.w1, l.w2);
     next.w2 = shifted(l.w2, l.w3);

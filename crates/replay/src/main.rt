@@ -3,6 +3,7 @@
 mod calls;
 mod case;
 mod host;
+mod lights;
 mod lines;
 mod methods;
 mod modules;
@@ -13,6 +14,7 @@ mod plain;
 mod rng;
 mod rules;
 mod scripts;
+mod sensors;
 mod transfers;
 
 use parse::Line;

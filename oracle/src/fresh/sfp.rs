@@ -1,12 +1,15 @@
 //! Fresh cases of `sfp.rs`: as the locked transfers, with chosen bytes, and
-//! the methods of its record; and pages.
+//! the methods of its record; pages, and light.
 
 use super::*;
+use crate::light::{Shape, CHOICES, FINITE, MONITORED, NEAR_ONE, SMALL};
 
 impl Choice {
     pub fn module_call(&mut self) -> Case {
-        if self.percent(4) {
-            return self.page_call();
+        match self.below(100) {
+            0..=3 => return self.page_call(),
+            4..=11 => return self.light_call(),
+            _ => {}
         }
         let function = match self.below(9) {
             0..=3 => IDENTIFY,
@@ -36,6 +39,28 @@ impl Choice {
         let function = self.one(&[PAGE, QSFP_PAGE]);
         let mut case = self.at_port(function);
         case.args = [self.attempts(), self.word(), self.one(&[0, 0, 0, 0, 1, 2, 3])];
+        self.bus(&mut case);
+        case
+    }
+
+    /// Half with an external calibration, most of these with finite coefficients.
+    fn light_call(&mut self) -> Case {
+        let mut case = self.at_port(LIGHT);
+        let any = self.word() as u8;
+        let kind = self.one(&[any, any | MONITORED, 0x50, 0x58, 0x60, 0x68, 0x70, 0x40]);
+        let mostly = self.one(&[NEAR_ONE, SMALL, FINITE, FINITE]);
+        let often = if self.percent(80) { 80 } else { 0 };
+        let coefficients = [(); 5].map(|()| {
+            let any = self.below(CHOICES.len() as u32);
+            if self.percent(often) {
+                mostly
+            } else {
+                any
+            }
+        });
+        let shape =
+            Shape { kind, temperature: self.below(4), count: self.one(&[0, 0, 0, 1, 2, 3]), coefficients };
+        case.args = [self.attempts(), self.word(), shape.number()];
         self.bus(&mut case);
         case
     }

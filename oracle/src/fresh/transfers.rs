@@ -119,12 +119,13 @@ impl Choice {
         let family = case.family();
         let locked = match case.function {
             SCRIPT => false,
-            IDENTIFY..=QSFP_PAGE => true,
+            IDENTIFY..=LIGHT => true,
             _ => case.args[2] == 1,
         };
         // Reads of I2CCTL that most calls make.
         let reads = match case.function {
             PAGE | QSFP_PAGE => 8_000,
+            LIGHT => 1_500,
             IDENTIFY.. => 500,
             _ => 120,
         };

@@ -24,7 +24,7 @@ pub fn ports() -> Vec<(Family, u32, u32)> {
 }
 
 /// A port, another for each number.
-fn port(number: usize) -> (Family, u32, u32) {
+pub fn port(number: usize) -> (Family, u32, u32) {
     let all = ports();
     all[number % all.len()]
 }

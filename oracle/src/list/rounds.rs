@@ -1,5 +1,5 @@
-//! The groups of the sequence of rounds, which come last. Here every case has
-//! it, save two of `longest`.
+//! The groups of the sequence of rounds, which follow the pages. Here every
+//! case has it, save two of `longest`.
 
 use super::pages::*;
 use super::sfp::*;
@@ -33,7 +33,7 @@ fn rounds(case: Case) -> Case {
 
 /// The first look at SDA finds it low, and so do this many rounds. A round
 /// has two reads: the try at SCL and the look at SDA.
-fn low_at_first(case: &Case, low: u32) -> Case {
+pub fn low_at_first(case: &Case, low: u32) -> Case {
     sda_low(case, LOOK, 1 + 2 * low)
 }
 

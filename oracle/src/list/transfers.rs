@@ -52,7 +52,7 @@ impl Call {
 
     /// Asks for the QSFP grant where the port needs it.
     fn asks_grant(self) -> bool {
-        matches!(self.function, READ_BYTE | WRITE_BYTE | IDENTIFY..=RATE_SELECT | PAGE | QSFP_PAGE)
+        matches!(self.function, READ_BYTE | WRITE_BYTE | IDENTIFY..=RATE_SELECT | PAGE..=LIGHT)
     }
 }
 

@@ -1,0 +1,51 @@
+-- `run` is safe and ends. The measure is the number of steps that are left.
+use borrow.Author.Needs.{needs}
+use Rattle.monitor.proofs.readings.run.Statement.{statement}
+use Rattle.monitor.proofs.readings.run.Tie as tie
+
+abbrev Inv-loop : tie.InvT-loop
+Inv-loop told₀ state₀ left₀ told state left = Unit {0}
+
+abbrev μ-loop : tie.MeasureT-loop
+μ-loop told₀ state₀ left₀ told state left = left
+
+loop-holds : tie.Need-loop-holds Inv-loop μ-loop
+loop-holds c = search needs
+
+enum-known-told : tie.Need-enum-known-told Inv-loop μ-loop
+enum-known-told c = search needs
+
+met-requires : tie.Need-met-requires Inv-loop μ-loop
+met-requires c κs = search needs
+
+light-step-requires : tie.Need-light-step-requires Inv-loop μ-loop
+light-step-requires c κs = search needs
+
+enum-known-told-2 : tie.Need-enum-known-told-2 Inv-loop μ-loop
+enum-known-told-2 c = search needs
+
+returns : tie.Need-returns Inv-loop μ-loop
+returns c = search needs
+
+enum-told : tie.Need-enum-told Inv-loop μ-loop
+enum-told c = search needs
+
+returns-2 : tie.Need-returns-2 Inv-loop μ-loop
+returns-2 c = search needs
+
+sub-left : tie.Need-sub-left Inv-loop μ-loop
+sub-left c = search needs
+
+loop-less : tie.Need-loop-less Inv-loop μ-loop
+loop-less c = search needs
+
+loop-again : tie.Need-loop-again Inv-loop μ-loop
+loop-again c = search needs
+
+returns-3 : tie.Need-returns-3 Inv-loop μ-loop
+returns-3 c = search needs
+
+pub run-spec : {M : Type 1} → statement M
+run-spec =
+    tie.close (tie.spec Inv-loop μ-loop loop-holds enum-known-told met-requires light-step-requires enum-known-told-2 returns
+    enum-told returns-2 sub-left loop-less loop-again returns-3)

@@ -1,6 +1,4 @@
 -- `pattern` meets its contract.
-use mathlib.Core.Path.{refl, sym, _∙_}
-use mathlib.Core.Bool.{true≢false}
 use Rattle.unsigned.proofs.Laws.{no-nan}
 use Rattle.unsigned.proofs.pattern.Statement.{statement}
 use Rattle.unsigned.proofs.pattern.Tie as tie
@@ -9,10 +7,10 @@ float-to-bits-result : tie.Need-float-to-bits-result
 float-to-bits-result c = no-nan (c .before .args .x) (c .if1 .taken)
 
 returns : tie.Need-returns
-returns c e = refl
+returns c = rw (c .if1 .taken)
 
 returns-2 : tie.Need-returns-2
-returns-2 c e = absurd (true≢false (sym e ∙ c .if1 .left))
+returns-2 c = rw (c .if1 .left)
 
 pub pattern-spec : {M : Type 1} → statement M
 pattern-spec = tie.close (tie.spec float-to-bits-result returns returns-2)

@@ -11,9 +11,8 @@ use lib.Ieee.Back.{round-whole}
 use lib.Ieee.Exact.{HasValue}
 use lib.Ieee.Fits.{down-pos}
 use lib.Ieee.Scale.{finite, round-same}
-use Rattle.hardware.specs.Prog.{pick}
+use Rattle.hardware.specs.Prog.{Ok, pick}
 use Rattle.light.specs.declared.power.Patterns.{Patterns}
-use Rattle.light.specs.declared.power.Powered.the-variants.{Ok}
 use Rattle.light.specs.Power.{coefficientsOf, counted, hornerFrom, hornerOf, judged, powerOf, step}
 
 -- the patterns of +0, +0, +0, 1 and +0

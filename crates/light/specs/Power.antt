@@ -6,11 +6,12 @@ use lib.Dec.{eqb}
 use lib.IntN.{pos}
 use lib.Ieee.{Float, binary32, add, mul, ofBits, ofInt}
 use lib.Ieee.Scale.{finite}
-use Rattle.hardware.specs.Prog.{pick}
+use Rattle.hardware.specs.Failures.{Failure}
+use Rattle.hardware.specs.Prog.{R, Ok, Err, pick}
 use Rattle.light.specs.declared.power.Patterns.{Patterns}
 use Rattle.light.specs.declared.power.Coefficients.{Coefficients}
 use Rattle.light.specs.declared.power.Powered.{Powered}
-use Rattle.light.specs.declared.power.Powered.the-variants.{Ok, Coefficient, Result}
+use Rattle.light.specs.declared.power.Powered.the-variants.{Ok as PoweredOk, Coefficient as PoweredCoefficient, Result as PoweredResult}
 
 -- the eight bits of the exponent, above the 23 of the fraction, are not all ones
 abbrev pub finitePattern : ℕ → Bool
@@ -56,15 +57,22 @@ hornerOf c count = hornerFrom (counted count) (c .c4) (later c)
 unfoldable pub valuesOf : Coefficients → ℕ → List Float
 valuesOf c count = passed (counted count) (c .c4) (later c)
 
--- the papers' number of an end, or 0
-abbrev pub poweredNumber : Powered → ℕ
-poweredNumber (Ok x) = 0
-poweredNumber Coefficient = 28
-poweredNumber Result = 29
+-- the failures: a coefficient that is not finite, and a power that is not
+abbrev pub Coefficient : Failure
+Coefficient = record { number = 28; values = [] }
 
-unfoldable pub judged : Float → Powered
-judged x = pick (finite x) (Ok x) Result
+abbrev pub Result : Failure
+Result = record { number = 29; values = [] }
+
+unfoldable pub judged : Float → R Float
+judged x = pick (finite x) (Ok x) (Err Result)
 
 -- the coefficients, then the result
-unfoldable pub powerOf : Patterns → ℕ → Powered
-powerOf p count = pick (allFinite p) (judged (hornerOf (coefficientsOf p) count)) Coefficient
+unfoldable pub powerOf : Patterns → ℕ → R Float
+powerOf p count = pick (allFinite p) (judged (hornerOf (coefficientsOf p) count)) (Err Coefficient)
+
+-- what a case of the code's enum tells
+unfoldable pub poweredOf : Powered → R Float
+poweredOf (PoweredOk x) = Ok x
+poweredOf PoweredCoefficient = Err Coefficient
+poweredOf PoweredResult = Err Result

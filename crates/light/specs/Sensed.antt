@@ -2,24 +2,22 @@
 -- from byte 96 on, and its patterns from byte 56 on.
 use Prim.Native.Nat.{ℕ, _+_, _*_, _/_, _%_, _^_}
 use mathlib.Core.Bool.{Bool}
-use mathlib.Core.List.{[]}
 use lib.Dec.{eqb}
 use lib.IntN.{pos}
-use Rattle.hardware.specs.Failures.{Failure, failureOf}
+use lib.Ieee.{Float}
+use Rattle.hardware.specs.Failures.{failureOf}
 use Rattle.hardware.specs.Numbers.{errorNumber}
 use Rattle.hardware.specs.Prog.{R, Ok, Err, pick}
 use Rattle.hardware.specs.Registers.{noneOf}
 use Rattle.sfp.specs.Classes.{has}
 use Rattle.light.specs.declared.power.Patterns.{Patterns}
-use Rattle.light.specs.declared.power.Powered.{Powered}
-use Rattle.light.specs.declared.power.Powered.the-variants.{Ok as PoweredOk, Coefficient as PoweredCoefficient, Result as PoweredResult}
 use Rattle.light.specs.declared.power.Reading.{Reading}
 use Rattle.light.specs.declared.power.Reading.the-variants.{Internal, Calibrated, Absent}
 use Rattle.light.specs.declared.sensed.Sensed.{Sensed}
 use Rattle.light.specs.declared.sensed.Measures.{Measures}
 use Rattle.light.specs.declared.sensed.Measured.{Measured}
 use Rattle.light.specs.declared.sensed.Measured.the-variants.{Ok as MeasuredOk, Coefficient as MeasuredCoefficient, Result as MeasuredResult, Err as MeasuredErr}
-use Rattle.light.specs.Power.{powerOf}
+use Rattle.light.specs.Power.{Coefficient, Result, powerOf}
 use Rattle.light.specs.Words.{signed, wordOf}
 
 -- before the first byte
@@ -64,13 +62,6 @@ INTERNAL = 0x20
 abbrev pub EXTERNAL : ℕ
 EXTERNAL = 0x10
 
--- every byte was read, and that is not finite
-abbrev pub Coefficient : Failure
-Coefficient = record { number = 28; values = [] }
-
-abbrev pub Result : Failure
-Result = record { number = 29; values = [] }
-
 -- the four values beside a reading
 unfoldable pub measuresOf : Sensed → Reading → Measures
 measuresOf s reading = record { temperature = signed (s .temperature); voltage = s .voltage; bias = s .bias; sent = s .sent; reading = reading }
@@ -80,10 +71,9 @@ unfoldable pub readingOf : ℕ → ℕ → Reading
 readingOf kind received = pick (has kind INTERNAL) (Internal received) Absent
 
 -- with one; values: the other four beside a reading
-unfoldable pub calibratedOf : (Reading → Measures) → Powered → R Measures
-calibratedOf values (PoweredOk x) = Ok (values (Calibrated x))
-calibratedOf values PoweredCoefficient = Err Coefficient
-calibratedOf values PoweredResult = Err Result
+unfoldable pub calibratedOf : (Reading → Measures) → R Float → R Measures
+calibratedOf values (Ok x) = Ok (values (Calibrated x))
+calibratedOf values (Err e) = Err e
 
 -- of a module that is not monitored
 abbrev pub nothing : Measures
@@ -99,13 +89,13 @@ measured s =
 -- the papers' number of an end, or 0
 abbrev pub measuredNumber : Measured → ℕ
 measuredNumber (MeasuredOk m) = 0
-measuredNumber MeasuredCoefficient = 28
-measuredNumber MeasuredResult = 29
+measuredNumber MeasuredCoefficient = Coefficient .number
+measuredNumber MeasuredResult = Result .number
 measuredNumber (MeasuredErr e) = errorNumber e
 
 -- what a case of the code's enum tells
 unfoldable pub measuredOf : Measured → R Measures
 measuredOf (MeasuredOk m) = Ok m
-measuredOf MeasuredCoefficient = Err (record { number = measuredNumber MeasuredCoefficient; values = [] })
-measuredOf MeasuredResult = Err (record { number = measuredNumber MeasuredResult; values = [] })
+measuredOf MeasuredCoefficient = Err Coefficient
+measuredOf MeasuredResult = Err Result
 measuredOf (MeasuredErr e) = Err (failureOf e)

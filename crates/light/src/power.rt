@@ -4,7 +4,7 @@ ghost use mathlib.Core.Path.{_≡_};
 ghost use mathlib.Core.Bool.{true};
 ghost use lib.Ieee.{binary32, ofBits};
 ghost use lib.Ieee.Scale.{finite};
-ghost use Rattle.light.specs.Power.{finitePattern, allFinite, coefficientsOf, hornerOf, powerOf, poweredNumber};
+ghost use Rattle.light.specs.Power.{finitePattern, allFinite, coefficientsOf, hornerOf, powerOf, poweredOf};
 
 // What a module says of its received light. Internal: its own count. Calibrated: worked out with its coefficients.
 pub enum Reading {
@@ -30,22 +30,11 @@ pub struct Coefficients {
     pub c0: f32,
 }
 
-// Coefficient: one of them is not finite. Result: all are, and the power is not.
+// Coefficient, the papers' 28: one of them is not finite. Result, 29: all are, and the power is not.
 pub enum Powered {
     Ok(f32),
     Coefficient,
     Result,
-}
-
-// The papers' number of a failure, or 0.
-pub fn powered_number(p: Powered) -> u8
-    ensures { λ r. ⌜ r ≡ poweredNumber p ⌝ }
-{
-    match p {
-        Powered::Ok(_) => 0,
-        Powered::Coefficient => 28,
-        Powered::Result => 29,
-    }
 }
 
 // Whether a pattern is a finite number's, decided before a float is made of it.
@@ -103,7 +92,7 @@ pub(crate) fn floats(p: Patterns) -> Coefficients
 
 // 28 before 29: the power is worked out only of finite coefficients.
 pub fn power(p: Patterns, count: u16) -> Powered
-    ensures { λ r. ⌜ r ≡ powerOf p count ⌝ }
+    ensures { λ r. ⌜ poweredOf r ≡ powerOf p count ⌝ }
 {
     if !all_finite(p) {
         return Powered::Coefficient;

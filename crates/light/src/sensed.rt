@@ -5,6 +5,7 @@ use crate::power::Reading;
 use hardware::Error;
 ghost use mathlib.Core.Path.{_≡_};
 ghost use Rattle.hardware.specs.Prog.{pick};
+ghost use Rattle.light.specs.Power.{poweredOf};
 ghost use Rattle.light.specs.Sensed.{wordOn, patternOn, patternsOn, taken, measuresOf, readingOf, calibratedOf, measured, measuredOf, measuredNumber};
 
 // kind: byte 92 of A0. The words: bytes 96 to 105 of A2, as far as they are read. patterns: its bytes 56 to 75.
@@ -153,7 +154,7 @@ fn uncalibrated(kind: u8, received: u16) -> Reading
 
 // With one.
 fn calibrated(s: Sensed, p: Powered) -> Measured
-    ensures { λ r. ⌜ measuredOf r ≡ calibratedOf (measuresOf s) p ⌝ }
+    ensures { λ r. ⌜ measuredOf r ≡ calibratedOf (measuresOf s) (poweredOf p) ⌝ }
 {
     match p {
         Powered::Ok(x) => Measured::Ok(values(s, Reading::Calibrated(x))),

@@ -3,7 +3,7 @@ use mathlib.Core.Path.{_≡_, _∙_, sym}
 use borrow.Author.Needs.{needs}
 use borrow.Author.Tests.{not-false, not-true}
 use Rattle.hardware.specs.Prog.{pick}
-use Rattle.light.specs.Power.{judged, powerOf}
+use Rattle.light.specs.Power.{judged, powerOf, poweredOf}
 use Rattle.light.proofs.power.power.Statement.{statement}
 use Rattle.light.proofs.power.power.Tie as tie
 
@@ -11,7 +11,7 @@ all-finite-requires : tie.Need-all-finite-requires
 all-finite-requires c κs = search needs
 
 returns : tie.Need-returns
-unfolding powerOf pick
+unfolding powerOf poweredOf pick
 returns c = rw (sym (c .before .all-finite .ensures) ∙ not-true _ (c .if1 .taken))
 
 floats-requires : tie.Need-floats-requires
@@ -29,11 +29,11 @@ unfolding powerOf pick
 tested c = rw (sym (c .before .before .before .before .all-finite .ensures) ∙ not-false _ (c .before .before .before .if1 .left), ← c .before .before .floats .ensures, ← c .before .horner .ensures)
 
 returns-2 : tie.Need-returns-2
-unfolding judged pick
+unfolding judged poweredOf pick
 returns-2 c = rw (tested (c .before), ← c .before .finite .ensures, c .if2 .taken)
 
 returns-3 : tie.Need-returns-3
-unfolding judged pick
+unfolding judged poweredOf pick
 returns-3 c = rw (tested (c .before), ← c .before .finite .ensures, c .if2 .left)
 
 pub power-spec : {M : Type 1} → statement M

@@ -1,4 +1,5 @@
 -- `calibrated` meets its contract.
+use Rattle.light.specs.Power.{poweredOf}
 use Rattle.light.specs.Sensed.{calibratedOf, measuredOf}
 use borrow.Author.Needs.{needs}
 use Rattle.light.proofs.sensed.calibrated.Statement.{statement}
@@ -17,15 +18,15 @@ enum-told-2 : tie.Need-enum-told-2
 enum-told-2 c = search needs
 
 returns : tie.Need-returns
-unfolding measuredOf calibratedOf
+unfolding measuredOf calibratedOf poweredOf
 returns c = rw (c .before .before .p .given .1, c .values .ensures)
 
 returns-2 : tie.Need-returns-2
-unfolding measuredOf calibratedOf
+unfolding measuredOf calibratedOf poweredOf
 returns-2 c = rw (c .enum-told .given .1)
 
 returns-3 : tie.Need-returns-3
-unfolding measuredOf calibratedOf
+unfolding measuredOf calibratedOf poweredOf
 returns-3 c = rw (c .enum-told2 .given .1)
 
 pub calibrated-spec : {M : Type 1} → statement M

@@ -1,4 +1,5 @@
--- How a page ends, exactly; so it is accepted exactly when every read succeeds and both sums are right.
+-- How a page ends, exactly, and what its buffer holds until then; so it is accepted exactly when every read succeeds and both sums
+-- are right.
 use Prim.Native.Nat.{ℕ, _+_, _-_, _<_, _≤_, suc, zero}
 use mathlib.Core.Path.{_≡_, _∙_, refl, ap, ap₂, subst, sym}
 use mathlib.Core.Bool.{true, false}
@@ -8,16 +9,18 @@ use native.Mathlib.Nat.{zero-add}
 use native.Mathlib.Omega.{arith}
 use lib.ListN.{List·getD-append, drop, length, length-append, length-drop, set}
 use lib.Seq.{drop-append-le, sets, sets-eq, take-append-le}
+use Rattle.hardware.specs.declared.Access.{Access}
 use Rattle.hardware.specs.declared.Answer.{Answer}
 use Rattle.hardware.specs.declared.Port.{Port}
-use Rattle.hardware.specs.Prog.{R, Ok, Err, pick}
-use Rattle.hardware.specs.Runs.{ended, run, EndsOver}
+use Rattle.hardware.specs.Prog.{Note, Prog, ret, ask, note, give, R, Ok, Err, pick}
+use Rattle.hardware.specs.Runs.{ended, run, onAnswer, EndsOver}
 use Rattle.hardware.proofs.Ends.{run-then, run-parted}
 use Rattle.transfer.specs.declared.attempt.Sequence.{Sequence}
 use Rattle.i2c.specs.I2c.{locked, transferred}
 use Rattle.page.specs.declared.walk.Form.{Form}
 use Rattle.page.specs.Page.{Filled, FirstSum, SecondSum, byteSeen, page, pageFrom, placeOf, requestAt, sumRight, sumsOf}
-use Rattle.page.specs.Accepted.{Accepted, Closes, judged, failed, PageEnds, Reads, ReadsFirst, none, one, withPage}
+use Rattle.page.specs.Walk.{filling, filledFrom}
+use Rattle.page.specs.Accepted.{Accepted, Closes, judged, failed, PageEnds, PageHolds, Reads, ReadsFirst, none, one, withPage}
 
 -- what stands behind a page does not count
 sum-front : (bytes rest : List ℕ) (from at : ℕ) → from ≤ at → at < length bytes → sumRight (bytes ++ rest) from at ≡ sumRight bytes from at
@@ -45,6 +48,37 @@ sets-one left b buffer bytes h = rw (place, next)
 -- and from the first place on
 sets-first : (buffer bytes : List ℕ) → 96 ≤ length buffer → length bytes ≤ 96 → sets buffer 0 bytes ≡ bytes ++ drop (length bytes) buffer
 sets-first buffer bytes h e = rw (sets-eq bytes buffer 0 (omega arith), zero-add (length bytes))
+
+-- what the answers bring of a byte: it has come over a front part of them, and is stored, or it has not
+module _ (place : ℕ) (next : List ℕ → List Answer → List ℕ) (buffer : List ℕ) where
+  data Comes (p : Prog (R ℕ)) (l : List Answer) : Type 0 where
+    came : (v : ℕ) (front behind : List Answer) → l ≡ front ++ behind → EndsOver p front (Ok v)
+        → filling place next buffer p l ≡ next (set buffer place v) behind → Comes p l
+    waits : ((v : ℕ) → (run p l) .status ≡ ended (Ok v) → ⊥) → filling place next buffer p l ≡ buffer → Comes p l
+
+  comes-after : (x : Access) (f : Answer → Prog (R ℕ)) (a : Answer) (l : List Answer) → Comes (f a) l → Comes (ask x f) (a ∷ l)
+  unfolding EndsOver run onAnswer filling
+  comes-after x f a l (came v front behind parts ends h) = came v (a ∷ front) behind (ap (λ t. a ∷ t) parts) (ends .0, ap suc (ends .1)) h
+  comes-after x f a l (waits unread h) = waits unread h
+
+  comes-noted : (n : Note) (p : Prog (R ℕ)) (l : List Answer) → Comes p l → Comes (note n p) l
+  unfolding EndsOver run filling
+  comes-noted n p l (came v front behind parts ends h) = came v front behind parts ends h
+  comes-noted n p l (waits unread h) = waits unread h
+
+  comes-given : (b : ℕ) (p : Prog (R ℕ)) (l : List Answer) → Comes p l → Comes (give b p) l
+  unfolding EndsOver run filling
+  comes-given b p l (came v front behind parts ends h) = came v front behind parts ends h
+  comes-given b p l (waits unread h) = waits unread h
+
+  comes : (p : Prog (R ℕ)) (l : List Answer) → Comes p l
+  unfolding EndsOver run onAnswer filling
+  comes (ret (Ok v)) l = came v [] l refl (refl, refl) refl
+  comes (ret (Err e)) l = waits (λ v d. let z : _≡_ {A = ℕ} 0 1 = cc in omega arith) refl
+  comes (ask x f) [] = waits (λ v d. let z : _≡_ {A = ℕ} 0 1 = cc in omega arith) refl
+  comes (ask x f) (a ∷ l) = comes-after x f a l (comes (f a) l)
+  comes (note n p) l = comes-noted n p l (comes p l)
+  comes (give b p) l = comes-given b p l (comes p l)
 
 module _ (q : Sequence) (port : Port) (form : Form) (tries : ℕ) where
   -- a byte for each read
@@ -167,6 +201,70 @@ module _ (q : Sequence) (port : Port) (form : Form) (tries : ℕ) where
           ap (λ t. (run (page q port form tries buffer) t) .status) (w .parts)
           ∙ rest-run 96 (w .left) buffer (w .bytes) (w .before) (w .last) (w .behind) (f .result) (omega arith) (w .reads) c
           ∙ ap (λ b. ended (record { result = f .result; buffer = b })) (first ∙ sym (w .stored))
+
+  -- what the buffer holds over the last n bytes
+  record RestHolds (n : ℕ) (buffer : List ℕ) (l : List Answer) (after : List ℕ) : Type 0 where
+    pub bytes : List ℕ
+    pub left : ℕ
+    pub before : List Answer
+    pub behind : List Answer
+    pub parts : l ≡ before ++ behind
+    pub reads : Reads q port form tries left n before bytes
+    pub next : (m b : ℕ) → left ≡ suc m → (run (transferred port (requestAt form m) (locked q) tries) behind) .status ≡ ended (Ok b) → ⊥
+    pub stored : after ≡ sets buffer (96 - n) bytes
+
+  one-holds : (n : ℕ) (buffer : List ℕ) (l : List Answer) → suc n ≤ 96
+      → ((b : List ℕ) (m : List Answer) → RestHolds n b m (filledFrom q port form tries n b m))
+      → Comes (placeOf n) (filledFrom q port form tries n) buffer (transferred port (requestAt form n) (locked q) tries) l
+      → RestHolds (suc n) buffer l (filledFrom q port form tries (suc n) buffer l)
+  unfolding filledFrom
+  one-holds n buffer l h again (came v front behind parts ends held) =
+      let w = again (set buffer (placeOf n) v) behind in
+      record {
+        bytes = v ∷ w .bytes;
+        left = w .left;
+        before = front ++ w .before;
+        behind = w .behind;
+        parts = parts ∙ rw append-assoc (ap (λ t. front ++ t) (w .parts));
+        reads = one n v front (w .before) (w .bytes) ends (w .reads);
+        next = w .next;
+        stored = held ∙ w .stored ∙ sets-one n v buffer (w .bytes) h;
+      }
+  one-holds n buffer l h again (waits unread held) =
+      record {
+        bytes = [];
+        left = suc n;
+        before = [];
+        behind = l;
+        parts = refl;
+        reads = none;
+        next = λ m b e d.
+            let same : m ≡ n = omega (arith, e) in
+            unread b (subst (λ k. (run (transferred port (requestAt form k) (locked q) tries) l) .status ≡ ended (Ok b)) same d);
+        stored = held;
+      }
+
+  rest-holds : (n : ℕ) (buffer : List ℕ) (l : List Answer) → n ≤ 96 → RestHolds n buffer l (filledFrom q port form tries n buffer l)
+  unfolding filledFrom
+  rest-holds zero buffer l h =
+      record { bytes = []; left = 0; before = []; behind = l; parts = refl; reads = none; next = λ m b e d. omega (arith, e); stored = refl }
+  rest-holds (suc n) buffer l h = one-holds n buffer l h (λ b m. rest-holds n b m (omega arith)) (comes (placeOf n) (filledFrom q port form tries n) buffer _ l)
+
+  -- What the buffer holds, for every list of answers
+  pub page-holds-as : (buffer : List ℕ) (l : List Answer) → 96 ≤ length buffer → PageHolds q port form tries buffer l (filledFrom q port form tries 96 buffer l)
+  page-holds-as buffer l h =
+      let w = rest-holds 96 buffer l (omega arith) in
+      let few : length (w .bytes) ≤ 96 = omega (arith, length-read (w .left) 96 (w .before) (w .bytes) (w .reads)) in
+      record {
+        bytes = w .bytes;
+        left = w .left;
+        before = w .before;
+        behind = w .behind;
+        parts = w .parts;
+        reads = w .reads;
+        next = w .next;
+        stored = w .stored ∙ sets-first buffer (w .bytes) h few;
+      }
 
   -- the buffer keeps its length
   pub page-length : (buffer : List ℕ) (l : List Answer) (f : Filled) → 96 ≤ length buffer → PageEnds q port form tries buffer l f → length (f .buffer) ≡ length buffer

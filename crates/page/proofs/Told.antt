@@ -1,9 +1,9 @@
 -- What the tellings of a page that is driven step by step say of its run: the last is an end exactly where the run has ended, with
--- its result, and with the buffer as it then is.
+-- its result, and with the buffer as it then is. And what the buffer holds after every step, while the call waits too.
 use Prim.Native.Nat.{ℕ, _≤_}
-use mathlib.Core.Path.{_≡_, refl, ap, sym, _∙_}
+use mathlib.Core.Path.{_≡_, refl, ap, subst, sym, _∙_}
 use mathlib.Core.Bool.{true}
-use mathlib.Core.List.{List, [], _∷_}
+use mathlib.Core.List.{List, [], _∷_, _++_, append-nil}
 use native.Mathlib.Omega.{arith}
 use lib.Dec.{leb}
 use lib.ListN.{length}
@@ -11,11 +11,12 @@ use borrow.Author.Tests.{leb-true}
 use Rattle.hardware.specs.declared.Answer.{Answer}
 use Rattle.hardware.specs.declared.Meter.{Meter}
 use Rattle.hardware.specs.declared.Port.{Port}
+use Rattle.hardware.specs.declared.Refusal.{Refusal}
 use Rattle.hardware.specs.Asked.{Asked, no, yes, andThen, question, openPort}
-use Rattle.hardware.specs.Lent.{lent, asked}
-use Rattle.hardware.specs.Prog.{Ok, Counted, blank}
+use Rattle.hardware.specs.Lent.{refused, lent, asked}
+use Rattle.hardware.specs.Prog.{Prog, Ok, Counted, blank}
 use Rattle.hardware.specs.Promise.{Keeps}
-use Rattle.hardware.specs.Runs.{Status, ended, waiting, Run, run, runAsked, onAnswer, counted, countedStatus, meterIn, AwaitedIn, Exchange, answersOf, AllKept, lastTold, led, driven}
+use Rattle.hardware.specs.Runs.{Status, ended, waiting, Run, run, runAsked, onAnswer, counted, countedStatus, meterIn, AwaitedIn, Exchange, answersOf, AllKept, lastTold, led, driven, IfYes, Unrefused}
 use Rattle.transfer.specs.declared.attempt.Sequence.{Sequence}
 use Rattle.page.specs.declared.walk.Form.{Form}
 use Rattle.page.specs.declared.sums.Paged.{Paged}
@@ -24,10 +25,12 @@ use Rattle.page.specs.declared.calls.PageCall.the-variants.{Going, Over}
 use Rattle.page.specs.declared.calls.PageTold.{PageTold}
 use Rattle.page.specs.declared.calls.PageTold.the-variants.{Ask, End, Refused}
 use Rattle.page.specs.Page.{Filled, page, pagedOf}
-use Rattle.page.specs.Calls.{bufferFits, openForm, saidPage, standsPage, PageAt, saidAt, followsBuffer, followsPage}
-use Rattle.page.specs.Accepted.{Accepted, PageEnds}
+use Rattle.page.specs.Walk.{filling, filledAt, filledFrom}
+use Rattle.page.specs.Calls.{bufferFits, openForm, stepPage, saidPage, standsPage, filledCall, FilledAs, PageAt, saidAt, followsBuffer, followsPage}
+use Rattle.page.specs.Accepted.{Accepted, PageEnds, PageHolds}
 use Rattle.page.proofs.Runs.{form-driven}
-use Rattle.page.proofs.Accepted.{page-ends-as, page-accepted}
+use Rattle.page.proofs.Accepted.{page-ends-as, page-holds-as, page-accepted}
+use Rattle.page.proofs.Laws.{filled-as}
 
 -- a refusal is no run
 refused-none : {A : Type 0} (n : ℕ) (r : A) → no n ≡ yes r → ⊥
@@ -86,6 +89,61 @@ only-ok PagedFirst e = cc
 only-ok PagedSecond e = cc
 only-ok (PagedErr x) e = cc
 
+-- What the buffer holds after further answers, f, is what it holds after a step and the answers behind
+filled-on : (t : PageTold) (b : List ℕ) (a : Answer) (u : PageTold) (c : List ℕ) (f : List Answer → List ℕ) → followsBuffer t b a u c → FilledAs t b f
+    → FilledAs u c (λ l. f (a ∷ l))
+unfolding followsBuffer FilledAs
+filled-on (Ask x s) b a u c f k h = filled-as u c _ _ (λ l. h (a ∷ l)) (k .fills)
+filled-on (End p m) b a u c f k h = absurd k
+filled-on (Refused q) b a u c f k h = absurd k
+
+filled-driven : (t : PageAt) (ks : List (Exchange PageAt)) (f : List Answer → List ℕ) → AllKept followsPage t ks → FilledAs (t .told) (t .buffer) f
+    → FilledAs (lastTold t ks .told) (lastTold t ks .buffer) (λ l. f (answersOf ks ++ l))
+unfolding AllKept lastTold answersOf
+filled-driven t [] f kept h = h
+filled-driven t (k ∷ ks) f kept h = filled-driven (k .told) ks (λ l. f (k .answer ∷ l)) (kept .1) (filled-on (t .told) (t .buffer) _ _ _ f (kept .0) h)
+
+-- before any further answer it is the buffer as it is
+filled-now : (t : PageTold) (b : List ℕ) (f : List Answer → List ℕ) → Unrefused (asked (saidPage t b)) → FilledAs t b f → b ≡ f []
+unfolding FilledAs filledCall filledAt filling saidPage asked IfYes
+filled-now (Ask x (Going port q form tries m s)) b f u h = h []
+filled-now (Ask x Over) b f u h = h []
+filled-now (End p m) b f u h = h []
+filled-now (Refused j) b f u h = absurd u
+
+-- a run that the host sees ends in no refusal
+unrefused-now : (q : Asked (Prog (Counted Filled))) (r : Run (Counted Filled)) → runAsked q [] ≡ yes r → Unrefused q
+unfolding runAsked IfYes
+unrefused-now (no n) r d = absurd (refused-none n r d)
+unrefused-now (yes p) r d = tt
+
+unrefused-last : (t : PageAt) (ks : List (Exchange PageAt)) (r : Run (Counted Filled)) → AllKept followsPage t ks → driven saidAt t ks ≡ yes r
+    → Unrefused (saidAt (lastTold t ks))
+unfolding AllKept lastTold driven
+unrefused-last t [] r kept d = unrefused-now (saidAt t) r d
+unrefused-last t (k ∷ ks) r kept d =
+    let (s, on, same) = led-on (t .told) (t .buffer) _ _ _ _ r (kept .0) d in
+    unrefused-last (k .told) ks s (kept .1) on
+
+-- A step that is refused leaves the buffer as the steps before it left it
+refused-same : (n : ℕ) (b c : List ℕ) (r : Asked (Prog (Counted Filled))) → refused n c ≡ lent b r → c ≡ b
+unfolding lent
+refused-same n b c (no k) e = cc
+refused-same n b c (yes p) e = let z : _≡_ {A = ℕ} 0 1 = cc in absurd (omega arith)
+
+refused-on : (t : PageTold) (b : List ℕ) (a : Answer) (u : PageTold) (c : List ℕ) (j : Refusal) → followsBuffer t b a u c → u ≡ Refused j → c ≡ b
+unfolding followsBuffer saidPage stepPage
+refused-on (Ask x (Going port q form tries m s)) b a u c j k e = refused-same _ b c _ (ap (λ v. saidPage v c) (sym e) ∙ k .yields)
+refused-on (Ask x Over) b a u c j k e = refused-same _ b c _ (ap (λ v. saidPage v c) (sym e) ∙ k .yields)
+refused-on (End p m) b a u c j k e = absurd k
+refused-on (Refused i) b a u c j k e = absurd k
+
+pub page-refused : (t : PageAt) (ks : List (Exchange PageAt)) (k : Exchange PageAt) (j : Refusal) → AllKept followsPage t (ks ++ (k ∷ [])) → k .told .told ≡ Refused j
+    → k .told .buffer ≡ lastTold t ks .buffer
+unfolding AllKept lastTold
+page-refused t [] k j kept e = refused-on (t .told) (t .buffer) _ _ _ j (kept .0) e
+page-refused t (h ∷ ks) k j kept e = page-refused (h .told) ks k j (kept .1) e
+
 -- of an accepted opening of either form, driven by steps that keep their promises
 module _ (q : Sequence) (form : Form) (family device lan attempts : ℕ) (buffer : List ℕ) (port : Port) (t : PageTold)
     (o : openPort family device lan ≡ yes port) (a : leb attempts 255 ≡ true) (b : bufferFits buffer ≡ true)
@@ -136,3 +194,11 @@ module _ (q : Sequence) (form : Form) (family device lan attempts : ℕ) (buffer
         let (p, m, z, success, _) = page-told _ (page-ends-as q port form attempts buffer (answersOf ks) _ fits .0 e) in
         (m, z ∙ ap (λ u. End u m) (only-ok p success)),
   )
+
+  -- After every step, whether the call waits or has ended, the buffer holds the bytes of the reads that have succeeded, in order, and
+  -- behind them what it held; h: what the opening promises of it
+  pub page-holds : FilledAs t buffer (filledFrom q port form attempts 96 buffer) → PageHolds q port form attempts buffer (answersOf ks) (final .buffer)
+  page-holds h =
+      let held = filled-now (final .told) (final .buffer) _ (unrefused-last _ ks _ kept seen) (filled-driven _ ks _ kept h) in
+      subst (PageHolds q port form attempts buffer (answersOf ks)) (sym (held ∙ ap (filledFrom q port form attempts 96 buffer) (append-nil (answersOf ks))))
+      (page-holds-as q port form attempts buffer (answersOf ks) fits)

@@ -1,5 +1,5 @@
--- How a page ends, exactly: which reads succeed, in order, and then the sums of the bytes, or the request that fails. And when
--- it is accepted: every read succeeds, and both sums are right of the bytes that were read.
+-- How a page ends, exactly: which reads succeed, in order, and then the sums of the bytes, or the request that fails; what its
+-- buffer holds until then; and when it is accepted: every read succeeds, and both sums are right of the bytes that were read.
 use Prim.Native.Nat.{ℕ, suc}
 use mathlib.Core.Path.{_≡_}
 use mathlib.Core.List.{List, [], _∷_, _++_}
@@ -8,7 +8,7 @@ use Rattle.hardware.specs.declared.Answer.{Answer}
 use Rattle.hardware.specs.declared.Port.{Port}
 use Rattle.hardware.specs.Failures.{Failure}
 use Rattle.hardware.specs.Prog.{R, Ok, Err}
-use Rattle.hardware.specs.Runs.{EndsOver}
+use Rattle.hardware.specs.Runs.{EndsOver, ended, run}
 use Rattle.transfer.specs.declared.attempt.Sequence.{Sequence}
 use Rattle.i2c.specs.I2c.{locked, transferred}
 use Rattle.page.specs.declared.walk.Form.{Form}
@@ -41,6 +41,19 @@ pub record PageEnds (q : Sequence) (port : Port) (form : Form) (tries : ℕ) (bu
   pub reads : Reads q port form tries left 96 before bytes
   pub closes : Closes q port form tries (sumsOf bytes) left last (f .result)
   pub stored : f .buffer ≡ bytes ++ drop (length bytes) buffer
+
+-- What the buffer of a page holds after these answers, whether the call waits or has ended: reads have succeeded, one after
+-- another, and the one after them, if any is left, has not; the buffer has the bytes that were read in its first places, and behind
+-- them what it held
+pub record PageHolds (q : Sequence) (port : Port) (form : Form) (tries : ℕ) (buffer : List ℕ) (l : List Answer) (after : List ℕ) : Type 0 where
+  pub bytes : List ℕ
+  pub left : ℕ
+  pub before : List Answer
+  pub behind : List Answer
+  pub parts : l ≡ before ++ behind
+  pub reads : Reads q port form tries left 96 before bytes
+  pub next : (n b : ℕ) → left ≡ suc n → (run (transferred port (requestAt form n) (locked q) tries) behind) .status ≡ ended (Ok b) → ⊥
+  pub stored : after ≡ bytes ++ drop (length bytes) buffer
 
 -- over a front part of the answers each read of the last n bytes of a page succeeds
 pub record ReadsFirst (q : Sequence) (port : Port) (form : Form) (tries n : ℕ) (l : List Answer) (bytes : List ℕ) : Type 0 where

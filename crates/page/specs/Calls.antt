@@ -3,7 +3,7 @@
 use Prim.Native.Nat.{ℕ}
 use mathlib.Core.Path.{_≡_}
 use mathlib.Core.Bool.{Bool, true, false}
-use mathlib.Core.List.{List}
+use mathlib.Core.List.{List, _∷_}
 use lib.Dec.{leb}
 use lib.ListN.{length}
 use Rattle.hardware.specs.declared.Answer.{Answer}
@@ -12,7 +12,6 @@ use Rattle.hardware.specs.declared.Port.{Port}
 use Rattle.hardware.specs.Asked.{Asked, no, yes, question, andThen, openPort, validPort, admitting}
 use Rattle.hardware.specs.Lent.{Lent, refused, goes, lent, asked}
 use Rattle.hardware.specs.Numbers.{refusalNumber}
-use Rattle.hardware.specs.Promise.{Stores}
 use Rattle.hardware.specs.Prog.{Prog, ret, ask, Counted, blank, tally, pick}
 use Rattle.transfer.specs.declared.attempt.Sequence.{Sequence}
 use Rattle.page.specs.declared.walk.Form.{Form}
@@ -23,7 +22,7 @@ use Rattle.page.specs.declared.calls.PageCall.the-variants.{Going, Over}
 use Rattle.page.specs.declared.calls.PageTold.{PageTold}
 use Rattle.page.specs.declared.calls.PageTold.the-variants.{Ask, End, Refused}
 use Rattle.page.specs.Page.{Filled, page, pagedOf}
-use Rattle.page.specs.Walk.{accessPage, restPage, bufferPage, validPage}
+use Rattle.page.specs.Walk.{Fills, accessPage, restPage, bufferPage, filledAt, validPage}
 
 -- Has the buffer the bytes of a page?
 unfoldable pub bufferFits : List ℕ → Bool
@@ -73,6 +72,17 @@ saidPage (Ask x Over) buffer = refused 0 buffer
 saidPage (End p m) buffer = goes (ret (record { meter = m; result = record { result = pagedOf p; buffer = buffer } }))
 saidPage (Refused q) buffer = refused (refusalNumber q) buffer
 
+-- what the buffer holds after these answers to a state's accesses
+unfoldable pub filledCall : PageCall → List ℕ → List Answer → List ℕ
+filledCall (Going port q form tries m s) buffer l = filledAt q port form tries s buffer l
+filledCall Over buffer l = buffer
+
+-- after any further answers the buffer holds what f says; nothing follows a refusal
+unfoldable pub FilledAs : PageTold → List ℕ → (List Answer → List ℕ) → Type 0
+FilledAs (Ask x s) buffer f = (l : List Answer) → filledCall s buffer l ≡ f l
+FilledAs (End p m) buffer f = (l : List Answer) → buffer ≡ f l
+FilledAs (Refused q) buffer f = Unit {0}
+
 -- a state to go on from comes with the access it awaits, and passes question 10
 unfoldable pub standsPage : PageTold → Type 0
 standsPage (Ask x (Going port q form tries m s)) = (x ≡ accessPage port s) × (validCall port form tries m s ≡ true)
@@ -90,7 +100,8 @@ saidAt t = asked (saidPage (t .told) (t .buffer))
 
 -- what a step told, u, with the buffer c, follows what was told before it, with the buffer b: as the step promises
 unfoldable pub followsBuffer : PageTold → List ℕ → Answer → PageTold → List ℕ → Type 0
-followsBuffer (Ask x s) b a u c = Stores (saidPage u c ≡ stepPage s b a) (standsPage u) (c ≡ bufferAfter s b a)
+followsBuffer (Ask x s) b a u c =
+    Fills (saidPage u c ≡ stepPage s b a) (standsPage u) (c ≡ bufferAfter s b a) (FilledAs u c (λ l. filledCall s b (a ∷ l)))
 followsBuffer (End p m) b a u c = ⊥
 followsBuffer (Refused q) b a u c = ⊥
 

@@ -1,7 +1,7 @@
 -- A page one access at a time: the request that is made now, and how many bytes come after it.
-use Prim.Native.Nat.{ℕ, _*_, suc}
+use Prim.Native.Nat.{ℕ, _*_, suc, zero}
 use mathlib.Core.Bool.{Bool, true, false}
-use mathlib.Core.List.{List}
+use mathlib.Core.List.{List, [], _∷_}
 use lib.Dec.{ltb}
 use lib.ListN.{set}
 use Rattle.hardware.specs.declared.Access.{Access}
@@ -12,7 +12,7 @@ use Rattle.hardware.specs.Marks.{marked, meterOn}
 use Rattle.hardware.specs.Prog.{Prog, ret, ask, note, give, erase, R, Ok, Err, pick}
 use Rattle.bus.specs.declared.Taken.{Taken}
 use Rattle.transfer.specs.declared.attempt.Sequence.{Sequence}
-use Rattle.i2c.specs.I2c.{locked}
+use Rattle.i2c.specs.I2c.{locked, transferred}
 use Rattle.i2c.specs.Handshake.{accessHandshake, restHandshake, restRequest, validRequest}
 use Rattle.page.specs.declared.walk.Form.{Form}
 use Rattle.page.specs.declared.walk.Page.{Page}
@@ -42,6 +42,39 @@ stored place buffer (give b p) = stored place buffer p
 
 unfoldable pub bufferPage : Sequence → Port → Form → Page → List ℕ → Answer → List ℕ
 bufferPage q port form s buffer a = stored (placeOf (s .left)) buffer (restHandshake port (requestAt form (s .left)) (locked q) (s .request) a)
+
+-- What the buffer holds after these answers to what is left of a byte's request: the byte is stored where it has come, and next
+-- goes on over the answers behind
+unfoldable pub filling : ℕ → (List ℕ → List Answer → List ℕ) → List ℕ → Prog (R ℕ) → List Answer → List ℕ
+filling place next buffer (ret (Ok v)) l = next (set buffer place v) l
+filling place next buffer (ret (Err e)) l = buffer
+filling place next buffer (ask x f) [] = buffer
+filling place next buffer (ask x f) (a ∷ l) = filling place next buffer (f a) l
+filling place next buffer (note n p) l = filling place next buffer p l
+filling place next buffer (give b p) l = filling place next buffer p l
+
+-- the same of the last n bytes
+unfoldable pub filledFrom : Sequence → Port → Form → ℕ → ℕ → List ℕ → List Answer → List ℕ
+filledFrom q port form tries zero buffer l = buffer
+filledFrom q port form tries (suc left) buffer l =
+    filling (placeOf left) (filledFrom q port form tries left) buffer (transferred port (requestAt form left) (locked q) tries) l
+
+-- and from a state on
+unfoldable pub filledAt : Sequence → Port → Form → ℕ → Page → List ℕ → List Answer → List ℕ
+filledAt q port form tries s buffer l =
+    filling (placeOf (s .left)) (filledFrom q port form tries (s .left)) buffer
+    (ask (accessPage port s) (λ a. restRequest port (requestAt form (s .left)) (locked q) ret (s .request) a)) l
+
+unfoldable pub filledNext : Sequence → Port → Form → ℕ → PageNext → List ℕ → List Answer → List ℕ
+filledNext q port form tries (Going k s) buffer l = filledAt q port form tries s buffer l
+filledNext q port form tries (End p) buffer l = buffer
+
+-- The parts of what a step promises. holds: what the buffer then holds. fills: what it holds after any further answers
+pub record Fills (Yields Limits Holds After : Type 0) : Type 0 where
+  pub yields : Yields
+  pub limits : Limits
+  pub holds : Holds
+  pub fills : After
 
 unfoldable pub pageNext : Sequence → Port → Form → ℕ → PageNext → List ℕ → Prog Filled
 pageNext q port form tries (Going k s) buffer = marked k (ask (accessPage port s) (λ a. erase (restPage q port form tries s buffer a)))

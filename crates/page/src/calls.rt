@@ -15,16 +15,16 @@ use transfer::attempt::Sequence;
 ghost use Prim.Native.Nat.{ℕ, _<_, _≤_};
 ghost use mathlib.Core.Path.{_≡_};
 ghost use mathlib.Core.Bool.{true};
-ghost use mathlib.Core.List.{List};
+ghost use mathlib.Core.List.{List, _∷_};
 ghost use lib.ListN.{length};
-ghost use Rattle.hardware.specs.Asked.{validPort};
+ghost use Rattle.hardware.specs.Asked.{yes, openPort, validPort};
 ghost use Rattle.hardware.specs.Lent.{lent, goes};
 ghost use Rattle.hardware.specs.Marks.{FULL};
-ghost use Rattle.hardware.specs.Promise.{Keeps, Stores};
+ghost use Rattle.hardware.specs.Promise.{Stores};
 ghost use Rattle.hardware.specs.Prog.{tally};
-ghost use Rattle.page.specs.Walk.{pageNext, validPageNext};
+ghost use Rattle.page.specs.Walk.{Fills, pageNext, filledFrom, filledNext, validPageNext};
 ghost use Rattle.i2c.specs.I2c.{standard};
-ghost use Rattle.page.specs.Calls.{openForm, validCall, kept, bufferStepped, bufferAfter, steppedPage, openPage, openQsfpPage, stepPage, saidPage, standsPage};
+ghost use Rattle.page.specs.Calls.{openForm, validCall, kept, bufferStepped, bufferAfter, filledCall, FilledAs, steppedPage, openPage, openQsfpPage, stepPage, saidPage, standsPage};
 
 // Going: with the clearing sequence of its transfers, which page it is, the attempts for each byte, and the meter.
 pub enum PageCall {
@@ -40,7 +40,7 @@ pub enum PageTold {
 }
 
 fn told(port: Port, q: Sequence, form: Form, tries: u8, m: Meter, n: PageNext) -> PageTold
-    ensures { λ t. ⌜ Keeps ((l : List ℕ) → m .transfers < FULL → saidPage t l ≡ goes (tally m (pageNext q port form tries n l))) (validPort port ≡ true → validPageNext port form tries m n ≡ true → standsPage t) ⌝ }
+    ensures { λ t. ⌜ Stores ((l : List ℕ) → m .transfers < FULL → saidPage t l ≡ goes (tally m (pageNext q port form tries n l))) (validPort port ≡ true → validPageNext port form tries m n ≡ true → standsPage t) ((b : List ℕ) → FilledAs t b (filledNext q port form tries n b)) ⌝ }
 {
     match n {
         PageNext::Going(k, s) => PageTold::Ask(
@@ -53,7 +53,7 @@ fn told(port: Port, q: Sequence, form: Form, tries: u8, m: Meter, n: PageNext) -
 
 // Questions 4 and 9.
 fn opened(port: Port, q: Sequence, form: Form, attempts: u32, buffer: &[u8]) -> PageTold
-    ensures { λ t. ⌜ Keeps (saidPage t (now (buffer .entry)) ≡ lent (now (buffer .entry)) (openForm q form attempts (now (buffer .entry)) port)) (validPort port ≡ true → standsPage t) ⌝ }
+    ensures { λ t. ⌜ Stores (saidPage t (now (buffer .entry)) ≡ lent (now (buffer .entry)) (openForm q form attempts (now (buffer .entry)) port)) (validPort port ≡ true → standsPage t) (FilledAs t (now (buffer .entry)) (filledFrom q port form attempts 96 (now (buffer .entry)))) ⌝ }
 {
     if 255 < attempts {
         return PageTold::Refused(Refusal::Attempts);
@@ -81,7 +81,7 @@ pub fn page_open_with(
     buffer: &[u8],
     sequence: Sequence,
 ) -> PageTold
-    ensures { λ t. ⌜ Keeps (saidPage t (now (buffer .entry)) ≡ openPage sequence family device lan attempts (now (buffer .entry))) (standsPage t) ⌝ }
+    ensures { λ t. ⌜ Stores (saidPage t (now (buffer .entry)) ≡ openPage sequence family device lan attempts (now (buffer .entry))) (standsPage t) ((port : Port) → openPort family device lan ≡ yes port → FilledAs t (now (buffer .entry)) (filledFrom sequence port Form.Sff8472 attempts 96 (now (buffer .entry)))) ⌝ }
 {
     match hardware::open_port(family, device, lan) {
         Opening::Port(p) => opened(p, sequence, Form::Sff8472, attempts, buffer),
@@ -98,7 +98,7 @@ pub fn qsfp_page_open_with(
     buffer: &[u8],
     sequence: Sequence,
 ) -> PageTold
-    ensures { λ t. ⌜ Keeps (saidPage t (now (buffer .entry)) ≡ openQsfpPage sequence family device lan attempts (now (buffer .entry))) (standsPage t) ⌝ }
+    ensures { λ t. ⌜ Stores (saidPage t (now (buffer .entry)) ≡ openQsfpPage sequence family device lan attempts (now (buffer .entry))) (standsPage t) ((port : Port) → openPort family device lan ≡ yes port → FilledAs t (now (buffer .entry)) (filledFrom sequence port Form.Sff8636 attempts 96 (now (buffer .entry)))) ⌝ }
 {
     match hardware::open_port(family, device, lan) {
         Opening::Port(p) => opened(p, sequence, Form::Sff8636, attempts, buffer),
@@ -108,13 +108,13 @@ pub fn qsfp_page_open_with(
 
 // Both with the default sequence.
 pub fn page_open(family: u32, device: u16, lan: u32, attempts: u32, buffer: &[u8]) -> PageTold
-    ensures { λ t. ⌜ Keeps (saidPage t (now (buffer .entry)) ≡ openPage standard family device lan attempts (now (buffer .entry))) (standsPage t) ⌝ }
+    ensures { λ t. ⌜ Stores (saidPage t (now (buffer .entry)) ≡ openPage standard family device lan attempts (now (buffer .entry))) (standsPage t) ((port : Port) → openPort family device lan ≡ yes port → FilledAs t (now (buffer .entry)) (filledFrom standard port Form.Sff8472 attempts 96 (now (buffer .entry)))) ⌝ }
 {
     page_open_with(family, device, lan, attempts, buffer, i2c::standard())
 }
 
 pub fn qsfp_page_open(family: u32, device: u16, lan: u32, attempts: u32, buffer: &[u8]) -> PageTold
-    ensures { λ t. ⌜ Keeps (saidPage t (now (buffer .entry)) ≡ openQsfpPage standard family device lan attempts (now (buffer .entry))) (standsPage t) ⌝ }
+    ensures { λ t. ⌜ Stores (saidPage t (now (buffer .entry)) ≡ openQsfpPage standard family device lan attempts (now (buffer .entry))) (standsPage t) ((port : Port) → openPort family device lan ≡ yes port → FilledAs t (now (buffer .entry)) (filledFrom standard port Form.Sff8636 attempts 96 (now (buffer .entry)))) ⌝ }
 {
     qsfp_page_open_with(family, device, lan, attempts, buffer, i2c::standard())
 }
@@ -139,7 +139,7 @@ fn page_on(
     a: Answer,
 ) -> PageTold
     requires { ⌜ 96 ≤ length (now buffer) ⌝ }
-    ensures { λ r. ⌜ Stores (saidPage r (now (buffer .exit)) ≡ lent (now (buffer .entry)) (steppedPage (PageCall.Going port q form tries m t) (now (buffer .entry)) a)) (standsPage r) (now (buffer .exit) ≡ kept (now (buffer .entry)) (bufferStepped (PageCall.Going port q form tries m t) (now (buffer .entry)) a)) ⌝ }
+    ensures { λ r. ⌜ Fills (saidPage r (now (buffer .exit)) ≡ lent (now (buffer .entry)) (steppedPage (PageCall.Going port q form tries m t) (now (buffer .entry)) a)) (standsPage r) (now (buffer .exit) ≡ kept (now (buffer .entry)) (bufferStepped (PageCall.Going port q form tries m t) (now (buffer .entry)) a)) (FilledAs r (now (buffer .exit)) (λ l. filledCall (PageCall.Going port q form tries m t) (now (buffer .entry)) (a ∷ l))) ⌝ }
 {
     let ok = valid(port, form, tries, m, t);
     match hardware::admit(ok, crate::walk::access(port, t), a) {
@@ -153,7 +153,7 @@ fn page_on(
 
 // Questions 9, and then 10 to 12, of both.
 pub fn page_step(s: PageCall, buffer: &mut [u8], a: Answer) -> PageTold
-    ensures { λ t. ⌜ Stores (saidPage t (now (buffer .exit)) ≡ stepPage s (now (buffer .entry)) a) (standsPage t) (now (buffer .exit) ≡ bufferAfter s (now (buffer .entry)) a) ⌝ }
+    ensures { λ t. ⌜ Fills (saidPage t (now (buffer .exit)) ≡ stepPage s (now (buffer .entry)) a) (standsPage t) (now (buffer .exit) ≡ bufferAfter s (now (buffer .entry)) a) (FilledAs t (now (buffer .exit)) (λ l. filledCall s (now (buffer .entry)) (a ∷ l))) ⌝ }
 {
     if buffer.len() < 96 {
         return PageTold::Refused(Refusal::Buffer);

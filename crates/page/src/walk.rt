@@ -15,15 +15,15 @@ use transfer::attempt::Sequence;
 ghost use Prim.Native.Nat.{ℕ, _+_, _<_, _≤_, suc};
 ghost use mathlib.Core.Path.{_≡_};
 ghost use mathlib.Core.Bool.{true};
-ghost use mathlib.Core.List.{List};
+ghost use mathlib.Core.List.{List, _∷_};
 ghost use lib.ListN.{length, set};
-ghost use Rattle.hardware.specs.Promise.{Keeps, Stores};
+ghost use Rattle.hardware.specs.Promise.{Stores};
 ghost use Rattle.hardware.specs.Prog.{ret, erase, followed};
 ghost use Rattle.transfer.specs.Attempt.{got};
-ghost use Rattle.i2c.specs.I2c.{locked};
+ghost use Rattle.i2c.specs.I2c.{locked, valueOf};
 ghost use Rattle.i2c.specs.Handshake.{valued, handshakeNext, dueHandshakeNext, validHandshakeNext};
 ghost use Rattle.page.specs.Page.{offsetOf, placeOf, requestAt, byteSeen, pageFrom};
-ghost use Rattle.page.specs.Walk.{capAt, accessPage, restPage, stored, bufferPage, pageNext, validPage, validPageNext};
+ghost use Rattle.page.specs.Walk.{Fills, capAt, accessPage, restPage, stored, bufferPage, filling, filledFrom, filledAt, filledNext, pageNext, validPage, validPageNext};
 
 // Which module's page: SFF-8472's begins at byte 0, SFF-8636's at byte 128.
 pub enum Form {
@@ -87,7 +87,7 @@ fn store(buffer: &mut [u8], at: usize, v: u8)
 
 // A byte's request. With no attempt it can be over at once, and then it has failed: no byte is read without an access.
 pub fn begin(port: Port, q: Sequence, form: Form, tries: u8, left: u8) -> PageNext
-    ensures { λ t. ⌜ Keeps ((l : List ℕ) → pageNext q port form tries t l ≡ erase (pageFrom q port form tries (suc left) l)) ((m : Meter) → left < 96 → m .transfers + tries ≤ capAt tries left → validPageNext port form tries m t ≡ true) ⌝ }
+    ensures { λ t. ⌜ Stores ((l : List ℕ) → pageNext q port form tries t l ≡ erase (pageFrom q port form tries (suc left) l)) ((m : Meter) → left < 96 → m .transfers + tries ≤ capAt tries left → validPageNext port form tries m t ≡ true) ((b : List ℕ) (l : List Answer) → filledNext q port form tries t b l ≡ filledFrom q port form tries (suc left) b l) ⌝ }
 {
     let how = How {
         lock: true,
@@ -105,7 +105,7 @@ pub fn begin(port: Port, q: Sequence, form: Form, tries: u8, left: u8) -> PageNe
 // So many bytes are left: the next, or the sums.
 fn next(port: Port, q: Sequence, form: Form, tries: u8, left: u8, buffer: &[u8]) -> PageNext
     requires { ⌜ 96 ≤ length (now buffer) ⌝ }
-    ensures { λ t. ⌜ Keeps (pageNext q port form tries t (now (buffer .entry)) ≡ erase (pageFrom q port form tries left (now (buffer .entry)))) ((m : Meter) → left < 96 → m .transfers ≤ capAt tries left → validPageNext port form tries m t ≡ true) ⌝ }
+    ensures { λ t. ⌜ Stores (pageNext q port form tries t (now (buffer .entry)) ≡ erase (pageFrom q port form tries left (now (buffer .entry)))) ((m : Meter) → left < 96 → m .transfers ≤ capAt tries left → validPageNext port form tries m t ≡ true) ((l : List Answer) → filledNext q port form tries t (now (buffer .entry)) l ≡ filledFrom q port form tries left (now (buffer .entry)) l) ⌝ }
 {
     if left == 0 {
         return PageNext::End(crate::sums::judge(buffer));
@@ -125,7 +125,7 @@ fn ended(
     g: Got,
 ) -> PageNext
     requires { ⌜ 96 ≤ length (now buffer) ⌝ }
-    ensures { λ t. ⌜ Stores (pageNext q port form tries t (now (buffer .exit)) ≡ erase (valued (requestAt form left) (byteSeen (pageFrom q port form tries left) (placeOf left) (now (buffer .entry))) (got g))) ((m : Meter) → left < 96 → m .transfers ≤ capAt tries left → validPageNext port form tries m t ≡ true) (now (buffer .exit) ≡ stored (placeOf left) (now (buffer .entry)) (ret (got g))) ⌝ }
+    ensures { λ t. ⌜ Fills (pageNext q port form tries t (now (buffer .exit)) ≡ erase (valued (requestAt form left) (byteSeen (pageFrom q port form tries left) (placeOf left) (now (buffer .entry))) (got g))) ((m : Meter) → left < 96 → m .transfers ≤ capAt tries left → validPageNext port form tries m t ≡ true) (now (buffer .exit) ≡ stored (placeOf left) (now (buffer .entry)) (ret (got g))) ((l : List Answer) → filledNext q port form tries t (now (buffer .exit)) l ≡ filling (placeOf left) (filledFrom q port form tries left) (now (buffer .entry)) (ret (valueOf (requestAt form left) (got g))) l) ⌝ }
 {
     match g {
         Got::Ok(t) => {
@@ -146,7 +146,7 @@ fn from_request(
     n: HandshakeNext,
 ) -> PageNext
     requires { ⌜ 96 ≤ length (now buffer) ⌝ }
-    ensures { λ t. ⌜ Stores (pageNext q port form tries t (now (buffer .exit)) ≡ followed (handshakeNext port (requestAt form left) (locked q) n) (valued (requestAt form left) (byteSeen (pageFrom q port form tries left) (placeOf left) (now (buffer .entry))))) ((m : Meter) → left < 96 → validHandshakeNext tries port (requestAt form left) n ≡ true → m .transfers + dueHandshakeNext (requestAt form left) n ≤ capAt tries left → validPageNext port form tries m t ≡ true) (now (buffer .exit) ≡ stored (placeOf left) (now (buffer .entry)) (handshakeNext port (requestAt form left) (locked q) n)) ⌝ }
+    ensures { λ t. ⌜ Fills (pageNext q port form tries t (now (buffer .exit)) ≡ followed (handshakeNext port (requestAt form left) (locked q) n) (valued (requestAt form left) (byteSeen (pageFrom q port form tries left) (placeOf left) (now (buffer .entry))))) ((m : Meter) → left < 96 → validHandshakeNext tries port (requestAt form left) n ≡ true → m .transfers + dueHandshakeNext (requestAt form left) n ≤ capAt tries left → validPageNext port form tries m t ≡ true) (now (buffer .exit) ≡ stored (placeOf left) (now (buffer .entry)) (handshakeNext port (requestAt form left) (locked q) n)) ((l : List Answer) → filledNext q port form tries t (now (buffer .exit)) l ≡ filling (placeOf left) (filledFrom q port form tries left) (now (buffer .entry)) (followed (handshakeNext port (requestAt form left) (locked q) n) (valued (requestAt form left) ret)) l) ⌝ }
 {
     match n {
         HandshakeNext::Going(k, s) => PageNext::Going(k, Page { left, request: s }),
@@ -189,7 +189,7 @@ pub(crate) fn step(
     a: Answer,
 ) -> PageNext
     requires { ⌜ 96 ≤ length (now buffer) ⌝ }
-    ensures { λ t. ⌜ Stores (pageNext q port form tries t (now (buffer .exit)) ≡ erase (restPage q port form tries s (now (buffer .entry)) a)) ((m : Meter) → validPage port form tries m s ≡ true → validPageNext port form tries m t ≡ true) (now (buffer .exit) ≡ bufferPage q port form s (now (buffer .entry)) a) ⌝ }
+    ensures { λ t. ⌜ Fills (pageNext q port form tries t (now (buffer .exit)) ≡ erase (restPage q port form tries s (now (buffer .entry)) a)) ((m : Meter) → validPage port form tries m s ≡ true → validPageNext port form tries m t ≡ true) (now (buffer .exit) ≡ bufferPage q port form s (now (buffer .entry)) a) ((l : List Answer) → filledNext q port form tries t (now (buffer .exit)) l ≡ filledAt q port form tries s (now (buffer .entry)) (a ∷ l)) ⌝ }
 {
     let left = s.left;
     let t = s.request;

@@ -3,8 +3,8 @@ use Rattle.hardware.proofs.Prog.{tally-erase}
 use Rattle.hardware.specs.Asked.{question}
 use Rattle.hardware.specs.Lent.{goes, lent}
 use Rattle.hardware.specs.Prog.{blank, tally}
-use Rattle.page.proofs.Laws.{cap-first}
-use Rattle.page.specs.Calls.{bufferFits, openForm, saidPage, standsPage}
+use Rattle.page.proofs.Laws.{cap-first, filled-as}
+use Rattle.page.specs.Calls.{FilledAs, bufferFits, openForm, saidPage, standsPage}
 use Rattle.page.specs.Page.{page}
 use borrow.Author.Needs.{needs}
 use borrow.Author.Tests.{le-leb, lt-leb}
@@ -14,12 +14,12 @@ use Rattle.page.proofs.calls.opened.Statement.{statement}
 use Rattle.page.proofs.calls.opened.Tie as tie
 
 returns : tie.Need-returns
-unfolding openForm question lent saidPage standsPage
-returns c = record { yields = rw (lt-leb _ _ (c .if1 .taken)); limits = λ p. tt }
+unfolding openForm question lent saidPage standsPage FilledAs
+returns c = record { yields = rw (lt-leb _ _ (c .if1 .taken)); limits = λ p. tt; holds = tt }
 
 returns-2 : tie.Need-returns-2
-unfolding openForm question lent bufferFits saidPage standsPage
-returns-2 c = record { yields = rw (le-leb _ _ (c .before .if1 .left), lt-leb _ _ (c .if2 .taken)); limits = λ p. tt }
+unfolding openForm question lent bufferFits saidPage standsPage FilledAs
+returns-2 c = record { yields = rw (le-leb _ _ (c .before .if1 .left), lt-leb _ _ (c .if2 .taken)); limits = λ p. tt; holds = tt }
 
 cast-tries : tie.Need-cast-tries
 cast-tries c = search needs
@@ -36,6 +36,7 @@ returns-3 c =
     record {
       yields = rw (le-leb _ _ (c .before .before .before .if1 .left), le-leb _ _ (c .before .before .if2 .left)) (c .told .ensures .yields _ (omega arith) ∙ ap goes (ap (tally blank) (c .before .begin .ensures .yields _) ∙ tally-erase blank _));
       limits = λ p. c .told .ensures .limits p (c .before .begin .ensures .limits blank (omega arith) (cap-first _));
+      holds = filled-as _ _ _ _ (c .before .begin .ensures .holds _) (c .told .ensures .holds _);
     }
 
 pub opened-spec : {M : Type 1} → statement M

@@ -4,8 +4,8 @@ use Rattle.hardware.proofs.Prog.{tally-erase}
 use Rattle.hardware.specs.Asked.{validPort}
 use Rattle.hardware.specs.Lent.{goes, lent}
 use Rattle.hardware.specs.Prog.{tally}
-use Rattle.page.proofs.Laws.{valid-below}
-use Rattle.page.specs.Calls.{bufferStepped, kept, saidPage, standsPage, steppedPage, validCall}
+use Rattle.page.proofs.Laws.{filled-as, valid-below}
+use Rattle.page.specs.Calls.{FilledAs, bufferStepped, filledCall, kept, saidPage, standsPage, steppedPage, validCall}
 use borrow.Author.Needs.{needs}
 use mathlib.Core.Path.{_∙_, ap, sym}
 use native.Mathlib.Omega.{arith}
@@ -37,7 +37,7 @@ same-length : tie.Need-same-length
 same-length c = search needs
 
 returns : tie.Need-returns
-unfolding steppedPage bufferStepped kept lent validCall
+unfolding steppedPage bufferStepped kept lent validCall filledCall
 returns c =
     let e = c .before .before .before .before .before .enum-told .given .1 in
     let h = rw (c .before .before .before .before .before .before .before .before .before .valid .ensures, c .before .before .before .before .before .before .before .before .access .ensures) at (c .before .before .before .before .before .before .before .admit .ensures) in
@@ -45,14 +45,15 @@ returns c =
     record {
       yields = c .told .ensures .yields _ (valid-below _ _ _ _ _ (omega arith) (v .1)) ∙ ap goes (ap (tally _) (c .before .before .before .step .ensures .yields) ∙ tally-erase _ _) ∙ ap (lent _) (sym (admits-yes _ _ _ _ e h));
       holds = c .before .before .before .step .ensures .holds ∙ ap (kept _) (sym (admits-yes _ _ _ _ e h));
+      fills = filled-as _ _ _ _ (c .before .before .before .step .ensures .fills) (c .told .ensures .holds _);
       limits = c .told .ensures .limits (v .0) (c .before .before .before .step .ensures .limits _ (v .1));
     }
 
 returns-2 : tie.Need-returns-2
-unfolding steppedPage bufferStepped kept lent saidPage standsPage
+unfolding steppedPage bufferStepped kept lent saidPage standsPage FilledAs
 returns-2 c =
     let h = rw (c .before .before .before .before .before .valid .ensures, c .before .before .before .before .access .ensures) at (c .before .before .before .admit .ensures) in
-    record { yields = ap (lent _) (sym (admits-no _ _ _ _ (c .before .n .given .1) h)); limits = tt; holds = ap (kept _) (sym (admits-no _ _ _ _ (c .before .n .given .1) h)) }
+    record { yields = ap (lent _) (sym (admits-no _ _ _ _ (c .before .n .given .1) h)); limits = tt; holds = ap (kept _) (sym (admits-no _ _ _ _ (c .before .n .given .1) h)); fills = tt }
 
 pub page-on-spec : {M : Type 1} → statement M
 page-on-spec =

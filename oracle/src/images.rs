@@ -91,7 +91,7 @@ type Light = (&'static str, u8, u16, u16, [f32; 5]);
 
 const LINE: [f32; 5] = [0.0, 0.0, 0.0, 1.0, 0.0];
 const BENT: [f32; 5] = [1e-16, -2e-11, 1.5e-6, 0.98, -12.5];
-const LIGHTS: [Light; 12] = [
+const LIGHTS: [Light; 14] = [
     ("internal", INTERNAL, 0x2380, 4000, LINE),
     ("straight", EXTERNAL, 0x2380, 4000, LINE),
     ("curved", EXTERNAL, 0x1f41, 4000, BENT),
@@ -104,6 +104,8 @@ const LIGHTS: [Light; 12] = [
     ("coldest", INTERNAL, 0x8000, 0, LINE),
     ("below0", INTERNAL, 0xffff, 1, LINE),
     ("hottest", INTERNAL, 0x7fff, 0xffff, LINE),
+    ("lower", EXTERNAL, 0x2380, 4000, [-1e20, 0.0, 0.0, 1.0, 0.0]),
+    ("minus0", EXTERNAL, 0x2380, 4000, [0.0, 0.0, 0.0, 0.0, -0.25]),
 ];
 
 /// The images of `monitor`: those above in a 10GBASE-SR, and a cable, which has

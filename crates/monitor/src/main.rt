@@ -2,13 +2,12 @@
 // command line name images of modules; each is opened before anything is printed.
 mod decimals;
 mod faults;
-mod files;
 mod power;
 mod print;
 mod readings;
 mod record;
 
-use files::Size;
+use image::files::Size;
 
 // Whether the word names an image; if not, standard error says so.
 fn whole(place: usize) -> bool {
@@ -18,12 +17,12 @@ fn whole(place: usize) -> bool {
         faults::long(place);
         return false;
     }
-    let image = files::read(&path[..n]);
+    let image = image::files::read(&path[..n]);
     let size = image.size;
     if let Size::Whole = size {
         return true;
     }
-    faults::image(place, &path[..n], size);
+    image::faults::image(place, &path[..n], size);
     false
 }
 
@@ -42,16 +41,17 @@ fn all_whole(count: usize) -> bool {
 fn one(place: usize) {
     let mut path = io::buffer();
     let n = os::arg(place, &mut path);
-    let image = files::read(&path[..n]);
+    let image = image::files::read(&path[..n]);
     let size = image.size;
     if let Size::Whole = size {
         let a0 = image.a0;
         let a2 = image.a2;
-        record::image(place, &path[..n], a0[92]);
-        record::end(readings::read(a0, a2));
+        let kind = a0[92];
+        record::image(place, &path[..n], kind);
+        record::end(kind, readings::read(a0, a2));
         return;
     }
-    faults::image(place, &path[..n], size);
+    image::faults::image(place, &path[..n], size);
 }
 
 fn all(count: usize) {

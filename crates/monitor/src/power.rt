@@ -19,7 +19,7 @@ fn digits(bits: u32) -> u32 {
     d + 0x80_0000
 }
 
-// From 2^63 on it is not printed: that is more than 9 * 10^14 mW.
+// From 2^63 on in size it is not printed: that is more than 9 * 10^14 mW, or less than -9 * 10^14 mW.
 fn large(exponent: u32) -> bool {
     190 <= exponent
 }
@@ -47,19 +47,38 @@ fn nearest(digits: u32, exponent: u32) -> u64 {
     higher(digits, exponent - 150)
 }
 
-fn sign(bits: u32) {
-    if 0x8000_0000 <= bits {
-        print::text(b"-");
+fn negative(bits: u32) -> bool {
+    0x8000_0000 <= bits
+}
+
+fn beyond(bits: u32) {
+    if negative(bits) {
+        print::text(b"less than -9 * 10^14 mW (the float ");
+    } else {
+        print::text(b"more than 9 * 10^14 mW (the float ");
     }
 }
 
+// A sign only where the rounded count is not 0; the pattern beside it tells a float below 0.
+fn sign(bits: u32, count: u64) {
+    if negative(bits) {
+        if 0 < count {
+            print::text(b"-");
+        }
+    }
+}
+
+fn rounded(bits: u32, count: u64) {
+    sign(bits, count);
+    decimals::ten_thousandths(count);
+    print::text(b" mW (rounded from the float ");
+}
+
 fn of_pattern(bits: u32) {
-    sign(bits);
     if large(exponent(bits)) {
-        print::text(b"more than 9 * 10^14 mW (the float ");
+        beyond(bits);
     } else {
-        decimals::ten_thousandths(nearest(digits(bits), exponent(bits)));
-        print::text(b" mW (rounded from the float ");
+        rounded(bits, nearest(digits(bits), exponent(bits)));
     }
     io::print_hex(print::STDOUT, bits as u64, 8);
     print::text(b")\n");

@@ -8,9 +8,13 @@ use light::sensed::Measured;
 use light::sensed::Measures;
 
 // Byte 92 of A0 says whether there is monitoring, and with which calibration.
+fn monitored(kind: u8) -> bool {
+    sfp::class::has(kind, light::sensed::MONITORED)
+}
+
 fn calibration(kind: u8) {
     print::text(b"calibration         ");
-    if sfp::class::none_of(kind, light::sensed::MONITORED) {
+    if !monitored(kind) {
         print::text(b"none: the module has no monitoring\n");
     } else if sfp::class::has(kind, light::sensed::EXTERNAL) {
         print::text(b"external: receiver power by its coefficients, the rest raw\n");
@@ -27,7 +31,7 @@ pub(crate) fn image(place: usize, path: &[u8], kind: u8) {
         print::text(b"\n");
     }
     print::text(b"image               ");
-    print::shown(print::STDOUT, path);
+    image::print::shown(print::STDOUT, path);
     print::text(b"\n");
     calibration(kind);
 }
@@ -58,9 +62,9 @@ fn measures(m: Measures) {
     received(r);
 }
 
-// Without monitoring only byte 92 was read, and nothing was measured.
-fn measured(m: Measures, made: u32) {
-    if 1 < made {
+// Without monitoring nothing was measured.
+fn measured(m: Measures, kind: u8) {
+    if monitored(kind) {
         measures(m);
     }
 }
@@ -71,9 +75,9 @@ fn failed(r: Measured, why: &[u8]) {
     print::text(why);
 }
 
-fn over(r: Measured, made: u32) {
+fn over(kind: u8, r: Measured, made: u32) {
     match r {
-        Measured::Ok(m) => measured(m, made),
+        Measured::Ok(m) => measured(m, kind),
         Measured::Coefficient => failed(
             r,
             b": a coefficient of the receiver power is not finite\n",
@@ -87,9 +91,9 @@ fn over(r: Measured, made: u32) {
 }
 
 // Only the first is met: every lock and grant comes, and the port is one that opens.
-pub(crate) fn end(e: LightEnd) {
+pub(crate) fn end(kind: u8, e: LightEnd) {
     match e {
-        LightEnd::Over(r, made) => over(r, made),
+        LightEnd::Over(r, made) => over(kind, r, made),
         LightEnd::Unended => print::text(b"the call did not end\n"),
     }
 }

@@ -1,34 +1,10 @@
 // Bad input: one line on standard error, with the papers' number in front where they have one.
-use crate::files::Size;
-use crate::print;
 use crate::settings::Fault;
 use hardware::Refusal;
-
-const STDERR: i32 = 2;
-
-fn text(bytes: &[u8]) {
-    io::write_all(STDERR, bytes);
-}
-
-fn decimal(n: usize) {
-    io::print_decimal(STDERR, n as u64);
-}
-
-fn quoted(word: &[u8]) {
-    text(b", '");
-    print::shown(STDERR, word);
-    text(b"'");
-}
-
-// Where: the number of the word, and the word unless it is empty or too long.
-fn at(place: usize, word: &[u8]) {
-    text(b"word ");
-    decimal(place);
-    if 0 < word.len() {
-        quoted(word);
-    }
-    text(b": ");
-}
+use image::faults;
+use image::faults::decimal;
+use image::faults::text;
+use image::files::Size;
 
 // The papers' number.
 fn number(q: Refusal) {
@@ -59,7 +35,7 @@ fn counted(before: &[u8], n: u8, after: &[u8]) {
 fn meaning(f: Fault) {
     match f {
         Fault::Nothing => text(b"\n"),
-        Fault::Long => text(b"a word has at most 4096 bytes\n"),
+        Fault::Long => faults::long(),
         Fault::Second => text(b"an image is named already, and a setting is NAME=VALUE\n"),
         Fault::Name => {
             text(
@@ -83,7 +59,7 @@ fn meaning(f: Fault) {
 
 fn named(place: usize, word: &[u8], f: Fault) {
     numbered(f);
-    at(place, word);
+    faults::at(place, word);
     meaning(f);
 }
 
@@ -97,7 +73,7 @@ pub(crate) fn word(place: usize, f: Fault) {
 pub(crate) fn control(place: usize) {
     let mut bytes = io::buffer();
     let n = os::arg(place, &mut bytes);
-    at(place, &bytes[..n]);
+    faults::at(place, &bytes[..n]);
     text(b"on the X552 and X553 the start has BB_EN (100) or both enables off (800 and 2000)\n");
 }
 
@@ -115,29 +91,9 @@ pub(crate) fn port(q: Refusal) {
     refused(q);
 }
 
-fn size(s: Size) {
-    match s {
-        Size::Whole => text(b"\n"),
-        Size::Short(n) => {
-            text(b"the file has ");
-            decimal(n);
-            text(b" bytes; an image has 512, page A0 and then page A2\n");
-        }
-        Size::Long => {
-            text(b"the file has more than 512 bytes; an image has 512, page A0 and then page A2\n")
-        }
-        Size::Unread => os::fail(b"the file cannot be read"),
-    }
-}
-
-pub(crate) fn image(place: usize, path: &[u8], s: Size) {
-    at(place, path);
-    size(s);
-}
-
 pub(crate) fn shipped(name: &[u8], s: Size) {
     text(b"shipped image '");
     text(name);
     text(b"': ");
-    size(s);
+    faults::size(s);
 }

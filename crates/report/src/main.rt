@@ -4,7 +4,6 @@
 mod digits;
 mod ends;
 mod faults;
-mod files;
 mod pages;
 mod print;
 mod record;
@@ -12,10 +11,10 @@ mod settings;
 mod start;
 mod table;
 
-use files::Image;
-use files::Size;
 use hardware::Opening;
 use hardware::Port;
+use image::files::Image;
+use image::files::Size;
 use settings::Reading;
 use settings::Settings;
 
@@ -49,13 +48,13 @@ fn read(p: Port, s: Settings) {
     let place = s.image;
     let mut path = io::buffer();
     let n = os::arg(place, &mut path);
-    let image = files::read(&path[..n]);
+    let image = image::files::read(&path[..n]);
     let size = image.size;
     match size {
         Size::Whole => identified(p, s, &path[..n], image),
-        Size::Short(_) => faults::image(place, &path[..n], size),
-        Size::Long => faults::image(place, &path[..n], size),
-        Size::Unread => faults::image(place, &path[..n], size),
+        Size::Short(_) => image::faults::image(place, &path[..n], size),
+        Size::Long => image::faults::image(place, &path[..n], size),
+        Size::Unread => image::faults::image(place, &path[..n], size),
     }
 }
 

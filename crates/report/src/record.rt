@@ -31,7 +31,7 @@ fn trimmed(bytes: &[u8]) -> usize
 
 fn field(bytes: &[u8]) {
     let n = trimmed(bytes);
-    print::shown(print::STDOUT, &bytes[..n]);
+    image::print::shown(print::STDOUT, &bytes[..n]);
 }
 
 // Vendor, part and serial number.
@@ -210,7 +210,7 @@ pub(crate) fn all(
     page: [u8; 96],
 ) {
     print::text(b"image       ");
-    print::shown(print::STDOUT, path);
+    image::print::shown(print::STDOUT, path);
     print::text(b"\n");
     port(p);
     start(before);

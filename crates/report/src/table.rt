@@ -1,14 +1,13 @@
 // The shipped images, each from every stage of the receiver, with the default clearing sequence and with that of the Rust.
 use crate::ends;
 use crate::faults;
-use crate::files;
-use crate::files::Image;
-use crate::files::Size;
 use crate::print;
 use crate::start;
 use bench::register::BenchState;
 use hardware::Family;
 use identify::walk::Identified;
+use image::files::Image;
+use image::files::Size;
 use onbench::Ending;
 use onbench::Run;
 use sfp::Identity;
@@ -251,7 +250,7 @@ fn title() {
 
 // Whether the image can be read; if so and `printed`, its line.
 fn one(name: &[u8], printed: bool) -> bool {
-    let image = files::read(name);
+    let image = image::files::read(name);
     let size = image.size;
     match size {
         Size::Whole => {

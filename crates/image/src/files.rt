@@ -1,4 +1,7 @@
 // Reading an image: 512 bytes, page A0 and then page A2.
+ghost use mathlib.Core.Path.{_≡_};
+ghost use Rattle.image.specs.declared.files.Size.the-variants.{Unread};
+ghost use Rattle.image.specs.Size.{SizeOf, Told};
 
 // How many bytes a file has, and whether it could be read.
 pub enum Size {
@@ -15,7 +18,9 @@ pub struct Image {
 }
 
 // count: the bytes read of at most 512. past: what a read after them answered.
-fn sized(count: usize, past: isize) -> Size {
+fn sized(count: usize, past: isize) -> Size
+    ensures { λ r. ⌜ SizeOf count past r ⌝ }
+{
     if past < 0 {
         return Size::Unread;
     }
@@ -28,7 +33,9 @@ fn sized(count: usize, past: isize) -> Size {
     Size::Whole
 }
 
-fn pages(fd: i32) -> Image {
+fn pages(fd: i32) -> Image
+    ensures { λ r. ⌜ Told (r .size) ⌝ }
+{
     let mut a0 = [0u8; 256];
     let mut a2 = [0u8; 256];
     let mut past = [0u8; 1];
@@ -42,7 +49,9 @@ fn pages(fd: i32) -> Image {
     }
 }
 
-fn unread() -> Image {
+fn unread() -> Image
+    ensures { λ r. ⌜ r .size ≡ Unread ⌝ }
+{
     Image {
         size: Size::Unread,
         a0: [0; 256],
@@ -51,7 +60,9 @@ fn unread() -> Image {
 }
 
 // Where the file could not be read, errno says why.
-pub(crate) fn read(path: &[u8]) -> Image {
+pub fn read(path: &[u8]) -> Image
+    ensures { λ r. ⌜ Told (r .size) ⌝ }
+{
     let fd = os::open_read(path);
     if fd < 0 {
         return unread();

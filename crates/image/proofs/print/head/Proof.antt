@@ -1,8 +1,8 @@
 -- `head` is safe and ends. The measure is the number of bytes that are left.
 use Prim.Native.Nat.{_-_, _≤_}
 use borrow.Author.Needs.{needs}
-use Rattle.report.proofs.print.head.Statement.{statement}
-use Rattle.report.proofs.print.head.Tie as tie
+use Rattle.image.proofs.print.head.Statement.{statement}
+use Rattle.image.proofs.print.head.Tie as tie
 
 abbrev Inv-loop : tie.InvT-loop
 Inv-loop fd bytes i₀ i = i ≤ 100

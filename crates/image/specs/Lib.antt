@@ -1,0 +1,2 @@
+pub mod Size
+pub mod Text

@@ -5,12 +5,13 @@ use crate::answers::{Failed, Fnv, Player, Rule, Stream};
 use crate::driver::i2c::{self, Sequence};
 use crate::driver::sfp::{self, Kind, Module};
 use crate::driver::{hostif, sync, Error, Family, Port};
+use crate::level::{self, Levels};
 use crate::light;
 use crate::lines::{Lines, MARK};
 use crate::page;
 use crate::script::script;
 
-// Function numbers. 10 and up are `i2c`'s, 20 and up `sfp`'s, 24 and 25 pages.
+// Function numbers. 10 and up are `i2c`'s, 20 and up `sfp`'s; the original has no function from 24 on.
 pub const LOCK: u32 = 0;
 pub const UNLOCK: u32 = 1;
 pub const ACQUIRE: u32 = 2;
@@ -35,6 +36,7 @@ pub const METHOD: u32 = 23;
 pub const PAGE: u32 = 24;
 pub const QSFP_PAGE: u32 = 25;
 pub const LIGHT: u32 = 26;
+pub const LEVEL: u32 = 27;
 
 /// Added to a function's number on the line where the sequence is S-2's.
 pub const WITH_ROUNDS: u32 = 100;
@@ -159,6 +161,7 @@ impl Case {
             ONES_ADD => [0, i2c::probe_ones_add(a1 as u8, a2 as u8).into(), 0, 0],
             PLAIN => [0, self.plain(a1), 0, 0],
             METHOD => self.method(a1),
+            LEVEL => Levels::new().numbers(a1),
             other => panic!("no function {other}"),
         }
     }
@@ -337,6 +340,7 @@ impl Case {
             METHOD => a1 <= NVM_KEY && a2 & !MULTISPEED < KINDS.len() as u32,
             PAGE | QSFP_PAGE => a1 <= 0xff && a3 <= 3,
             LIGHT => a1 <= 0xff,
+            LEVEL => a1 <= level::LAST,
             _ => self.function <= PHY || self.function == QSFP_SETUP,
         };
         if !known {

@@ -4,6 +4,7 @@ use crate::answers::{Rule, NEVER};
 use crate::case::*;
 use crate::driver::i2c::Sequence;
 use crate::driver::{sync, Family};
+use crate::level::LAST;
 use crate::rules::*;
 
 mod sfp;
@@ -80,9 +81,9 @@ impl Choice {
     }
 
     fn case(&mut self) -> Case {
-        const CALLS: [u32; 16] = [
+        const CALLS: [u32; 17] = [
             LOCK, UNLOCK, ACQUIRE, ACQUIRE, ACQUIRE, ACQUIRE, RELEASE, RELEASE, RELEASE, COMMAND, COMMAND,
-            COMMAND, TOKEN, TOKEN, REGS, BITS,
+            COMMAND, TOKEN, TOKEN, REGS, BITS, LEVEL,
         ];
         let function = self.one(&CALLS);
         let family = self.below(5);
@@ -101,7 +102,7 @@ impl Choice {
             rules: Vec::new(),
             lines: None,
         };
-        if !matches!(function, REGS | BITS) {
+        if !matches!(function, REGS | BITS | LEVEL) {
             case.rules = self.rules(&case);
         }
         case
@@ -113,6 +114,7 @@ impl Choice {
             COMMAND if self.percent(60) => 1 + self.below(7),
             COMMAND => 1 + self.below(BLOCK_WORDS),
             TOKEN => self.below(2),
+            LEVEL => self.below(LAST + 1),
             _ => self.word(),
         }
     }

@@ -91,7 +91,7 @@ type Light = (&'static str, u8, u16, u16, [f32; 5]);
 
 const LINE: [f32; 5] = [0.0, 0.0, 0.0, 1.0, 0.0];
 const BENT: [f32; 5] = [1e-16, -2e-11, 1.5e-6, 0.98, -12.5];
-const LIGHTS: [Light; 14] = [
+const LIGHTS: [Light; 20] = [
     ("internal", INTERNAL, 0x2380, 4000, LINE),
     ("straight", EXTERNAL, 0x2380, 4000, LINE),
     ("curved", EXTERNAL, 0x1f41, 4000, BENT),
@@ -106,6 +106,12 @@ const LIGHTS: [Light; 14] = [
     ("hottest", INTERNAL, 0x7fff, 0xffff, LINE),
     ("lower", EXTERNAL, 0x2380, 4000, [-1e20, 0.0, 0.0, 1.0, 0.0]),
     ("minus0", EXTERNAL, 0x2380, 4000, [0.0, 0.0, 0.0, 0.0, -0.25]),
+    ("near0", INTERNAL, 0x2380, 9999, LINE),
+    ("faint", EXTERNAL, 0x2380, 4000, [0.0, 0.0, 0.0, 0.0, 0.5]),
+    ("bright", EXTERNAL, 0x2380, 0xffff, [0.0, 0.0, 0.0, 1.0, 1.0]),
+    ("zero", INTERNAL, 0, 10_000, LINE),
+    ("full", EXTERNAL, 0x2380, 0xffff, LINE),
+    ("strong", EXTERNAL, 0x2380, 4000, [0.0, 0.0, 0.0, 0.0, 1e9]),
 ];
 
 /// The images of `monitor`: those above in a 10GBASE-SR, and a cable, which has

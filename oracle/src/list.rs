@@ -8,6 +8,7 @@ use crate::case::*;
 use crate::driver::i2c::Sequence;
 use crate::driver::sync::{self, EEP, I2C0, I2C1, PHY0, PHY1, SHARED_I2C, SW_MNG};
 use crate::driver::Family;
+use crate::level;
 use crate::rules::*;
 
 mod light;
@@ -54,6 +55,7 @@ pub fn cases() -> Vec<Case> {
     pages::add(&mut list);
     rounds::add(&mut list);
     light::add(&mut list);
+    levels(&mut list);
     list.cases
 }
 
@@ -689,5 +691,12 @@ fn random_argument(function: u32, lan: u32, word: u32) -> u32 {
         COMMAND => 1 + word % BLOCK_WORDS,
         TOKEN => word % 2,
         _ => 0,
+    }
+}
+
+/// Every count from 0 to 65,535, in its order, each in one case.
+fn levels(list: &mut List) {
+    for (i, first) in (0..=level::LAST).step_by(level::COUNTS as usize).enumerate() {
+        list.add(LEVEL, FAMILIES[i % FAMILIES.len()], i as u32 % 2, first, vec![]);
     }
 }

@@ -7,6 +7,7 @@ mod case;
 mod driver;
 mod fresh;
 mod images;
+mod level;
 mod light;
 mod lines;
 mod list;

@@ -26,6 +26,23 @@ pub(crate) fn ten_thousandths(n: u64) {
     three(n);
 }
 
+fn tenths(n: u32) {
+    print::decimal(n as u64 / 10);
+    print::text(b".");
+    digit(n as u64);
+}
+
+// A signed count of tenths.
+pub(crate) fn signed_tenths(n: i16) {
+    let up = unsigned::raised(n);
+    if up < 32768 {
+        print::text(b"-");
+        tenths(32768 - up);
+    } else {
+        tenths(up - 32768);
+    }
+}
+
 // The first of six digits, unless all are 0, and the six that are left.
 fn shorter(n: u32) -> u32 {
     if n == 0 {

@@ -1,6 +1,26 @@
-// A calibrated power, from the bit pattern of its float: to the nearest 0.1 uW, halves away from 0.
+// Powers in mW and their levels in dBm. A calibrated one is printed from the bit pattern of its float: to the nearest 0.1 uW,
+// halves away from 0.
 use crate::decimals;
 use crate::print;
+use level::dbm::Level;
+
+fn dbm(l: Level) {
+    match l {
+        Level::Tenths(t) => {
+            decimals::signed_tenths(t);
+            print::text(b" dBm");
+        }
+        Level::None => print::text(b"no light"),
+    }
+}
+
+// A count of 0.1 uW.
+pub(crate) fn counted(count: u16) {
+    decimals::ten_thousandths(count as u64);
+    print::text(b" mW (");
+    dbm(level::lookup::level(count));
+    print::text(b")\n");
+}
 
 // A float is its digits times 2 to the power of its exponent less 150.
 fn exponent(bits: u32) -> u32 {
@@ -68,10 +88,24 @@ fn sign(bits: u32, count: u64) {
     }
 }
 
+// The level of the rounded count, where that is 1 to 65,535.
+fn rounded_dbm(count: u64) {
+    if 0 < count {
+        if count <= 65535 {
+            dbm(level::lookup::level(count as u16));
+            print::text(b", ");
+        }
+    }
+}
+
 fn rounded(bits: u32, count: u64) {
     sign(bits, count);
     decimals::ten_thousandths(count);
-    print::text(b" mW (rounded from the float ");
+    print::text(b" mW (");
+    if !negative(bits) {
+        rounded_dbm(count);
+    }
+    print::text(b"rounded from the float ");
 }
 
 fn of_pattern(bits: u32) {
@@ -84,7 +118,7 @@ fn of_pattern(bits: u32) {
     print::text(b")\n");
 }
 
-// In mW.
-pub(crate) fn milliwatts(x: f32) {
+// A float in 0.1 uW.
+pub(crate) fn calibrated(x: f32) {
     of_pattern(unsigned::pattern(x));
 }

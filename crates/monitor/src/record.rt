@@ -39,11 +39,8 @@ pub(crate) fn image(place: usize, path: &[u8], kind: u8) {
 fn received(r: Reading) {
     print::text(b"receiver power      ");
     match r {
-        Reading::Internal(n) => {
-            decimals::ten_thousandths(n as u64);
-            print::text(b" mW\n");
-        }
-        Reading::Calibrated(x) => power::milliwatts(x),
+        Reading::Internal(n) => power::counted(n),
+        Reading::Calibrated(x) => power::calibrated(x),
         Reading::Absent => print::text(b"absent\n"),
     }
 }
@@ -56,8 +53,7 @@ fn measures(m: Measures) {
     print::text(b" V\nlaser bias current  ");
     decimals::thousandths(m.bias as u64 * 2);
     print::text(b" mA\nlaser output power  ");
-    decimals::ten_thousandths(m.sent as u64);
-    print::text(b" mW\n");
+    power::counted(m.sent);
     let r = m.reading;
     received(r);
 }

@@ -3,6 +3,7 @@ use crate::calls;
 use crate::calls::Summary;
 use crate::host;
 use crate::host::Host;
+use crate::levels;
 use crate::lights;
 use crate::methods;
 use crate::modules;
@@ -29,7 +30,7 @@ fn device(d: u32) -> u16 {
 // Whether the number names a call.
 fn known(call: u32) -> bool {
     match call {
-        0..=8 | 10..=17 | 20..=26 => true,
+        0..=8 | 10..=17 | 20..=27 => true,
         111..=114 | 120..=122 | 124..=126 => true,
         _ => false,
     }
@@ -129,6 +130,7 @@ fn call(words: &[u32; 45]) -> Summary {
         24 => pages::page(h, family, device, lan, a, s),
         25 => pages::qsfp_page(h, family, device, lan, a, s),
         26 => lights::light(h, family, device, lan, a, s),
+        27 => levels::levels(h, a),
         _ => transfer(words),
     }
 }

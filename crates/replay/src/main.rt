@@ -3,6 +3,7 @@
 mod calls;
 mod case;
 mod host;
+mod levels;
 mod lights;
 mod lines;
 mod methods;

@@ -4,7 +4,7 @@ ghost use Prim.Native.Nat.{_≤_};
 ghost use Rattle.level.specs.Level.{Greatest, LeastCounts, LevelOf};
 
 // Entry k is the least count c with 10^k at most c^100. Equal entries stand beside each other where k is small.
-const LEAST: [u32; 482] = [
+const LEAST: [u16; 482] = [
     1,
     2,
     2,
@@ -489,7 +489,7 @@ const LEAST: [u32; 482] = [
     64566,
 ];
 
-pub(crate) fn table() -> [u32; 482]
+pub(crate) fn table() -> [u16; 482]
     ensures { λ r. ⌜ LeastCounts r ⌝ }
 {
     LEAST
@@ -501,12 +501,11 @@ pub(crate) fn place(count: u16) -> usize
     ensures { λ r. ⌜ Greatest count r ⌝ }
 {
     let least = table();
-    let c = count as u32;
     let mut lo: usize = 0;
     let mut hi: usize = 482;
     for _ in 0u8..9 {
         let mid = (lo + hi) / 2;
-        if least[mid] <= c {
+        if least[mid] <= count {
             lo = mid;
         } else {
             hi = mid;

@@ -7,10 +7,10 @@ use Rattle.level.proofs.lookup.place.Statement.{statement}
 use Rattle.level.proofs.lookup.place.Tie as tie
 
 abbrev Inv-loop : tie.InvT-loop
-Inv-loop count least c lo₀ hi₀ counter₀ lo hi counter = Between count counter lo hi
+Inv-loop count least lo₀ hi₀ counter₀ lo hi counter = Between count counter lo hi
 
 abbrev μ-loop : tie.MeasureT-loop
-μ-loop count least c lo₀ hi₀ counter₀ lo hi counter = 9 - counter
+μ-loop count least lo₀ hi₀ counter₀ lo hi counter = 9 - counter
 
 table-requires : tie.Need-table-requires Inv-loop μ-loop
 table-requires c κs = search needs

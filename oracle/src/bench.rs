@@ -10,7 +10,7 @@ use crate::driver::i2c::{self, Sequence};
 use crate::driver::{sfp, Error, Port};
 use crate::fresh::Choice;
 use host::Host;
-use module::{Stage, Wired};
+use module::{has_mux, Stage, Wired, MUX_ON};
 use start::Start;
 
 mod host;
@@ -68,7 +68,8 @@ fn absent(end: &End) -> bool {
 fn as_claimed(start: &Start, end: &End) -> bool {
     let all = facts(start, end) == [true; 4];
     let stuck = start.sequence == Sequence::Pulses && start.module.receiver.stage == Stage::AckWrite;
-    all != stuck && (!stuck || absent(end)) && end.runs == end.transfers && end.wired.both == 0
+    let switched = end.wired.moved == 0 && (start.sequence == Sequence::Pulses || end.wired.unsettled == 0);
+    all != stuck && (!stuck || absent(end)) && end.runs == end.transfers && end.wired.both == 0 && switched
 }
 
 type Counts = BTreeMap<String, u32>;
@@ -86,6 +87,8 @@ struct Figures {
     starts: usize,
     /// Those in which the module pulled SDA.
     pulled: u32,
+    /// Those with a mux, off and on.
+    mux: [u32; 2],
     stages: Counts,
     /// The stages with their bits, Send with the bit sent, Listen with the SDA noted.
     states: Counts,
@@ -126,6 +129,9 @@ impl Figures {
         };
         self.starts += 1;
         self.pulled += words::extra(&start.module);
+        if has_mux(start.port) {
+            self.mux[usize::from(start.esdp & MUX_ON != 0)] += 1;
+        }
         add(&mut self.stages, stage.into());
         add(&mut self.states, state);
         add(&mut self.ports, format!("{family:?} {lan}{qsfp}"));
@@ -145,11 +151,13 @@ impl Tally {
     fn disagreed(&mut self, start: &Start, end: &End) {
         self.disagree += 1;
         if self.disagree <= SHOWN {
-            let Start { sequence, port, word, module, .. } = start;
+            let Start { sequence, port, word, esdp, module, .. } = start;
             let End { result, wired, transfers, runs } = end;
-            eprintln!("{sequence:?}, {port:?}, I2CCTL {word:08x}, {:?}:", module.receiver);
+            let Wired { both, moved, unsettled, .. } = wired;
+            eprintln!("{sequence:?}, {port:?}, I2CCTL {word:08x}, ESDP {esdp:08x}, {:?}:", module.receiver);
             eprintln!("  {result:?}, {transfers} transfers ({runs} seen), {:?}", wired.module.receiver);
-            eprintln!("  class, bytes, lines, transfers: {:?}; {} moved both", facts(start, end), wired.both);
+            eprintln!("  class, bytes, lines, transfers: {:?}; {both} moved both", facts(start, end));
+            eprintln!("  of ESDP {moved} moved a line, {unsettled} were unsettled");
         }
     }
 }
@@ -169,7 +177,8 @@ impl fmt::Display for Figures {
         }
         let fewest = self.states.values().min().unwrap_or(&0);
         writeln!(f, "states: {}, each in at least {fewest} starts", self.states.len())?;
-        writeln!(f, "pulled SDA at the start: {}", self.pulled)
+        let [off, on] = self.mux;
+        writeln!(f, "pulled SDA at the start: {}; with a mux, off: {off}, on: {on}", self.pulled)
     }
 }
 

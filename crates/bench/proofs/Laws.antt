@@ -3,15 +3,13 @@ use Prim.Native.Nat.{ℕ, _+_, _-_, _/_, _%_, _≤_}
 use mathlib.Core.Path.{_≡_, refl, ap, sym}
 use mathlib.Core.Logic.{_⊎_, inl, inr, ⊎-elim}
 use mathlib.Core.Bool.{Bool, true, false, _||_}
-use mathlib.Core.List.{List, [], _∷_, _++_}
+use mathlib.Core.List.{List}
 use lib.Dec.{eqb, leb}
 use lib.ListN.{length}
 use borrow.Author.Tests.{le-leb, lt-leb, leb-true, leb-false, eqb-true, ne-eqb}
 use native.Mathlib.Omega.{arith}
 use Rattle.hardware.specs.Prog.{pick}
 use Rattle.bus.specs.Bus.{bitOf}
-use Rattle.wire.specs.Lines.{Edge}
-use Rattle.wire.specs.Machine.{Side, takesAll}
 use Rattle.bench.specs.declared.receiver.Receiver.{Receiver}
 use Rattle.bench.specs.declared.receiver.Stage.{Stage}
 use Rattle.bench.specs.View.{viewed, pageAt, within}
@@ -56,11 +54,6 @@ fall-at s r e = ap (λ t. fallAt t r) e
 pub asks-at : (s : Stage) (r : Receiver) → r .stage ≡ s → asks r ≡ asksAt s r
 unfolding asks
 asks-at s r e = ap (λ t. asksAt t r) e
-
-pub takes-append : (o : Side) (xs ys : List Edge) (s : o .State) → takesAll o (xs ++ ys) s ≡ takesAll o ys (takesAll o xs s)
-unfolding takesAll
-takes-append o [] ys s = refl
-takes-append o (x ∷ xs) ys s = takes-append o xs ys (o .takes x s)
 
 -- a part's length against what is left of the page from its first byte on
 pub left-fits : (first n size : ℕ) → first ≤ size → leb n (size - first) ≡ leb (first + n) size

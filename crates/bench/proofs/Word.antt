@@ -1,6 +1,7 @@
 -- How each bit of I2CCTL reads with the bench module at the lines.
 use Prim.Native.Nat.{ℕ, _-_, _^_, _<_, min, max}
 use mathlib.Core.Path.{_≡_, refl, _∙_}
+use Rattle.hardware.specs.Prog.{pick}
 use mathlib.Core.Bool.{Bool, true, false, not, _||_}
 use mathlib.Core.Logic.{_⊎_, inl, inr}
 use lib.Dec.{lit<}
@@ -15,7 +16,9 @@ use Rattle.wire.proofs.Words.{reads-sda, reads-scl}
 use Rattle.wire.proofs.Bits.{bit, bit-two, bit-or, bit-and, bit-not}
 use Rattle.wire.proofs.Distinct.{distinct}
 use Rattle.bench.specs.declared.register.BenchState.{BenchState}
-use Rattle.bench.specs.Bench.{pullsLow}
+use Rattle.bench.specs.declared.Bench.{Bench}
+use Rattle.bench.specs.Bench.{benchPulls}
+use Rattle.bench.specs.Mux.{joins, across}
 use Rattle.bench.specs.Register.{side, world}
 use Rattle.bench.proofs.Laws.{or-false}
 
@@ -38,22 +41,30 @@ input-keeps k m w false h b z = bit-and k w (not32 m) ∙ rw (bit-not k m h b, z
     by a (inr e) = rw e
 
 -- every bit but the two inputs reads as last written
-pub reads-as-written : (f : Family) (d : BenchState) (k : ℕ) → k < 32 → bit k (layoutOf f .sdain) ≡ 0 → bit k (layoutOf f .sclin) ≡ 0
-    → bit k (reading (layoutOf f) side (world d)) ≡ bit k (d .word)
+pub reads-as-written : (f : Family) (mux : Bool) (d : BenchState) (k : ℕ) → k < 32 → bit k (layoutOf f .sdain) ≡ 0 → bit k (layoutOf f .sclin) ≡ 0
+    → bit k (reading (layoutOf f) (side mux) (world d)) ≡ bit k (d .word)
 unfolding reading inputs
-reads-as-written f d k h sda scl =
+reads-as-written f mux d k h sda scl =
     input-keeps k (layoutOf f .sdain) _ _ h (one-lt (distinct f .bits .1 .1 .0)) sda ∙ input-keeps k (layoutOf f .sclin) (d .word) _ h (one-lt (distinct f .bits .0)) scl
 
 not-not : (b : Bool) → not (not b) ≡ b
 not-not true = refl
 not-not false = refl
 
--- the two inputs read 0 where either side pulls the line; the module never pulls SCL
-pub reads-data : (f : Family) (d : BenchState)
-    → noneOf (reading (layoutOf f) side (world d)) (layoutOf f .sdain) ≡ (pullsSda (layoutOf f) (d .word) || pullsLow (d .bench))
-unfolding reading levels master
-reads-data f d = reads-sda (layoutOf f) (distinct f) _ (d .word) ∙ not-not (pullsSda (layoutOf f) (d .word) || pullsLow (d .bench))
+-- the module never pulls SCL
+scl-free : (joined : Bool) (b : Bench) → across joined (benchPulls b) .scl ≡ false
+unfolding across pick
+scl-free true b = refl
+scl-free false b = refl
 
-pub reads-clock : (f : Family) (d : BenchState) → noneOf (reading (layoutOf f) side (world d)) (layoutOf f .sclin) ≡ pullsScl (layoutOf f) (d .word)
+-- the two inputs read 0 where the master pulls the line, or feels the module pull it
+pub reads-data : (f : Family) (mux : Bool) (d : BenchState)
+    → noneOf (reading (layoutOf f) (side mux) (world d)) (layoutOf f .sdain) ≡ (pullsSda (layoutOf f) (d .word) || across (joins mux (d .esdp)) (benchPulls (d .bench)) .sda)
 unfolding reading levels master
-reads-clock f d = reads-scl (layoutOf f) (distinct f) _ (d .word) ∙ not-not (pullsScl (layoutOf f) (d .word) || false) ∙ or-false (pullsScl (layoutOf f) (d .word))
+reads-data f mux d = reads-sda (layoutOf f) (distinct f) _ (d .word) ∙ not-not (pullsSda (layoutOf f) (d .word) || _)
+
+pub reads-clock : (f : Family) (mux : Bool) (d : BenchState) → noneOf (reading (layoutOf f) (side mux) (world d)) (layoutOf f .sclin) ≡ pullsScl (layoutOf f) (d .word)
+unfolding reading levels master
+reads-clock f mux d =
+    reads-scl (layoutOf f) (distinct f) _ (d .word)
+    ∙ not-not (pullsScl (layoutOf f) (d .word) || _) ∙ rw (scl-free (joins mux (d .esdp)) (d .bench)) (or-false (pullsScl (layoutOf f) (d .word)))

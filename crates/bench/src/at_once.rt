@@ -1,4 +1,4 @@
-// The registers other than I2CCTL, where every lock and grant comes at once.
+// The registers that are not the machine's, where every lock and grant comes at once.
 use hardware::Access;
 use hardware::Answer;
 ghost use mathlib.Core.Path.{_≡_};

@@ -18,10 +18,9 @@ use Rattle.transfer.specs.Attempt.{clearing, orCleared, cleared, orTried, tried
 use Rattle.i2c.specs.declared.once.Request.the-variants.{ReadByte}
 use Rattle.i2c.specs.I2c.{body}
 use Rattle.wire.specs.Lines.{drawn, Rests, Distinct}
-use Rattle.wire.specs.Machine.{World, reading, models, modelled, reply, after}
-use Rattle.wire.specs.Always.{Always, Answered, Claim, From, FromRest}
+use Rattle.wire.specs.Machine.{World, reading, models, modelled, atLines, reply, after}
+use Rattle.wire.specs.Always.{Always, Meets, Answered, Claim, From, FromRest}
 use Rattle.wire.proofs.Always.{always-bind}
-use Rattle.wire.proofs.Lines.{first}
 use Rattle.wire.proofs.Commands as Commands
 use Rattle.bench.specs.declared.receiver.Chosen.{Chosen}
 use Rattle.bench.specs.declared.receiver.Receiver.{Receiver}
@@ -29,7 +28,8 @@ use Rattle.bench.specs.declared.receiver.Stage.{Stage}
 use Rattle.bench.specs.declared.receiver.Stage.the-variants.{Idle, Address, Receive, AckRead, AckWrite, Send, Listen}
 use Rattle.bench.specs.Receiver.{fallAt, fall, asksAt, asks, pullsAt, pulls}
 use Rattle.bench.specs.Bench.{pullsLow}
-use Rattle.demand.specs.Claim.{CountedBench, machine, Harms}
+use Rattle.demand.specs.Claim.{CountedBench, Harms}
+use Rattle.demand.proofs.Direct.{direct}
 use Rattle.demand.specs.WriteClaim.{addressOf}
 use Rattle.demand.proofs.Receiver.{Keeps}
 use Rattle.demand.proofs.ReadByte.{Kept, byteAt, read-byte}
@@ -38,7 +38,7 @@ use Rattle.demand.proofs.Rounds.{clears-by-rounds}
 
 -- one more transfer is begun
 abbrev pub more : CountedBench → CountedBench
-more m = record { bench = m .bench; meter = record { transfers = suc (m .meter .transfers) } }
+more m = record { bench = m .bench; esdp = m .esdp; meter = record { transfers = suc (m .meter .transfers) } }
 
 -- the receiver sends, and its pull ends within the clearing
 pub record Stuck (r : Receiver) : Type 0 where
@@ -64,7 +64,7 @@ stuck-at (Send n) bits byte page first noted h = inr (stuck-send n bits page fir
 stuck-at Listen bits byte page first noted h = absurd (false≢true h)
 
 -- a module that pulls SDA low is in AckWrite, or the Rust's clearing frees it
-stuck : (m : CountedBench) → machine .pulls m .sda ≡ true → (m .bench .receiver .stage ≡ AckWrite) ⊎ Stuck (m .bench .receiver)
+stuck : (m : CountedBench) → direct .pulls m .sda ≡ true → (m .bench .receiver .stage ≡ AckWrite) ⊎ Stuck (m .bench .receiver)
 unfolding pullsLow pulls
 stuck m h = stuck-at (m .bench .receiver .stage) _ _ _ _ _ h
 
@@ -74,7 +74,7 @@ Frees Pulses r = Stuck r
 Frees Rounds r = Unit {0}
 
 -- either sequence harms a module that pulls SDA low, or frees it, and not both
-pub harms-or-frees : (q : Sequence) (m : CountedBench) → machine .pulls m .sda ≡ true → Harms q (m .bench) ⊎ Frees q (m .bench .receiver)
+pub harms-or-frees : (q : Sequence) (m : CountedBench) → direct .pulls m .sda ≡ true → Harms q (m .bench) ⊎ Frees q (m .bench .receiver)
 harms-or-frees Pulses m h = stuck m h
 harms-or-frees Rounds m h = inr tt
 
@@ -84,76 +84,76 @@ harms-not-free Pulses m s e = rw e at (s .sends)
 harms-not-free Rounds m s e = e
 
 -- and it harms none that does not pull SDA
-pub harms-pulls : (q : Sequence) (m : CountedBench) → Harms q (m .bench) → machine .pulls m .sda ≡ true
+pub harms-pulls : (q : Sequence) (m : CountedBench) → Harms q (m .bench) → direct .pulls m .sda ≡ true
 harms-pulls Pulses m e = ack-pulls m e
 harms-pulls Rounds m e = absurd e
 
 module _ (q : Sequence) (l : Layout) (g : Distinct l) where
   -- an attempt begins with a look at I2CCTL
-  pub begins : (device w : ℕ) (m : CountedBench) (f : Bus) (a b : Bool) (Q : R Taken → World machine → Type 0) → Rests l (drawn a b) w
-      → FromRest l machine a b (more m) f (λ h v. Always l machine (tried q l device h) v Q)
-      → Always l machine (attempt q l device f) (record { word = w; other = m }) Q
-  unfolding attempt attempting begun Always Answered modelled models reply after _>>=_ orErr raw
+  pub begins : (device w : ℕ) (m : CountedBench) (f : Bus) (a b : Bool) (Q : R Taken → World direct → Type 0) → Rests l (drawn a b) w
+      → FromRest l direct a b (more m) f (λ h v. Always l direct (tried q l device h) v Q)
+      → Always l direct (attempt q l device f) (record { word = w; other = m }) Q
+  unfolding attempt attempting begun Always Answered Meets modelled models atLines reply after _>>=_ orErr raw pick
   begins device w m f a b Q r h =
-      first _ _ _ (eq-eqb (l .reg) (l .reg) refl)
-      (inl refl, always-bind l machine (f (reading l machine (record { word = w; other = more m }))) (tried q l device) (record { word = w; other = more m }) Q (h .goes _ w r))
+      rw (eq-eqb (l .reg) (l .reg) refl)
+      (inl refl, always-bind l direct (f (reading l direct (record { word = w; other = more m }))) (tried q l device) (record { word = w; other = more m }) Q (h .goes _ w r))
 
   -- where SDA is free, the byte is read
-  pub attempt-reads : (page : Chosen) (offset w : ℕ) (m : CountedBench) (a b : Bool) (Q : R Taken → World machine → Type 0) → Rests l (drawn a b) w → offset < 256
-      → byteAt page (m .bench) offset < 256 → machine .pulls m .sda ≡ false
+  pub attempt-reads : (page : Chosen) (offset w : ℕ) (m : CountedBench) (a b : Bool) (Q : R Taken → World direct → Type 0) → Rests l (drawn a b) w → offset < 256
+      → byteAt page (m .bench) offset < 256 → direct .pulls m .sda ≡ false
       → ((n : CountedBench) (v : ℕ) → n .bench .receiver .stage ≡ Idle → Kept (more m) n → Rests l (drawn false false) v
       → Q (Ok (took none (byteAt page (m .bench) offset))) (record { word = v; other = n }))
-      → Always l machine (attempt q l (addressOf page) (body l (ReadByte (addressOf page) offset))) (record { word = w; other = m }) Q
+      → Always l direct (attempt q l (addressOf page) (body l (ReadByte (addressOf page) offset))) (record { word = w; other = m }) Q
   unfolding Always tried orTried body
   attempt-reads page offset w m a b Q r o v free h =
       begins (addressOf page) w m (body l (ReadByte (addressOf page) offset)) a b Q r
       (read-byte l g page a b (more m) (addressOf page) offset (λ value. done (took none value)) o v free (λ n idle kept. record { goes = λ ctl v rests. h n v idle kept rests }))
 
   -- where it is held, the start fails and the clearing follows; k: what was to come after the start
-  fails : (device : ℕ) (k : Bus) (w : ℕ) (m : CountedBench) (a b : Bool) (Q : R Taken → World machine → Type 0) → Rests l (drawn a b) w → machine .pulls m .sda ≡ true
-      → From l machine false b (more m) (clearing q l) (λ h v. Always l machine (cleared device h) v Q)
-      → Always l machine (attempt q l device (start l k)) (record { word = w; other = m }) Q
+  fails : (device : ℕ) (k : Bus) (w : ℕ) (m : CountedBench) (a b : Bool) (Q : R Taken → World direct → Type 0) → Rests l (drawn a b) w → direct .pulls m .sda ≡ true
+      → From l direct false b (more m) (clearing q l) (λ h v. Always l direct (cleared device h) v Q)
+      → Always l direct (attempt q l device (start l k)) (record { word = w; other = m }) Q
   unfolding Always tried orTried isI2c pick
   fails device k w m a b Q r held h =
       begins device w m (start l k) a b Q r
-      (Commands.start-stuck l g machine (λ s. refl) _ held
-      (record { goes = λ ctl v known. always-bind l machine (clearing q l ctl) (cleared device) _ Q (h .goes ctl v known) }))
+      (Commands.start-stuck l g direct (λ s. refl) _ held
+      (record { goes = λ ctl v known. always-bind l direct (clearing q l ctl) (cleared device) _ Q (h .goes ctl v known) }))
 
-  frees : (b : Bool) (m : CountedBench) {Q : Claim machine} → machine .pulls m .sda ≡ true → Frees q (m .bench .receiver)
-      → ((n : CountedBench) → n .bench .receiver .stage ≡ Idle → Kept m n → FromRest l machine false false n (done none) Q)
-      → From l machine false b m (clearing q l) Q
+  frees : (b : Bool) (m : CountedBench) {Q : Claim direct} → direct .pulls m .sda ≡ true → Frees q (m .bench .receiver)
+      → ((n : CountedBench) → n .bench .receiver .stage ≡ Idle → Kept m n → FromRest l direct false false n (done none) Q)
+      → From l direct false b m (clearing q l) Q
   unfolding clearing
   frees b m {Q} held s h = by q s
     where
-      by : (q : Sequence) → Frees q (m .bench .receiver) → From l machine false b m (clearing q l) Q
+      by : (q : Sequence) → Frees q (m .bench .receiver) → From l direct false b m (clearing q l) Q
       by Pulses s = clears l g b m (s .still) held (s .sends) (s .keeps) h
       by Rounds s = clears-by-rounds l g false b m h
 
-  pub attempt-clears : (device : ℕ) (k : Bus) (w : ℕ) (m : CountedBench) (a b : Bool) (Q : R Taken → World machine → Type 0) → Rests l (drawn a b) w
-      → machine .pulls m .sda ≡ true → Frees q (m .bench .receiver)
+  pub attempt-clears : (device : ℕ) (k : Bus) (w : ℕ) (m : CountedBench) (a b : Bool) (Q : R Taken → World direct → Type 0) → Rests l (drawn a b) w
+      → direct .pulls m .sda ≡ true → Frees q (m .bench .receiver)
       → ((n : CountedBench) (v : ℕ) → n .bench .receiver .stage ≡ Idle → Kept (more m) n → Rests l (drawn false false) v → Q (Err (I2c device)) (record { word = v; other = n }))
-      → Always l machine (attempt q l device (start l k)) (record { word = w; other = m }) Q
+      → Always l direct (attempt q l device (start l k)) (record { word = w; other = m }) Q
   unfolding Always cleared orCleared
   attempt-clears device k w m a b Q r held s h =
       fails device k w m a b Q r held
       (frees b (more m) held s (λ n idle kept. record { goes = λ ctl v rests. h n v idle kept rests }))
 
-  harmed : (b : Bool) (m : CountedBench) {Q : Claim machine} → Harms q (m .bench)
-      → ((n : CountedBench) → Harms q (n .bench) → n .meter .transfers ≡ m .meter .transfers → From l machine false false n (done none) Q)
-      → From l machine false b m (clearing q l) Q
+  harmed : (b : Bool) (m : CountedBench) {Q : Claim direct} → Harms q (m .bench)
+      → ((n : CountedBench) → Harms q (n .bench) → n .meter .transfers ≡ m .meter .transfers → From l direct false false n (done none) Q)
+      → From l direct false b m (clearing q l) Q
   unfolding clearing
   harmed b m {Q} e h = by q e h
     where
-      by : (q : Sequence) → Harms q (m .bench) → ((n : CountedBench) → Harms q (n .bench) → n .meter .transfers ≡ m .meter .transfers → From l machine false false n (done none) Q)
-          → From l machine false b m (clearing q l) Q
+      by : (q : Sequence) → Harms q (m .bench) → ((n : CountedBench) → Harms q (n .bench) → n .meter .transfers ≡ m .meter .transfers → From l direct false false n (done none) Q)
+          → From l direct false b m (clearing q l) Q
       by Pulses e h = clears-not l g b m e h
       by Rounds e h = absurd e
 
-  pub attempt-stays : (device : ℕ) (k : Bus) (w : ℕ) (m : CountedBench) (a b : Bool) (Q : R Taken → World machine → Type 0) → Rests l (drawn a b) w
+  pub attempt-stays : (device : ℕ) (k : Bus) (w : ℕ) (m : CountedBench) (a b : Bool) (Q : R Taken → World direct → Type 0) → Rests l (drawn a b) w
       → Harms q (m .bench)
       → ((n : CountedBench) (v : ℕ) → Harms q (n .bench) → n .meter .transfers ≡ suc (m .meter .transfers) → Rests l (drawn false false) v
       → Q (Err (I2c device)) (record { word = v; other = n }))
-      → Always l machine (attempt q l device (start l k)) (record { word = w; other = m }) Q
+      → Always l direct (attempt q l device (start l k)) (record { word = w; other = m }) Q
   unfolding Always cleared orCleared
   attempt-stays device k w m a b Q r e h =
       fails device k w m a b Q r (harms-pulls q m e) (harmed b (more m) e (λ n ack made. record { goes = λ ctl v known. h n v ack made (known .now) }))

@@ -14,8 +14,7 @@ use Rattle.hardware.specs.declared.Answer.{Answer}
 use Rattle.hardware.specs.declared.Port.{Port}
 use Rattle.hardware.specs.Prog.{R, Ok, Err, pick, Counted}
 use Rattle.bus.specs.Layout.{layoutOf}
-use Rattle.wire.specs.Lines.{drawn, ready, Rests, Each}
-use Rattle.wire.specs.Machine.{World}
+use Rattle.wire.specs.Lines.{drawn, Rests, Each}
 use Rattle.wire.specs.Always.{Always}
 use Rattle.wire.specs.Run.{BenchOutcome, ended, short, stopped}
 use Rattle.wire.proofs.Edges.{rests}
@@ -32,9 +31,11 @@ use Rattle.sfp.specs.Finds.{identityOf}
 use Rattle.sfp.proofs.Finds.{module-class}
 use Rattle.sfp.specs.Steps.{IDENTIFY-STEPS}
 use Rattle.sfp.proofs.Ends.{identify-ends}
-use Rattle.demand.specs.Claim.{CountedBench, machine, benchRun, atStart, byteOf, Says, extra, Facts, Absent, Harms, Told, CallPremises, CallComes, Claimed, Holds, Claim, ClaimByDefault, Starts, Premises}
+use Rattle.demand.specs.Claim.{CountedBench, benchRun, atStart, byteOf, Says, extra, Facts, Absent, Harms, Told, CallPremises, CallComes, Claimed, Holds, Claim, ClaimByDefault, Allowed, Starts, Premises, BenchWorld, Start}
+use Rattle.demand.specs.Mux.{watched}
 use Rattle.demand.proofs.Attempts.{harms-or-frees, harms-not-free, harms-pulls}
-use Rattle.demand.proofs.Requests.{world, After, begun, after-leaves}
+use Rattle.demand.proofs.Handshake.{world, Fit}
+use Rattle.demand.proofs.Requests.{After, begun, allowed-fit, after-leaves}
 use Rattle.demand.proofs.Identify as Identify
 use Rattle.demand.proofs.Runs.{Steady, run-steady, run-ended, run-told}
 
@@ -68,49 +69,49 @@ found-says : (at : Bytes) → Says (Ok (identityOf at)) (classOf at)
 unfolding Says
 found-says at = (ap (λ c. c .kind) (module-class at), ap (λ c. c .multispeed) (module-class at))
 
-module _ (q : Sequence) (port : Port) (b : Bench) (small : (n : ℕ) → byteOf (b .a0) n < 256) where
+module _ (q : Sequence) (port : Port) (b : Bench) (start : Start) (small : (n : ℕ) → byteOf (b .a0) n < 256) where
   -- the end of the call, by the start
-  pub record End (r : R Identity) (w : World machine) : Type 0 where
+  pub record End (r : R Identity) (w : BenchWorld) : Type 0 where
     pub facts : (Harms q b → ⊥) → Facts (layoutOf (port .family)) b r w
     pub no-module : Harms q b → Absent r × (w .other .meter .transfers ≡ 11)
 
-  well : (e j : ℕ) → extra b ≡ e → (n : CountedBench) (w : ℕ) → After (layoutOf (port .family)) (begun b) j n w → j ≡ requests (byteOf (b .a0)) + e
+  well : (e j : ℕ) → extra b ≡ e → (n : CountedBench) (w : ℕ) → After port (begun start b) j n w → j ≡ requests (byteOf (b .a0)) + e
       → Facts (layoutOf (port .family)) b (Ok (identityOf (byteOf (b .a0)))) (world w n)
-  well e j x n w a c = record { class = found-says (byteOf (b .a0)); leaves = after-leaves b a (omega (arith, c, x)) }
+  well e j x n w a c = record { class = found-says (byteOf (b .a0)); leaves = after-leaves start b a (omega (arith, c, x)) }
 
   -- it holds of the call, whatever the other answers are
-  pub always-identified : (word : ℕ) (x y : Bool) → Rests (layoutOf (port .family)) (drawn x y) word
-      → Always (layoutOf (port .family)) machine (identify q port) (atStart word b) End
+  pub always-identified : (x y : Bool) → Fit port (start .word) (begun start b) → Rests (layoutOf (port .family)) (drawn x y) (start .word)
+      → Always (layoutOf (port .family)) (watched q port) (identify q port) (atStart start b) End
   unfolding Always Absent pick
-  always-identified word x y r = by (pullsLow b) refl
+  always-identified x y f r = by (pullsLow b) refl
     where
-      free : pullsLow b ≡ false → Always (layoutOf (port .family)) machine (identify q port) (atStart word b) End
+      free : pullsLow b ≡ false → Always (layoutOf (port .family)) (watched q port) (identify q port) (atStart start b) End
       free e =
-          Identify.identify-reads q port (begun b) small End word x y r e
-          (λ n w a. record { facts = λ _. well 0 _ (rw e) n w a (omega arith); no-module = λ i. absurd (false≢true (sym e ∙ harms-pulls q (begun b) i)) })
+          Identify.identify-reads q port (begun start b) small End (start .word) x y f r e
+          (λ n w a. record { facts = λ _. well 0 _ (rw e) n w a (omega arith); no-module = λ i. absurd (false≢true (sym e ∙ harms-pulls q (begun start b) i)) })
 
-      held : pullsLow b ≡ true → Always (layoutOf (port .family)) machine (identify q port) (atStart word b) End
+      held : pullsLow b ≡ true → Always (layoutOf (port .family)) (watched q port) (identify q port) (atStart start b) End
       held e =
           ⊎-elim
-          (λ i. Identify.identify-fails q port (begun b) small End word x y r i (λ n v made. record { facts = λ no. absurd (no i); no-module = λ _. (refl, omega (arith, made)) }))
+          (λ i. Identify.identify-fails q port (begun start b) small End (start .word) x y f r i (λ n v made. record { facts = λ no. absurd (no i); no-module = λ _. (refl, omega (arith, made)) }))
           (λ s.
-          Identify.identify-clears q port (begun b) small End word x y r e s
-          (λ n w a. record { facts = λ _. well 1 _ (rw e) n w a refl; no-module = λ i. absurd (harms-not-free q (begun b) s i) }))
-          (harms-or-frees q (begun b) e)
+          Identify.identify-clears q port (begun start b) small End (start .word) x y f r e s
+          (λ n w a. record { facts = λ _. well 1 _ (rw e) n w a refl; no-module = λ i. absurd (harms-not-free q (begun start b) s i) }))
+          (harms-or-frees q (begun start b) e)
 
-      by : (t : Bool) → pullsLow b ≡ t → Always (layoutOf (port .family)) machine (identify q port) (atStart word b) End
+      by : (t : Bool) → pullsLow b ≡ t → Always (layoutOf (port .family)) (watched q port) (identify q port) (atStart start b) End
       by true e = held e
       by false e = free e
 
-  always-started : (word : ℕ) → ready (layoutOf (port .family)) word ≡ true → Always (layoutOf (port .family)) machine (identify q port) (atStart word b) End
-  always-started word k = always-identified word _ _ (rests (layoutOf (port .family)) word k)
+  always-started : Allowed port start → Always (layoutOf (port .family)) (watched q port) (identify q port) (atStart start b) End
+  always-started k = always-identified _ _ (allowed-fit b k) (rests (layoutOf (port .family)) (start .word) (k .fit))
 
-  pub claimed : (r : R Identity) (w : World machine) → End r w → Claimed q (layoutOf (port .family)) b (record { meter = w .other .meter; result = r }) w
+  pub claimed : (r : R Identity) (w : BenchWorld) → End r w → Claimed q (layoutOf (port .family)) b (record { meter = w .other .meter; result = r }) w
   claimed r w h =
       record { count = refl; facts = h .facts; only = λ f i. never-both (byteOf (b .a0)) r (f .class) (h .no-module i .0); no-module = h .no-module }
 
   -- from both outcomes to the claim
-  both : (o : BenchOutcome machine (R Identity)) (p : BenchOutcome machine (Counted (R Identity))) → Told End o p → Holds q (layoutOf (port .family)) b o p
+  both : (o : BenchOutcome BenchWorld (R Identity)) (p : BenchOutcome BenchWorld (Counted (R Identity))) → Told End o p → Holds q (layoutOf (port .family)) b o p
   unfolding Told Holds
   both (ended r w) (ended c v) h = rw (h .0) (refl, claimed r w (h .1))
   both (ended r w) (short v) h = h
@@ -119,41 +120,41 @@ module _ (q : Sequence) (port : Port) (b : Bench) (small : (n : ℕ) → byteOf 
   both (stopped n w) p h = h
 
 -- Demand 3, of the definition of `identify`, with either sequence
-pub identified : (q : Sequence) (port : Port) (b : Bench) (word : ℕ) (answers : List Answer) → Starts port b word → Premises q port b word answers
-    → IDENTIFY-STEPS (port .family) ≤ length answers → Claim q port b word answers
+pub identified : (q : Sequence) (port : Port) (b : Bench) (start : Start) (answers : List Answer) → Starts port b start → Premises q port b start answers
+    → IDENTIFY-STEPS (port .family) ≤ length answers → Claim q port b start answers
 unfolding Starts CallPremises Claim
-identified q port b word answers s m n =
-    both q port b (s .0) _ _
-    (run-told port (identify q port) b word answers (End q port b (s .0)) (always-started q port b (s .0) word (s .1)) m (IDENTIFY-STEPS (port .family)) (identify-ends q port) n)
+identified q port b start answers s m n =
+    both q port b start (s .0) _ _
+    (run-told q port (identify q port) b start answers (End q port b start (s .0)) (always-started q port b start (s .0) (s .1)) m (IDENTIFY-STEPS (port .family)) (identify-ends q port) n)
 
 -- The same for a list of any length: whenever the call has come to its end
-pub identified-ended : (q : Sequence) (port : Port) (b : Bench) (word : ℕ) (answers : List Answer) → Starts port b word → Premises q port b word answers
-    → (r : R Identity) (w : World machine) → benchRun port (identify q port) b word answers .outcome ≡ ended r w
+pub identified-ended : (q : Sequence) (port : Port) (b : Bench) (start : Start) (answers : List Answer) → Starts port b start → Premises q port b start answers
+    → (r : R Identity) (w : BenchWorld) → benchRun port (identify q port) b start answers .outcome ≡ ended r w
     → Claimed q (layoutOf (port .family)) b (record { meter = w .other .meter; result = r }) w
 unfolding Starts CallPremises
-identified-ended q port b word answers s m r w e =
-    claimed q port b (s .0) r w (run-ended port (identify q port) b word answers (End q port b (s .0)) (always-started q port b (s .0) word (s .1)) m r w e)
+identified-ended q port b start answers s m r w e =
+    claimed q port b start (s .0) r w (run-ended q port (identify q port) b start answers (End q port b start (s .0)) (always-started q port b start (s .0) (s .1)) m r w e)
 
 -- With the default sequence the four facts hold from every start
-told-facts : (port : Port) (b : Bench) (small : (n : ℕ) → byteOf (b .a0) n < 256) (o : BenchOutcome machine (R Identity)) (p : BenchOutcome machine (Counted (R Identity)))
-    → Told (End standard port b small) o p → Told (Facts (layoutOf (port .family)) b) o p
+told-facts : (port : Port) (b : Bench) (start : Start) (small : (n : ℕ) → byteOf (b .a0) n < 256) (o : BenchOutcome BenchWorld (R Identity)) (p : BenchOutcome BenchWorld (Counted (R Identity)))
+    → Told (End standard port b start small) o p → Told (Facts (layoutOf (port .family)) b) o p
 unfolding Told
-told-facts port b small (ended r w) (ended c v) h = (h .0, h .1 .facts (λ i. i))
-told-facts port b small (ended r w) (short v) h = h
-told-facts port b small (ended r w) (stopped n v) h = h
-told-facts port b small (short w) p h = h
-told-facts port b small (stopped n w) p h = h
+told-facts port b start small (ended r w) (ended c v) h = (h .0, h .1 .facts (λ i. i))
+told-facts port b start small (ended r w) (short v) h = h
+told-facts port b start small (ended r w) (stopped n v) h = h
+told-facts port b start small (short w) p h = h
+told-facts port b start small (stopped n w) p h = h
 
-pub identified-by-default : (port : Port) (b : Bench) (word : ℕ) (answers : List Answer) → Starts port b word → Premises standard port b word answers
-    → IDENTIFY-STEPS (port .family) ≤ length answers → ClaimByDefault port b word answers
+pub identified-by-default : (port : Port) (b : Bench) (start : Start) (answers : List Answer) → Starts port b start → Premises standard port b start answers
+    → IDENTIFY-STEPS (port .family) ≤ length answers → ClaimByDefault port b start answers
 unfolding Starts CallPremises CallComes ClaimByDefault
-identified-by-default port b word answers s m n =
-    told-facts port b (s .0) _ _
-    (run-told port (identify standard port) b word answers (End standard port b (s .0)) (always-started standard port b (s .0) word (s .1)) m (IDENTIFY-STEPS (port .family)) (identify-ends standard port) n)
+identified-by-default port b start answers s m n =
+    told-facts port b start (s .0) _ _
+    (run-told standard port (identify standard port) b start answers (End standard port b start (s .0)) (always-started standard port b start (s .0) (s .1)) m (IDENTIFY-STEPS (port .family)) (identify-ends standard port) n)
 
 -- `identify` never moves both lines by one write
-pub never-both-lines : (q : Sequence) (port : Port) (b : Bench) (word : ℕ) (answers : List Answer) → Starts port b word → Premises q port b word answers
-    → Each (Steady (layoutOf (port .family))) (benchRun port (identify q port) b word answers .trace)
+pub never-both-lines : (q : Sequence) (port : Port) (b : Bench) (start : Start) (answers : List Answer) → Starts port b start → Premises q port b start answers
+    → Each (Steady q port) (benchRun port (identify q port) b start answers .trace)
 unfolding Starts CallPremises
-never-both-lines q port b word answers s m =
-    run-steady port (identify q port) b word answers (End q port b (s .0)) (always-started q port b (s .0) word (s .1)) m
+never-both-lines q port b start answers s m =
+    run-steady q port (identify q port) b start answers (End q port b start (s .0)) (always-started q port b start (s .0) (s .1)) m

@@ -1,88 +1,260 @@
--- The transfers' lock and the QSFP handshake leave I2CCTL, the bench module and the count of transfers alone.
+-- The transfers' lock and the QSFP handshake leave I2CCTL, the bench module and the count of transfers alone; the lock switches
+-- the mux where the port has one.
 use Prim.Native.Nat.{ℕ, suc, zero}
-use mathlib.Core.Path.{_≡_, refl}
-use mathlib.Core.Bool.{Bool, true, false}
+use mathlib.Core.Path.{_≡_, refl, ap, _∙_, sym}
+use mathlib.Core.Bool.{Bool, true, false, _&&_, false≢true}
+use lib.Dec.{eqb}
+use Rattle.hardware.specs.declared.Access.{Access}
+use Rattle.hardware.specs.declared.Access.the-variants.{Read, Write}
+use Rattle.hardware.specs.declared.Answer.{Answer}
+use Rattle.hardware.specs.declared.Family.{Family}
+use Rattle.hardware.specs.declared.Family.the-variants.{F82599, X540, X550, X552, X553}
 use Rattle.hardware.specs.declared.Port.{Port}
+use Rattle.hardware.specs.declared.change.Bits.{Bits}
 use Rattle.hardware.specs.declared.change.Change.{Change}
-use Rattle.hardware.specs.Prog.{Prog, R, Ok, _>>?_, pick}
-use Rattle.hardware.specs.Registers.{ESDP, delayMs}
-use Rattle.hardware.specs.Change.{change}
-use Rattle.hostif.specs.Acquire.{acquire, release}
+use Rattle.hardware.specs.Asked.{is}
+use Rattle.hardware.specs.Prog.{Prog, R, Ok, orErr, _>>=_, _>>?_, pick}
+use Rattle.hardware.specs.Registers.{ESDP, noneOf, checked, written, flushed, flush, delayMs}
+use Rattle.hardware.specs.Change.{changed, settled, stored, change}
+use Rattle.sync.specs.Regs.{I2C, mux, setMux}
+use Rattle.sync.specs.Resource.{muxed, unmuxed, releaseBits}
+use Rattle.hostif.specs.Acquire.{withBits, acquiredAll, acquire, giveBits, release}
+use Rattle.transfer.specs.declared.attempt.Sequence.{Sequence}
 use Rattle.bus.specs.declared.Taken.{Taken}
-use Rattle.bus.specs.Layout.{layoutOf}
-use Rattle.wire.specs.Machine.{World}
-use Rattle.wire.specs.Always.{Always}
+use Rattle.bus.specs.Layout.{x550em, layoutOf}
+use Rattle.wire.specs.Lines.{master}
+use Rattle.wire.specs.Machine.{switched, models, modelled, atLines, reply, after}
+use Rattle.wire.specs.Always.{nobody, Meets, Answered, Always}
 use Rattle.wire.proofs.Always.{always-map, always-bind}
-use Rattle.i2c.specs.I2c.{mask, askBus, giveBus, granting, granted, givenBus, onGrant, withBus, whenLock}
-use Rattle.i2c.proofs.Masks.{mask-plain}
+use Rattle.bench.specs.Mux.{hasMux, joins}
+use Rattle.i2c.specs.I2c.{mask, qsfp, askBus, giveBus, granting, granted, givenBus, onGrant, withBus, whenLock}
+use Rattle.i2c.proofs.Masks.{mask-plain, mask-bits, mask-some}
 use Rattle.demand.specs.Fine.{Fine}
-use Rattle.demand.specs.Claim.{staysIn, machine}
-use Rattle.demand.proofs.Fine.{fair-is, fine-map, fine-try, fine-pick, fine-ret, fine-lapsed, fine-read, fine-delay, fine-change, alone-then}
-use Rattle.demand.proofs.Locks.{aside, acquire-fine, release-fine, machine-unmoved}
+use Rattle.demand.specs.Claim.{CountedBench, BenchWorld, Sound}
+use Rattle.demand.specs.Mux.{Settled, Switches, watched}
+use Rattle.demand.proofs.Fine.{Beside, fair-is, fine-map, fine-try, fine-pick, fine-ok, fine-ret, fine-lapsed, fine-read, fine-delay, fine-flush, fine-change, fine-alone, alone-then}
+use Rattle.demand.proofs.Locks.{aside, esdp-apart, machine-unmoved, acquire-bits-always, unmuxed-fine, stays}
+use Rattle.demand.proofs.Mux.{sound-set, sound-clear, sound-present, mux-set, joined-set, sees-nobody, switched-nobody}
 
-module _ (port : Port) where
-  pub mask-acquire-fine : Fine (layoutOf (port .family)) staysIn (acquire port (mask port)) (λ r. r ≡ Ok tt)
-  mask-acquire-fine = acquire-fine port (mask port) (mask-plain port)
+abbrev pub world : ℕ → CountedBench → BenchWorld
+world w m = record { word = w; other = m }
 
-  pub mask-release-fine : Fine (layoutOf (port .family)) staysIn (release port (mask port)) (λ r. r ≡ Ok tt)
-  mask-release-fine = release-fine port (mask port) (mask-plain port)
+-- the same module with another ESDP
+abbrev pub at : ℕ → CountedBench → CountedBench
+at e m = record { bench = m .bench; esdp = e; meter = m .meter }
 
-  -- ESDP: a bit is set or cleared
-  pub esdp-fine : (c : Change) → c .register ≡ ESDP → Fine (layoutOf (port .family)) staysIn (change c) (λ r. r ≡ Ok tt)
-  esdp-fine c e =
-      let s = aside (port .family) in
-      fine-map _ _ _ _ _ fair-is (fine-change _ _ (s .status) c (rw e (s .esdp)))
+-- the same with the mux switched, where the port has one
+abbrev pub switch : Port → Bool → CountedBench → CountedBench
+switch port on m = at (pick (hasMux port) (changed (setMux on .bits) (m .esdp)) (m .esdp)) m
 
-  -- a grant that does not come is a lapse
-  pub granted-fine : (n : ℕ) → Fine (layoutOf (port .family)) staysIn (granted n) (λ r. r ≡ Ok true)
-  unfolding granted granting
-  granted-fine zero = fine-lapsed _ _ _ _
-  granted-fine (suc n) =
-      fine-try _ _ _ _ _ _ (fine-read _ _ _ (aside (port .family) .esdp))
-      (λ v _. fine-pick _ _ _ _ _ _ (fine-try _ _ _ _ _ _ (fine-delay _ _ _) (λ _ _. granted-fine n)) (fine-ret _ _ _ _ refl))
+-- the same where a call takes its lock, or gives it back, if it has one
+abbrev pub lockedBy : Port → Bool → CountedBench → CountedBench
+lockedBy port lock m = at (pick lock (switch port true m .esdp) (m .esdp)) m
 
-  pub pause-fine : (ms : ℕ) → Fine (layoutOf (port .family)) staysIn (delayMs ms) (λ r. r ≡ Ok tt)
-  pause-fine ms = fine-map _ _ _ _ _ fair-is (fine-delay _ _ _)
+abbrev pub unlockedBy : Port → Bool → CountedBench → CountedBench
+unlockedBy port lock m = at (pick lock (switch port false m .esdp) (m .esdp)) m
 
-  module _ (w : World machine) (Q : R Taken → World machine → Type 0) where
-    pub lock-alone : (on : Bool) (k : Prog (R Taken)) → Always (layoutOf (port .family)) machine k w Q
-        → Always (layoutOf (port .family)) machine (whenLock on (acquire port (mask port)) k) w Q
-    unfolding whenLock pick
-    lock-alone true k h = alone-then _ _ machine-unmoved _ _ _ w Q mask-acquire-fine h
-    lock-alone false k h = h
+-- Where a mux may be switched: the master pulls neither line, and ESDP never reads FFFFFFFF
+pub record Fit (port : Port) (w : ℕ) (m : CountedBench) : Type 0 where
+  pub released : hasMux port ≡ true → master (layoutOf (port .family)) w ≡ nobody
+  pub sound : hasMux port ≡ true → Sound (m .esdp)
 
-    pub unlock-alone : (on : Bool) (k : Prog (R Taken)) → Always (layoutOf (port .family)) machine k w Q
-        → Always (layoutOf (port .family)) machine (whenLock on (release port (mask port)) k) w Q
-    unfolding whenLock pick
-    unlock-alone true k h = alone-then _ _ machine-unmoved _ _ _ w Q mask-release-fine h
-    unlock-alone false k h = h
+pub switch-sound : (port : Port) (on : Bool) (m : CountedBench) → (hasMux port ≡ true → Sound (m .esdp)) → hasMux port ≡ true → Sound (switch port on m .esdp)
+unfolding pick changed setMux
+switch-sound port true m s h = rw h (sound-set (m .esdp) (s h))
+switch-sound port false m s h = rw h (sound-clear (m .esdp) (s h))
 
-    pub pause-alone : (ms : ℕ) (k : Unit {0} → Prog (R Taken)) → Always (layoutOf (port .family)) machine (k tt) w Q
-        → Always (layoutOf (port .family)) machine (delayMs ms >>? k) w Q
-    pause-alone ms k h = alone-then _ _ machine-unmoved _ _ _ w Q (pause-fine ms) h
+-- with the mux on, or without one, the two sides feel each other
+pub switch-joins : (port : Port) (m : CountedBench) → joins (hasMux port) (switch port true m .esdp) ≡ true
+unfolding pick changed setMux joins
+switch-joins port m = by (hasMux port)
+  where
+    by : (b : Bool) → joins b (pick b (changed (setMux true .bits) (m .esdp)) (m .esdp)) ≡ true
+    by true = joined-set true (m .esdp)
+    by false = refl
 
-    given-alone : (r : R Taken) → Q r w → Always (layoutOf (port .family)) machine (givenBus r) w Q
+pub locked-sound : (port : Port) (lock : Bool) (m : CountedBench) → (hasMux port ≡ true → Sound (m .esdp)) → hasMux port ≡ true → Sound (lockedBy port lock m .esdp)
+unfolding pick
+locked-sound port true m s h = switch-sound port true m s h
+locked-sound port false m s h = s h
+
+pub unlocked-sound : (port : Port) (lock : Bool) (m : CountedBench) → (hasMux port ≡ true → Sound (m .esdp)) → hasMux port ≡ true → Sound (unlockedBy port lock m .esdp)
+unfolding pick
+unlocked-sound port true m s h = switch-sound port false m s h
+unlocked-sound port false m s h = s h
+
+pub locked-joins : (port : Port) (lock : Bool) (m : CountedBench) → (lock ≡ false → joins (hasMux port) (m .esdp) ≡ true) → joins (hasMux port) (lockedBy port lock m .esdp) ≡ true
+unfolding pick
+locked-joins port true m j = switch-joins port m
+locked-joins port false m j = j refl
+
+-- a transfer's mask has the bits for which a port with a mux switches it
+family-mask : (f : Family) → is f X552 ≡ true → x550em f ≡ true
+unfolding is x550em
+family-mask F82599 e = absurd (false≢true e)
+family-mask X540 e = absurd (false≢true e)
+family-mask X550 e = absurd (false≢true e)
+family-mask X552 e = refl
+family-mask X553 e = absurd (false≢true e)
+
+pub mux-there : (port : Port) → hasMux port ≡ true → mux port (mask port) ≡ true
+unfolding hasMux mux mask pick noneOf
+mux-there port h = by (is (port .family) X552) (eqb (port .lan) 1) refl refl h
+  where
+    by : (a b : Bool) → is (port .family) X552 ≡ a → eqb (port .lan) 1 ≡ b → (a && b) ≡ true
+        → pick (is (port .family) X552) (pick (eqb (port .lan) 1) (pick (noneOf (mask port) I2C) false true) false) false ≡ true
+    by true true d e k = rw (d, e, family-mask (port .family) d)
+    by true false d e k = absurd (false≢true k)
+    by false b d e k = absurd (false≢true k)
+
+-- The handshake is the 82599's, which has no mux
+pub qsfp-plain : (port : Port) → qsfp port ≡ true → hasMux port ≡ false
+unfolding qsfp hasMux is pick
+qsfp-plain port h = by (port .family) refl h
+  where
+    by : (f : Family) → port .family ≡ f → pick (is (port .family) F82599) (eqb (port .device) 0x1558) false ≡ true → (is (port .family) X552 && eqb (port .lan) 1) ≡ false
+    by F82599 e h = rw e
+    by X540 e h = rw e
+    by X550 e h = rw e
+    by X552 e h = absurd (false≢true (rw e at h))
+    by X553 e h = rw e
+
+module _ (q : Sequence) (port : Port) where
+  answered-own : (x : Access) (K : Answer → BenchWorld → Type 0) (w : BenchWorld) → modelled (layoutOf (port .family)) (watched q port) x ≡ true
+      → Meets (layoutOf (port .family)) (watched q port) x w → K (reply (layoutOf (port .family)) (watched q port) x w) (after (layoutOf (port .family)) (watched q port) x w)
+      → Answered (layoutOf (port .family)) (watched q port) x K w
+  unfolding Answered
+  answered-own x K w e m k = rw e (m, k)
+
+  -- ESDP where that is the machine's: a bit is set or cleared
+  module _ (has : hasMux port ≡ true) where
+    owned : models (layoutOf (port .family)) (watched q port) ESDP ≡ true
+    unfolding models
+    owned = rw (esdp-apart (port .family), has)
+
+    wrote-esdp : (v w : ℕ) (m : CountedBench) → master (layoutOf (port .family)) w ≡ nobody
+        → after (layoutOf (port .family)) (watched q port) (Write ESDP v) (world w m) ≡ world w (at v m)
+    unfolding after atLines pick switched
+    wrote-esdp v w m free = rw (esdp-apart (port .family), free) (ap (λ b. world w (record { bench = b; esdp = v; meter = m .meter })) (switched-nobody (hasMux port) (m .esdp) v (m .bench)))
+
+    meets-write : (v w : ℕ) (m : CountedBench) → master (layoutOf (port .family)) w ≡ nobody → (noneOf v 2 ≡ true → Settled q nobody m)
+        → Meets (layoutOf (port .family)) (watched q port) (Write ESDP v) (world w m)
+    unfolding Meets atLines Switches
+    meets-write v w m free left = rw (esdp-apart (port .family), free) (sees-nobody _ _ (m .bench), left)
+
+    meets-read : (w : BenchWorld) → Meets (layoutOf (port .family)) (watched q port) (Read ESDP) w
+    unfolding Meets atLines Switches
+    meets-read w = rw (esdp-apart (port .family)) tt
+
+    change-esdp : (b : Bits) (w : ℕ) (m : CountedBench) (Q : R (Unit {0}) → BenchWorld → Type 0) → master (layoutOf (port .family)) w ≡ nobody → eqb (m .esdp) 0xffffffff ≡ false
+        → (noneOf (changed b (m .esdp)) 2 ≡ true → Settled q nobody m) → Q (Ok tt) (world w (at (changed b (m .esdp)) m))
+        → Always (layoutOf (port .family)) (watched q port) (change (record { register = ESDP; bits = b; flushed = true })) (world w m) Q
+    unfolding Always modelled change stored settled _>>=_ orErr checked written flushed pick reply atLines after
+    change-esdp b w m Q free here left h =
+        answered-own (Read ESDP) _ (world w m) owned (meets-read (world w m))
+        (rw (esdp-apart (port .family), here)
+        (answered-own (Write ESDP (changed b (m .esdp))) _ (world w m) owned (meets-write (changed b (m .esdp)) w m free left)
+        (rw (wrote-esdp (changed b (m .esdp)) w m free)
+        (fine-alone (layoutOf (port .family)) (watched q port) (machine-unmoved q port) flush (world w (at (changed b (m .esdp)) m)) Q
+        (fine-map _ _ flush _ _ (λ r g. rw (fair-is r g) h) (fine-flush _ _ (aside q port (port .family) .status)))))))
+
+  -- ESDP where it is not
+  esdp-beside : hasMux port ≡ false → Beside (layoutOf (port .family)) (watched q port) ESDP
+  unfolding models
+  esdp-beside e = record { other = rw (esdp-apart (port .family), e); present = λ v m. stays ESDP v refl m }
+
+  -- the mux is switched, or there is none
+  mux-fine : hasMux port ≡ false → (on : Bool) → Fine (layoutOf (port .family)) (watched q port) (muxed port (mask port) on) (λ r. r ≡ Ok tt)
+  unfolding muxed setMux
+  mux-fine e true = fine-map _ _ _ _ _ fair-is (fine-pick _ _ _ _ _ _ (fine-change _ _ (aside q port (port .family) .status) _ (esdp-beside e)) (fine-ok _ _ tt))
+  mux-fine e false = fine-map _ _ _ _ _ fair-is (fine-pick _ _ _ _ _ _ (fine-change _ _ (aside q port (port .family) .status) _ (esdp-beside e)) (fine-ok _ _ tt))
+
+  mux-alone : (on : Bool) (w : ℕ) (m : CountedBench) (Q : R (Unit {0}) → BenchWorld → Type 0) → Fit port w m → (on ≡ false → hasMux port ≡ true → Settled q nobody m)
+      → Q (Ok tt) (world w (switch port on m)) → Always (layoutOf (port .family)) (watched q port) (muxed port (mask port) on) (world w m) Q
+  unfolding muxed setMux pick changed
+  mux-alone on w m Q f left k = by on (hasMux port) refl left k
+    where
+      by : (on b : Bool) → hasMux port ≡ b → (on ≡ false → hasMux port ≡ true → Settled q nobody m)
+          → Q (Ok tt) (world w (at (pick b (changed (setMux on .bits) (m .esdp)) (m .esdp)) m)) → Always (layoutOf (port .family)) (watched q port) (muxed port (mask port) on) (world w m) Q
+      by true true h left k =
+          rw (mux-there port h)
+          (change-esdp h _ w m Q (f .released h) (sound-present (m .esdp) (f .sound h)) (λ e. absurd (false≢true (sym (mux-set (m .esdp)) ∙ e))) k)
+      by false true h left k = rw (mux-there port h) (change-esdp h _ w m Q (f .released h) (sound-present (m .esdp) (f .sound h)) (λ _. left refl h) k)
+      by true false h left k = fine-alone _ _ (machine-unmoved q port) _ (world w m) Q (fine-map _ _ _ _ _ (λ r e. rw e k) (mux-fine h true))
+      by false false h left k = fine-alone _ _ (machine-unmoved q port) _ (world w m) Q (fine-map _ _ _ _ _ (λ r e. rw e k) (mux-fine h false))
+
+  pub acquire-alone : (w : ℕ) (m : CountedBench) (Q : R (Unit {0}) → BenchWorld → Type 0) → Fit port w m → Q (Ok tt) (world w (switch port true m))
+      → Always (layoutOf (port .family)) (watched q port) (acquire port (mask port)) (world w m) Q
+  unfolding acquire acquiredAll Always pick orErr
+  acquire-alone w m Q f k =
+      rw (mask-plain port, mask-bits port)
+      (always-bind _ _ _ _ (world w m) Q
+      (acquire-bits-always _ _ (machine-unmoved q port) port (aside q port (port .family)) (mask port) (world w m) _ (mux-alone true w m _ f (λ e. absurd (false≢true (sym e))) k)))
+
+  -- what a release does once the mux is switched
+  unmuxed-alone : (w : BenchWorld) (Q : R (Unit {0}) → BenchWorld → Type 0) → Q (Ok tt) w → Always (layoutOf (port .family)) (watched q port) (unmuxed port (mask port)) w Q
+  unmuxed-alone w Q k =
+      fine-alone _ _ (machine-unmoved q port) _ w Q
+      (fine-map _ _ _ _ _ (λ r g. rw (fair-is r g) k) (unmuxed-fine _ _ (machine-unmoved q port) port (aside q port (port .family)) (mask port)))
+
+  pub release-alone : (w : ℕ) (m : CountedBench) (Q : R (Unit {0}) → BenchWorld → Type 0) → Fit port w m → (hasMux port ≡ true → Settled q nobody m)
+      → Q (Ok tt) (world w (switch port false m)) → Always (layoutOf (port .family)) (watched q port) (release port (mask port)) (world w m) Q
+  unfolding release giveBits withBits releaseBits Always pick orErr
+  release-alone w m Q f left k =
+      rw (mask-plain port, mask-some port, mask-bits port)
+      (always-bind _ _ _ _ (world w m) Q
+      (always-bind _ _ _ _ (world w m) _
+      (mux-alone false w m _ f (λ _. left)
+      (unmuxed-alone (world w (switch port false m)) _ k))))
+
+  module _ (w : ℕ) (m : CountedBench) (Q : R Taken → BenchWorld → Type 0) where
+    pub lock-alone : (on : Bool) (k : Prog (R Taken)) → Fit port w m → Always (layoutOf (port .family)) (watched q port) k (world w (lockedBy port on m)) Q
+        → Always (layoutOf (port .family)) (watched q port) (whenLock on (acquire port (mask port)) k) (world w m) Q
+    unfolding whenLock pick orErr
+    lock-alone true k f h = always-bind _ _ _ _ (world w m) Q (acquire-alone w m _ f h)
+    lock-alone false k f h = h
+
+    pub unlock-alone : (on : Bool) (k : Prog (R Taken)) → Fit port w m → (hasMux port ≡ true → Settled q nobody m)
+        → Always (layoutOf (port .family)) (watched q port) k (world w (unlockedBy port on m)) Q
+        → Always (layoutOf (port .family)) (watched q port) (whenLock on (release port (mask port)) k) (world w m) Q
+    unfolding whenLock pick orErr
+    unlock-alone true k f left h = always-bind _ _ _ _ (world w m) Q (release-alone w m _ f left h)
+    unlock-alone false k f left h = h
+
+    pub pause-alone : (ms : ℕ) (k : Unit {0} → Prog (R Taken)) → Always (layoutOf (port .family)) (watched q port) (k tt) (world w m) Q
+        → Always (layoutOf (port .family)) (watched q port) (delayMs ms >>? k) (world w m) Q
+    pause-alone ms k h = alone-then _ _ (machine-unmoved q port) _ _ _ (world w m) Q (fine-map _ _ _ _ _ fair-is (fine-delay _ _ _)) h
+
+  module _ (none : hasMux port ≡ false) where
+    -- ESDP: a bit is set or cleared
+    esdp-fine : (c : Change) → c .register ≡ ESDP → Fine (layoutOf (port .family)) (watched q port) (change c) (λ r. r ≡ Ok tt)
+    esdp-fine c e = fine-map _ _ _ _ _ fair-is (fine-change _ _ (aside q port (port .family) .status) c (rw e (esdp-beside none)))
+
+    -- a grant that does not come is a lapse
+    granted-fine : (n : ℕ) → Fine (layoutOf (port .family)) (watched q port) (granted n) (λ r. r ≡ Ok true)
+    unfolding granted granting
+    granted-fine zero = fine-lapsed _ _ _ _
+    granted-fine (suc n) =
+        fine-try _ _ _ _ _ _ (fine-read _ _ _ (esdp-beside none))
+        (λ v _. fine-pick _ _ _ _ _ _ (fine-try _ _ _ _ _ _ (fine-delay _ _ _) (λ _ _. granted-fine n)) (fine-ret _ _ _ _ refl))
+
+    given-alone : (w : BenchWorld) (Q : R Taken → BenchWorld → Type 0) (r : R Taken) → Q r w → Always (layoutOf (port .family)) (watched q port) (givenBus r) w Q
     unfolding givenBus Always
-    given-alone r q = alone-then _ _ machine-unmoved _ _ _ w Q (esdp-fine giveBus refl) q
+    given-alone w Q r k = alone-then _ _ (machine-unmoved q port) _ _ _ w Q (esdp-fine giveBus refl) k
 
-  either-alone : (b : Bool) (p q : Prog (R Taken)) (w : World machine) (Q : R Taken → World machine → Type 0)
-      → Always (layoutOf (port .family)) machine p w Q → Always (layoutOf (port .family)) machine q w Q
-      → Always (layoutOf (port .family)) machine (pick b p q) w Q
-  unfolding pick
-  either-alone true p q w Q h g = h
-  either-alone false p q w Q h g = g
-
-  on-grant-alone : (device : ℕ) (f : Prog (R Taken)) (w : World machine) (Q : R Taken → World machine → Type 0)
-      → Always (layoutOf (port .family)) machine f w Q → Always (layoutOf (port .family)) machine (onGrant device f true) w Q
-  unfolding onGrant pick
-  on-grant-alone device f w Q h = always-bind _ _ f givenBus w Q (always-map _ _ f w Q _ (λ r w′. given-alone w′ Q r) h)
+    on-grant-alone : (device : ℕ) (f : Prog (R Taken)) (w : BenchWorld) (Q : R Taken → BenchWorld → Type 0)
+        → Always (layoutOf (port .family)) (watched q port) f w Q → Always (layoutOf (port .family)) (watched q port) (onGrant device f true) w Q
+    unfolding onGrant pick
+    on-grant-alone device f w Q h = always-bind _ _ f givenBus w Q (always-map _ _ f w Q _ (λ r w′. given-alone w′ Q r) h)
 
   -- the handshake around a call: what holds at the call's end holds at the whole's
-  pub bus-alone : (device : ℕ) (f : Prog (R Taken)) (w : World machine) (Q : R Taken → World machine → Type 0)
-      → Always (layoutOf (port .family)) machine f w Q → Always (layoutOf (port .family)) machine (withBus port device f) w Q
-  unfolding withBus
-  bus-alone device f w Q h =
-      either-alone _ _ _ w Q
-      (alone-then _ _ machine-unmoved _ _ _ w Q (esdp-fine askBus refl)
-      (alone-then _ _ machine-unmoved _ _ _ w Q (granted-fine 200) (on-grant-alone device f w Q h)))
-      h
+  pub bus-alone : (device : ℕ) (f : Prog (R Taken)) (w : BenchWorld) (Q : R Taken → BenchWorld → Type 0)
+      → Always (layoutOf (port .family)) (watched q port) f w Q → Always (layoutOf (port .family)) (watched q port) (withBus port device f) w Q
+  unfolding withBus pick
+  bus-alone device f w Q h = by (qsfp port) refl
+    where
+      by : (b : Bool) → qsfp port ≡ b → Always (layoutOf (port .family)) (watched q port) (pick b (change askBus >>? λ _. granted 200 >>? onGrant device f) f) w Q
+      by true e =
+          alone-then _ _ (machine-unmoved q port) _ _ _ w Q (esdp-fine (qsfp-plain port e) askBus refl)
+          (alone-then _ _ (machine-unmoved q port) _ _ _ w Q (granted-fine (qsfp-plain port e) 200) (on-grant-alone (qsfp-plain port e) device f w Q h))
+      by false e = h

@@ -1,3 +1,4 @@
+pub mod Direct
 pub mod Bits
 pub mod Receiver
 pub mod Bytes
@@ -5,6 +6,7 @@ pub mod ReadByte
 pub mod Clearing
 pub mod Rounds
 pub mod Attempts
+pub mod Mux
 pub mod Fine
 pub mod Locks
 pub mod Handshake
@@ -14,6 +16,7 @@ pub mod AtOnceCalls
 pub mod Identify
 pub mod Runs
 pub mod Claim
+pub mod Switched
 pub mod Possible
 pub mod Page
 pub mod Light

@@ -19,7 +19,8 @@ use Rattle.bench.specs.declared.receiver.Receiver.{Receiver}
 use Rattle.bench.specs.declared.receiver.Stage.the-variants.{Idle, Address, Receive, AckRead, AckWrite}
 use Rattle.bench.specs.Receiver.{stopped, rise, chose, byteTaken}
 use Rattle.bench.specs.Bench.{under, acted, pageOf}
-use Rattle.demand.specs.Claim.{CountedBench, machine, byteOf}
+use Rattle.demand.specs.Claim.{CountedBench, byteOf}
+use Rattle.demand.proofs.Direct.{direct}
 use Rattle.demand.specs.WriteClaim.{addressOf}
 use Rattle.demand.proofs.Bits.{tookBits, byte-taken}
 use Rattle.demand.proofs.Receiver.{with, asked, Keeps, does-bytes, stop-takes, rise-takes, rise-pulls, address-taking, receive-taking, taking, taking-free, stop-free, idle-free, listening, expecting, listen-ends, listen-free, addressed-write, addressed-read, byte-ends, ack-write-ends, ack-read-ends}
@@ -58,75 +59,75 @@ read-small A0 = lit< tt
 read-small A2 = lit< tt
 
 module _ (l : Layout) (g : Distinct l) where
-  pub from-rest : {a b : Bool} {s t : CountedBench} {k : Bus} {Q : Claim machine} → s ≡ t → FromRest l machine a b t k Q → FromRest l machine a b s k Q
-  from-rest {a} {b} {k = k} {Q} e h = subst⁻¹ (λ s. FromRest l machine a b s k Q) e h
+  pub from-rest : {a b : Bool} {s t : CountedBench} {k : Bus} {Q : Claim direct} → s ≡ t → FromRest l direct a b t k Q → FromRest l direct a b s k Q
+  from-rest {a} {b} {k = k} {Q} e h = subst⁻¹ (λ s. FromRest l direct a b s k Q) e h
 
   -- a stop leaves a receiver idle that does not pull SDA
-  pub stops : (m : CountedBench) {a : Bool} {k : Bus} {Q : Claim machine} → machine .pulls m .sda ≡ false
-      → ((n : CountedBench) → n .bench .receiver .stage ≡ Idle → Kept m n → FromRest l machine false false n k Q)
-      → From l machine a true m (stop l k) Q
+  pub stops : (m : CountedBench) {a : Bool} {k : Bus} {Q : Claim direct} → direct .pulls m .sda ≡ false
+      → ((n : CountedBench) → n .bench .receiver .stage ≡ Idle → Kept m n → FromRest l direct false false n k Q)
+      → From l direct a true m (stop l k) Q
   unfolding stopped
   stops m free h =
-      Commands.stop-low l g machine (λ s. refl) (rise-pulls false m ∙ free) (stop-free (machine .takes (Bit false) m))
-      (from-rest (ap (machine .takes STOP) (rise-takes false m) ∙ stop-takes (with (rise false (m .bench .receiver)) m))
+      Commands.stop-low l g direct (λ s. refl) (rise-pulls false m ∙ free) (stop-free (direct .takes (Bit false) m))
+      (from-rest (ap (direct .takes STOP) (rise-takes false m) ∙ stop-takes (with (rise false (m .bench .receiver)) m))
       (h (with (stopped (rise false (m .bench .receiver))) m) refl (record { a0 = refl; a2 = refl; made = refl })))
 
   module _ (page : Chosen) where
     -- a byte is sent to the page, and acknowledged: the first is the offset, any other is stored
-    pub byte-sent : (first : Bool) (r : Receiver) (m : CountedBench) (device byte : ℕ) {a : Bool} {k : Bus} {Q : Claim machine} → byte < 256
-        → From l machine false true (with (taking Receive 0 0 (expecting page false r)) (asked page (pick first (Offset byte) (Store byte)) m)) k Q
-        → From l machine a true (with (taking Receive 0 0 (expecting page first r)) m) (send l device byte k) Q
+    pub byte-sent : (first : Bool) (r : Receiver) (m : CountedBench) (device byte : ℕ) {a : Bool} {k : Bus} {Q : Claim direct} → byte < 256
+        → From l direct false true (with (taking Receive 0 0 (expecting page false r)) (asked page (pick first (Offset byte) (Store byte)) m)) k Q
+        → From l direct a true (with (taking Receive 0 0 (expecting page first r)) m) (send l device byte k) Q
     byte-sent first r m device byte small h =
         Bytes.sent l g Receive receive-taking (expecting page first r) m
         (with (byteTaken (taking Receive 8 byte (expecting page first r))) (asked page (pick first (Offset byte) (Store byte)) m)) device byte
-        (ap (λ v. machine .takes Fall (with (taking Receive 8 v (expecting page first r)) m)) (byte-taken byte small) ∙ byte-ends byte (expecting page first r) m) tt
+        (ap (λ v. direct .takes Fall (with (taking Receive 8 v (expecting page first r)) m)) (byte-taken byte small) ∙ byte-ends byte (expecting page first r) m) tt
         (Bytes.from l g (ack-write-ends (byteTaken (taking Receive 8 byte (expecting page first r))) (asked page (pick first (Offset byte) (Store byte)) m) refl) h)
 
     -- a start, the page's address and an offset; the receiver then takes a byte to store
-    pub offset-sent : (a b : Bool) (m : CountedBench) (device offset : ℕ) {k : Bus} {Q : Claim machine} → offset < 256 → machine .pulls m .sda ≡ false
-        → ((r : Receiver) → From l machine false true (with (taking Receive 0 0 (expecting page false r)) (asked page (Offset offset) m)) k Q)
-        → FromRest l machine a b m (start l (send l device (addressOf page) (send l device offset k))) Q
+    pub offset-sent : (a b : Bool) (m : CountedBench) (device offset : ℕ) {k : Bus} {Q : Claim direct} → offset < 256 → direct .pulls m .sda ≡ false
+        → ((r : Receiver) → From l direct false true (with (taking Receive 0 0 (expecting page false r)) (asked page (Offset offset) m)) k Q)
+        → FromRest l direct a b m (start l (send l device (addressOf page) (send l device offset k))) Q
     unfolding pick
     offset-sent a b m device offset o free h =
         Bytes.started-at l g a b m free (λ r.
         Bytes.sent l g Address address-taking r m (with (chose AckWrite page (taking Address 8 (addressOf page) r)) m) device (addressOf page)
-        (ap (λ v. machine .takes Fall (with (taking Address 8 v r) m)) (byte-taken (addressOf page) (address-small page)) ∙ addressed-write page r m) tt
+        (ap (λ v. direct .takes Fall (with (taking Address 8 v r) m)) (byte-taken (addressOf page) (address-small page)) ∙ addressed-write page r m) tt
         (Bytes.from l g (ack-write-ends (chose AckWrite page (taking Address 8 (addressOf page) r)) m refl) (byte-sent true r m device offset o (h r))))
 
     -- the byte is not acknowledged, and the stop leaves the receiver idle
-    finished : (r : Receiver) (m : CountedBench) {a : Bool} {k : Bus} {Q : Claim machine}
-        → ((n : CountedBench) → n .bench .receiver .stage ≡ Idle → Kept m n → FromRest l machine false false n k Q)
-        → From l machine a true (with (listening page r) m) (outBit l true (stop l k)) Q
+    finished : (r : Receiver) (m : CountedBench) {a : Bool} {k : Bus} {Q : Claim direct}
+        → ((n : CountedBench) → n .bench .receiver .stage ≡ Idle → Kept m n → FromRest l direct false false n k Q)
+        → From l direct a true (with (listening page r) m) (outBit l true (stop l k)) Q
     finished r m h =
-        Commands.out-bit l g machine (λ s. refl) true (λ _. listen-free page r m)
+        Commands.out-bit l g direct (λ s. refl) true (λ _. listen-free page r m)
         (Bytes.from l g (listen-ends page r m) (stops (with q m) (idle-free q m refl) (λ n idle kept. h n idle (record { a0 = kept .a0; a2 = kept .a2; made = kept .made }))))
       where
         q : Receiver
         q = record { stage = Idle; bits = r .bits; page = page; first = r .first; noted = true }
 
     -- the offset was taken: the second start, the address, and the byte
-    read-back : (r : Receiver) (m : CountedBench) (device : ℕ) (k : ℕ → Bus) {a : Bool} {Q : Claim machine}
-        → ((n : CountedBench) → n .bench .receiver .stage ≡ Idle → Kept m n → FromRest l machine false false n (k (tookBits 8 (under (pageOf page (m .bench))) 0)) Q)
-        → From l machine a true (with (taking Receive 0 0 r) m) (start l (send l device (bitOr (addressOf page) 1) (inByte l (λ value. outBit l true (stop l (k value)))))) Q
+    read-back : (r : Receiver) (m : CountedBench) (device : ℕ) (k : ℕ → Bus) {a : Bool} {Q : Claim direct}
+        → ((n : CountedBench) → n .bench .receiver .stage ≡ Idle → Kept m n → FromRest l direct false false n (k (tookBits 8 (under (pageOf page (m .bench))) 0)) Q)
+        → From l direct a true (with (taking Receive 0 0 r) m) (start l (send l device (bitOr (addressOf page) 1) (inByte l (λ value. outBit l true (stop l (k value)))))) Q
     unfolding inByte
     read-back r m device k {a} h =
-        Commands.at-rest l g machine (λ s. refl)
+        Commands.at-rest l g direct (λ s. refl)
         (Bytes.started-at l g a true (with (taking Receive 0 0 r) m) (taking-free Receive receive-taking r m 0 0) (λ q.
         Bytes.sent l g Address address-taking q m (with (chose AckRead page (taking Address 8 (bitOr (addressOf page) 1) q)) m) device (bitOr (addressOf page) 1)
-        (ap (λ v. machine .takes Fall (with (taking Address 8 v q) m)) (byte-taken (bitOr (addressOf page) 1) (read-small page)) ∙ addressed-read page q m) tt
+        (ap (λ v. direct .takes Fall (with (taking Address 8 v q) m)) (byte-taken (bitOr (addressOf page) 1) (read-small page)) ∙ addressed-read page q m) tt
         (Bytes.from l g (ack-read-ends page (taking Address 8 (bitOr (addressOf page) 1) q) m)
         (Bytes.in-bits l g page (chose AckRead page (taking Address 8 (bitOr (addressOf page) 1) q)) m 7 0 0 (λ value. outBit l true (stop l (k value))) refl
         (finished (chose AckRead page (taking Address 8 (bitOr (addressOf page) 1) q)) (asked page Next m) (λ n idle kept. h n idle (kept-then (asked-kept page Next m tt) kept)))))))
 
     -- `read_byte`'s commands: the byte at the offset is handed on, the receiver is idle and both lines are released
-    pub read-byte : (a b : Bool) (m : CountedBench) (device offset : ℕ) (k : ℕ → Bus) {Q : Claim machine} → offset < 256
-        → byteAt page (m .bench) offset < 256 → machine .pulls m .sda ≡ false
-        → ((n : CountedBench) → n .bench .receiver .stage ≡ Idle → Kept m n → FromRest l machine false false n (k (byteAt page (m .bench) offset)) Q)
-        → FromRest l machine a b m
+    pub read-byte : (a b : Bool) (m : CountedBench) (device offset : ℕ) (k : ℕ → Bus) {Q : Claim direct} → offset < 256
+        → byteAt page (m .bench) offset < 256 → direct .pulls m .sda ≡ false
+        → ((n : CountedBench) → n .bench .receiver .stage ≡ Idle → Kept m n → FromRest l direct false false n (k (byteAt page (m .bench) offset)) Q)
+        → FromRest l direct a b m
         (start l (send l device (addressOf page) (send l device offset (start l (send l device (bitOr (addressOf page) 1) (inByte l (λ value. outBit l true (stop l (k value)))))))))
         Q
     read-byte a b m device offset k {Q} o v free h =
         offset-sent a b m device offset o free (λ r.
         read-back (expecting page false r) (asked page (Offset offset) m) device k (λ n idle kept.
-        subst⁻¹ (λ d. FromRest l machine false false n (k d) Q) (ap (λ d. tookBits 8 d 0) (under-offset page offset m) ∙ byte-taken (byteAt page (m .bench) offset) v)
+        subst⁻¹ (λ d. FromRest l direct false false n (k d) Q) (ap (λ d. tookBits 8 d 0) (under-offset page offset m) ∙ byte-taken (byteAt page (m .bench) offset) v)
         (h n idle (kept-then (asked-kept page (Offset offset) m tt) kept))))

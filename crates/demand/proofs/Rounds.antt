@@ -20,7 +20,8 @@ use Rattle.bench.specs.declared.receiver.Stage.{Stage}
 use Rattle.bench.specs.declared.receiver.Stage.the-variants.{Idle, Address, Receive, AckRead, AckWrite, Send, Listen}
 use Rattle.bench.specs.Receiver.{fallAt, fall, asksAt, asks, edged, asksOn, pullsAt, pulls}
 use Rattle.bench.specs.Bench.{pullsLow}
-use Rattle.demand.specs.Claim.{CountedBench, machine}
+use Rattle.demand.specs.Claim.{CountedBench}
+use Rattle.demand.proofs.Direct.{direct}
 use Rattle.demand.proofs.Receiver.{Keeps, rise-pulls, address-begun}
 use Rattle.demand.proofs.Bytes as Bytes
 use Rattle.demand.proofs.ReadByte.{Kept, kept-then}
@@ -78,7 +79,7 @@ round k bits byte page first noted AckWrite p h = record { still = tt; lets = om
 round k bits byte page first noted (Send n) p h = send-round k n bits page first noted (ltb n 7) refl h
 round k bits byte page first noted Listen p h = absurd (false≢true p)
 
-rounded : (k : ℕ) (m : CountedBench) → machine .pulls m .sda ≡ true → Lets (suc k) (m .bench .receiver .stage) → Round k (m .bench .receiver)
+rounded : (k : ℕ) (m : CountedBench) → direct .pulls m .sda ≡ true → Lets (suc k) (m .bench .receiver .stage) → Round k (m .bench .receiver)
 unfolding pullsLow pulls
 rounded k m p h = round k _ _ _ _ _ (m .bench .receiver .stage) p h
 
@@ -87,63 +88,63 @@ kept-all m = record { a0 = refl; a2 = refl; made = refl }
 
 module _ (l : Layout) (g : Distinct l) where
   -- SDA is read high while SCL is high
-  pull-frees : (m : CountedBench) {Q : Claim machine} → machine .pulls m .sda ≡ false
-      → ((n : CountedBench) → n .bench .receiver .stage ≡ Idle → Kept m n → FromRest l machine false false n (done none) Q)
-      → From l machine false false m (pulled l) Q
+  pull-frees : (m : CountedBench) {Q : Claim direct} → direct .pulls m .sda ≡ false
+      → ((n : CountedBench) → n .bench .receiver .stage ≡ Idle → Kept m n → FromRest l direct false false n (done none) Q)
+      → From l direct false false m (pulled l) Q
   unfolding pulled
   pull-frees m free h =
-      Commands.pull l g machine (λ s. refl) free (Bytes.from l g (address-begun (m .bench .receiver) m) (stopped-at l g (m .bench .receiver) m h))
+      Commands.pull l g direct (λ s. refl) free (Bytes.from l g (address-begun (m .bench .receiver) m) (stopped-at l g (m .bench .receiver) m h))
 
   -- SCL is raised, from low or from high, and SDA is then as before
-  raises : (b : Bool) (m : CountedBench) {k : Bus} {Q : Claim machine}
-      → ((o : CountedBench) → Kept m o → machine .pulls o .sda ≡ machine .pulls m .sda → (machine .pulls m .sda ≡ true → Still (m .bench .receiver .stage) → o ≡ m)
-      → From l machine false false o k Q)
-      → From l machine false b m (sclHigh l k) Q
+  raises : (b : Bool) (m : CountedBench) {k : Bus} {Q : Claim direct}
+      → ((o : CountedBench) → Kept m o → direct .pulls o .sda ≡ direct .pulls m .sda → (direct .pulls m .sda ≡ true → Still (m .bench .receiver .stage) → o ≡ m)
+      → From l direct false false o k Q)
+      → From l direct false b m (sclHigh l k) Q
   unfolding asksOn
   raises true m h =
-      Commands.up l g machine (λ s. refl)
-      (h _ (edge-kept (Bit (not (machine .pulls m .sda))) m tt) (rise-pulls _ m) (λ p e. still _ m e))
-  raises false m h = Lines.scl-high l g machine refl (Bytes.from l g (Lines.turn-none machine (drawn false false) m) (h m (kept-all m) refl (λ p e. refl)))
+      Commands.up l g direct (λ s. refl)
+      (h _ (edge-kept (Bit (not (direct .pulls m .sda))) m tt) (rise-pulls _ m) (λ p e. still _ m e))
+  raises false m h = Lines.scl-high l g direct refl (Bytes.from l g (Lines.turn-none direct (drawn false false) m) (h m (kept-all m) refl (λ p e. refl)))
 
-  rounds-free : (left : ℕ) (b : Bool) (m : CountedBench) {Q : Claim machine} → Lets left (m .bench .receiver .stage)
-      → ((n : CountedBench) → n .bench .receiver .stage ≡ Idle → Kept m n → FromRest l machine false false n (done none) Q)
-      → From l machine false b m (rounds l left) Q
+  rounds-free : (left : ℕ) (b : Bool) (m : CountedBench) {Q : Claim direct} → Lets left (m .bench .receiver .stage)
+      → ((n : CountedBench) → n .bench .receiver .stage ≡ Idle → Kept m n → FromRest l direct false false n (done none) Q)
+      → From l direct false b m (rounds l left) Q
   unfolding rounds pick edged asksOn
   rounds-free zero b m e h = absurd (some (m .bench .receiver .stage) e)
   rounds-free (suc left) b m {Q} e h =
-      raises b m (λ o kept same stays. Lines.pause l g machine 4 (Lines.sampled l g machine _
-      (by o kept same stays (λ d f k. rounds-free left true d f k) (machine .pulls m .sda) refl)))
+      raises b m (λ o kept same stays. Lines.pause l g direct 4 (Lines.sampled l g direct _
+      (by o kept same stays (λ d f k. rounds-free left true d f k) (direct .pulls m .sda) refl)))
     where
-      by : (o : CountedBench) → Kept m o → machine .pulls o .sda ≡ machine .pulls m .sda
-          → (machine .pulls m .sda ≡ true → Still (m .bench .receiver .stage) → o ≡ m)
+      by : (o : CountedBench) → Kept m o → direct .pulls o .sda ≡ direct .pulls m .sda
+          → (direct .pulls m .sda ≡ true → Still (m .bench .receiver .stage) → o ≡ m)
           → ((d : CountedBench) → Lets left (d .bench .receiver .stage)
-          → ((n : CountedBench) → n .bench .receiver .stage ≡ Idle → Kept d n → FromRest l machine false false n (done none) Q) → From l machine false true d (rounds l left) Q)
-          → (p : Bool) → machine .pulls m .sda ≡ p
-          → From l machine false false o (pick (not (machine .pulls o .sda)) (pulled l) (sclLow l (wait 5 (rounds l left)))) Q
+          → ((n : CountedBench) → n .bench .receiver .stage ≡ Idle → Kept d n → FromRest l direct false false n (done none) Q) → From l direct false true d (rounds l left) Q)
+          → (p : Bool) → direct .pulls m .sda ≡ p
+          → From l direct false false o (pick (not (direct .pulls o .sda)) (pulled l) (sclLow l (wait 5 (rounds l left)))) Q
       by o kept same stays again false p = rw (same ∙ p) (pull-frees o (same ∙ p) (λ n idle k. h n idle (kept-then kept k)))
       by o kept same stays again true p =
           let r = rounded left m p e in
           rw (same ∙ p)
           (Bytes.from l g (stays p (r .still))
-          (Commands.down l g machine (λ s. refl) (Lines.pause l g machine 5
-          (again (machine .takes Fall m) (subst⁻¹ (λ (q : Receiver). Lets left (q .stage)) (edge-receiver Fall m) (r .lets))
+          (Commands.down l g direct (λ s. refl) (Lines.pause l g direct 5
+          (again (direct .takes Fall m) (subst⁻¹ (λ (q : Receiver). Lets left (q .stage)) (edge-receiver Fall m) (r .lets))
           (λ n idle k. h n idle (kept-then (edge-kept Fall m (r .keeps)) k))))))
 
   -- SDA is released: nothing moves, or a STOP is seen
-  releases : (a b : Bool) (m : CountedBench) {k : Bus} {Q : Claim machine} → ((o : CountedBench) → Kept m o → From l machine false b o k Q)
-      → From l machine a b m (releaseSda l k) Q
+  releases : (a b : Bool) (m : CountedBench) {k : Bus} {Q : Claim direct} → ((o : CountedBench) → Kept m o → From l direct false b o k Q)
+      → From l direct a b m (releaseSda l k) Q
   unfolding asksOn
-  releases a true m h = Lines.sda-released l g machine (Bytes.from l g (Commands.turn-low machine m a false) (h m (kept-all m)))
-  releases false false m h = Lines.sda-released l g machine (Bytes.from l g (Lines.turn-none machine (drawn false false) m) (h m (kept-all m)))
-  releases true false m {k} {Q} h = Lines.sda-released l g machine (by (machine .pulls m .sda) refl)
+  releases a true m h = Lines.sda-released l g direct (Bytes.from l g (Commands.turn-low direct m a false) (h m (kept-all m)))
+  releases false false m h = Lines.sda-released l g direct (Bytes.from l g (Lines.turn-none direct (drawn false false) m) (h m (kept-all m)))
+  releases true false m {k} {Q} h = Lines.sda-released l g direct (by (direct .pulls m .sda) refl)
     where
-      by : (p : Bool) → machine .pulls m .sda ≡ p → From l machine false false (turn machine (drawn true false) (drawn false false) m) k Q
-      by true e = Bytes.from l g (Commands.turn-held machine m true false false e) (h m (kept-all m))
-      by false e = Bytes.from l g (Commands.turn-stop machine m e refl) (h _ (edge-kept STOP m tt))
+      by : (p : Bool) → direct .pulls m .sda ≡ p → From l direct false false (turn direct (drawn true false) (drawn false false) m) k Q
+      by true e = Bytes.from l g (Commands.turn-held direct m true false false e) (h m (kept-all m))
+      by false e = Bytes.from l g (Commands.turn-stop direct m e refl) (h _ (edge-kept STOP m tt))
 
   -- The sequence of rounds takes every receiver to Idle, whatever the master pulls at its beginning
-  pub clears-by-rounds : (a b : Bool) (m : CountedBench) {Q : Claim machine}
-      → ((n : CountedBench) → n .bench .receiver .stage ≡ Idle → Kept m n → FromRest l machine false false n (done none) Q)
-      → From l machine a b m (clearRounds l) Q
+  pub clears-by-rounds : (a b : Bool) (m : CountedBench) {Q : Claim direct}
+      → ((n : CountedBench) → n .bench .receiver .stage ≡ Idle → Kept m n → FromRest l direct false false n (done none) Q)
+      → From l direct a b m (clearRounds l) Q
   unfolding clearRounds
   clears-by-rounds a b m h = releases a b m (λ o kept. rounds-free 10 b o (ten (o .bench .receiver .stage)) (λ n idle k. h n idle (kept-then kept k)))

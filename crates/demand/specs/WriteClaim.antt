@@ -2,7 +2,7 @@
 -- in `i2c/specs/I2c.antt` and `sfp/specs/Rate.antt`; the bench, the start and the premises are those of `Claim.antt`.
 use Prim.Native.Nat.{ℕ, _+_, _<_}
 use mathlib.Core.Path.{_≡_}
-use mathlib.Core.Bool.{Bool, true}
+use mathlib.Core.Bool.{Bool, true, false}
 use mathlib.Core.List.{List}
 use lib.ListN.{set}
 use Rattle.hardware.specs.declared.Answer.{Answer}
@@ -10,16 +10,15 @@ use Rattle.hardware.specs.declared.Port.{Port}
 use Rattle.hardware.specs.Prog.{Prog, R, Ok}
 use Rattle.bus.specs.declared.Layout.{Layout}
 use Rattle.bus.specs.Layout.{layoutOf}
-use Rattle.wire.specs.Lines.{ready}
-use Rattle.wire.specs.Machine.{World}
 use Rattle.bench.specs.declared.Bench.{Bench}
 use Rattle.bench.specs.declared.Page.{Page}
+use Rattle.bench.specs.Mux.{hasMux, joins}
 use Rattle.bench.specs.declared.receiver.Chosen.{Chosen}
 use Rattle.bench.specs.declared.receiver.Chosen.the-variants.{A0, A2}
 use Rattle.i2c.specs.declared.once.Request.the-variants.{WriteByte}
 use Rattle.i2c.specs.I2c.{standard, making, transferred}
 use Rattle.sfp.specs.Rate.{selected, softRateSelect}
-use Rattle.demand.specs.Claim.{machine, byteOf, Leaves, extra, CallComes}
+use Rattle.demand.specs.Claim.{BenchWorld, Start, Allowed, byteOf, Leaves, extra, CallComes}
 
 -- the device of a page
 abbrev pub addressOf : Chosen → ℕ
@@ -41,18 +40,23 @@ rated ten b = written A2 0x76 (selected ten (byteOf (b .a2) 0x76)) (written A2 0
 
 -- The facts of a write, of the module at the start, the result, and I2CCTL and the module at the end; one transfer, and one
 -- more where the module pulled SDA at the start
-pub record WriteFacts (l : Layout) (b : Bench) (page : Chosen) (offset value : ℕ) (r : R ℕ) (w : World machine) : Type 0 where
+pub record WriteFacts (l : Layout) (b : Bench) (page : Chosen) (offset value : ℕ) (r : R ℕ) (w : BenchWorld) : Type 0 where
   pub result : r ≡ Ok 0
   pub leaves : Leaves l (written page offset value b) (1 + extra b) w
 
 -- of a rate select: a read and a write for each of its two bytes
-pub record RateFacts (l : Layout) (b : Bench) (ten : Bool) (r : R Bool) (w : World machine) : Type 0 where
+pub record RateFacts (l : Layout) (b : Bench) (ten : Bool) (r : R Bool) (w : BenchWorld) : Type 0 where
   pub result : r ≡ Ok true
   pub leaves : Leaves l (rated ten b) (4 + extra b) w
 
--- A rate select's start: what it reads are bytes, and I2CCTL is as 01 allows. A write reads none, and asks for the second only
-unfoldable pub RateStarts : Port → Bench → ℕ → Type 0
-RateStarts port b word = ((n : ℕ) → byteOf (b .a2) n < 256) × (ready (layoutOf (port .family)) word ≡ true)
+-- A write's start: the registers are as 01 and S-6 allow, and without the lock, which switches the mux, the mux is on
+pub record WriteStarts (port : Port) (lock : Bool) (start : Start) : Type 0 where
+  pub allowed : Allowed port start
+  pub joined : lock ≡ false → joins (hasMux port) (start .esdp) ≡ true
+
+-- A rate select's: what it reads are bytes, too
+unfoldable pub RateStarts : Port → Bench → Start → Type 0
+RateStarts port b start = ((n : ℕ) → byteOf (b .a2) n < 256) × Allowed port start
 
 -- the calls that the claims are about
 abbrev pub writeCall : Port → Chosen → ℕ → ℕ → Bool → Prog (R ℕ)
@@ -61,9 +65,9 @@ writeCall port page offset value lock = transferred port (WriteByte (addressOf p
 abbrev pub rateCall : Port → Bool → Prog (R Bool)
 rateCall port ten = softRateSelect standard port ten
 
-unfoldable pub WriteClaim : Port → Chosen → ℕ → ℕ → Bool → Bench → ℕ → List Answer → Type 0
-WriteClaim port page offset value lock b word answers =
-    CallComes port (writeCall port page offset value lock) b word answers (WriteFacts (layoutOf (port .family)) b page offset value)
+unfoldable pub WriteClaim : Port → Chosen → ℕ → ℕ → Bool → Bench → Start → List Answer → Type 0
+WriteClaim port page offset value lock b start answers =
+    CallComes port (writeCall port page offset value lock) b start answers (WriteFacts (layoutOf (port .family)) b page offset value)
 
-unfoldable pub RateClaim : Port → Bool → Bench → ℕ → List Answer → Type 0
-RateClaim port ten b word answers = CallComes port (rateCall port ten) b word answers (RateFacts (layoutOf (port .family)) b ten)
+unfoldable pub RateClaim : Port → Bool → Bench → Start → List Answer → Type 0
+RateClaim port ten b start answers = CallComes port (rateCall port ten) b start answers (RateFacts (layoutOf (port .family)) b ten)

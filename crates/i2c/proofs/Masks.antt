@@ -30,7 +30,7 @@ pub mask-plain : (port : Port) → noneOf (mask port) TOKEN ≡ true
 unfolding noneOf
 mask-plain port = of-masks (λ m. noneOf m TOKEN ≡ true) port refl refl refl
 
-mask-bits : (port : Port) → hwOf (mask port) ≡ mask port
+pub mask-bits : (port : Port) → hwOf (mask port) ≡ mask port
 unfolding hwOf
 mask-bits port = of-masks (λ m. hwOf m ≡ m) port refl refl refl
 

@@ -8,6 +8,7 @@ use bench::register::BenchState;
 use hardware::Access;
 use hardware::Answer;
 use hardware::Family;
+use hardware::Port;
 use light::calls::LightTold;
 use light::sensed::Measured;
 
@@ -39,7 +40,12 @@ const RELEASED: u32 = 0x0000_000a;
 const MOST_ACCESSES: u64 = 1_000_000_000;
 
 fn met(d: BenchState, x: Access) -> Answered {
-    let r = bench::register::access(Family::F82599, d, x);
+    let port = Port {
+        family: Family::F82599,
+        device: DEVICE,
+        lan: 0,
+    };
+    let r = bench::register::access(port, d, x);
     let state = r.state;
     if r.here {
         let answer = r.answer;
@@ -90,6 +96,7 @@ fn idle(first: [u8; 256], second: [u8; 256]) -> BenchState {
     let bench = Bench { receiver, a0, a2 };
     BenchState {
         word: RELEASED,
+        esdp: 0,
         bench,
     }
 }

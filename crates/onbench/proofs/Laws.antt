@@ -26,14 +26,14 @@ use Rattle.hardware.specs.Runs.{Ends}
 use Rattle.hardware.proofs.Ends.{ends-more, ends-tally}
 use Rattle.bus.specs.declared.Layout.{Layout}
 use Rattle.bus.specs.Layout.{layoutOf}
-use Rattle.wire.specs.Lines.{ready}
-use Rattle.wire.specs.Machine.{World, modelled, reply, after}
+use Rattle.wire.specs.Machine.{At, modelled, reply, after}
 use Rattle.wire.specs.Run.{Given as Gives, given, refused, Source, listed, fixed, kindAsked, kindChecked, Finished, BenchRun, proceed, run, runAsked}
 use Rattle.wire.proofs.Run.{run-own, run-other, reply-fits}
 use Rattle.bench.specs.declared.register.BenchState.{BenchState}
 use Rattle.bench.specs.declared.register.Reply.{Reply}
 use Rattle.bench.specs.AtOnce.{atOnce}
-use Rattle.bench.specs.Register.{side, world, benchState, here, accessed}
+use Rattle.bench.specs.Register.{Caged, side, world, benchState, here, accessed}
+use Rattle.bench.specs.Mux.{hasMux}
 use Rattle.sfp.specs.declared.Identity.{Identity}
 use Rattle.sfp.specs.Identify.{identify}
 use Rattle.sfp.specs.Steps.{IDENTIFY-STEPS}
@@ -45,8 +45,8 @@ use Rattle.identify.specs.declared.calls.IdentifyTold.{IdentifyTold}
 use Rattle.identify.specs.declared.calls.IdentifyTold.the-variants.{Ask, End, Refused}
 use Rattle.identify.specs.Walk.{restIdentify}
 use Rattle.identify.specs.Calls.{openIdentify, stepIdentify, saidIdentify, standsIdentify}
-use Rattle.demand.specs.Claim.{Starts, Premises}
-use Rattle.demand.specs.Library.{identifyRun, Demand3, Demand3AtOnce}
+use Rattle.demand.specs.Claim.{Allowed, Starts, Premises}
+use Rattle.demand.specs.Library.{startOf, identifyRun, Demand3, Demand3AtOnce}
 use Rattle.demand.proofs.Library.{demand-3-ended, demand-3, demand-3-at-once}
 use Rattle.onbench.specs.declared.Ending.the-variants.{Stopped}
 use Rattle.onbench.specs.declared.Next.{Next}
@@ -74,16 +74,16 @@ step-is x (Going port q m s) a h = rw (h .1, ← h .0)
 step-is x Over a h = absurd h
 
 -- the module's reply, by whether the access is the machine's own
-reply-own : (l : Layout) (x : Access) (d : BenchState) (b : Bool) → modelled l x ≡ b → accessed l x d .here ≡ true
-    → (modelled l x ≡ true) × (accessed l x d ≡ here (reply l side x (world d)) (benchState (after l side x (world d))))
+reply-own : (l : Layout) (mux : Bool) (x : Access) (d : BenchState) (b : Bool) → modelled l (side mux) x ≡ b → accessed l mux x d .here ≡ true
+    → (modelled l (side mux) x ≡ true) × (accessed l mux x d ≡ here (reply l (side mux) x (world d)) (benchState (after l (side mux) x (world d))))
 unfolding accessed pick
-reply-own l x d true e h = (e, rw e)
-reply-own l x d false e h = absurd (false≢true (rw e at h))
+reply-own l mux x d true e h = (e, rw e)
+reply-own l mux x d false e h = absurd (false≢true (rw e at h))
 
-reply-other : (l : Layout) (x : Access) (d : BenchState) (b : Bool) → modelled l x ≡ b → accessed l x d .here ≡ false → modelled l x ≡ false
+reply-other : (l : Layout) (mux : Bool) (x : Access) (d : BenchState) (b : Bool) → modelled l (side mux) x ≡ b → accessed l mux x d .here ≡ false → modelled l (side mux) x ≡ false
 unfolding accessed pick
-reply-other l x d true e h = absurd (false≢true (sym (rw e at h)))
-reply-other l x d false e h = e
+reply-other l mux x d true e h = absurd (false≢true (sym (rw e at h)))
+reply-other l mux x d false e h = e
 
 -- n accesses are enough for what is asked for, so n less one for what follows
 fewer : {A : Type 0} (x : Access) (f : Answer → Prog A) (a : Answer) (b : Bool) → fits x a ≡ b → (n : ℕ) → Bounded (yes (ask x f)) (suc n)
@@ -113,11 +113,11 @@ Settled (Ask x c) = ⊥
 Settled (End f m) = Unit {0}
 Settled (Refused q) = Unit {0}
 
-told-settles : (l : Layout) (s : Source) (q : IdentifyTold) (w : World side) (answers : List Answer) → Settled q → runAsked l side s (saidIdentify q) w answers ≡ stopsAt q w
+told-settles : (l : Layout) (mux : Bool) (s : Source) (q : IdentifyTold) (w : At Caged) (answers : List Answer) → Settled q → runAsked l (side mux) s (saidIdentify q) w answers ≡ stopsAt q w
 unfolding runAsked saidIdentify run stopsAt
-told-settles l s (Ask x c) w answers h = absurd h
-told-settles l s (End f m) w answers h = refl
-told-settles l s (Refused q) w answers h = refl
+told-settles l mux s (Ask x c) w answers h = absurd h
+told-settles l mux s (End f m) w answers h = refl
+told-settles l mux s (Refused q) w answers h = refl
 
 -- with no access left there is nothing more to do
 none-left : (t : IdentifyTold) → standsIdentify t → Bounded (saidIdentify t) 0 → Settled t
@@ -127,16 +127,16 @@ none-left (Ask x Over) st b = absurd st
 none-left (End f m) st b = tt
 none-left (Refused q) st b = tt
 
-module _ (l : Layout) (o : Origin) (ns : List ℕ) where
+module _ (port : Port) (o : Origin) (ns : List ℕ) where
   abbrev left : Progress → IdentifyOutcome
-  left = leftOf l o ns
+  left = leftOf port o ns
 
   abbrev source : Source
   source = kindChecked (sourceOf o)
 
   settles : (s : Progress) → Settled (s .told) → Final left s
   unfolding leftOf Final
-  settles s h = told-settles l source (s .told) (world (s .state)) (decodedAll (drop (s .used) ns)) h
+  settles s h = told-settles (layoutOf (port .family)) (hasMux port) source (s .told) (world (s .state)) (decodedAll (drop (s .used) ns)) h
 
   module _ (x : Access) (c : IdentifyCall) (d : BenchState) (used : ℕ) where
     abbrev from : Progress
@@ -148,22 +148,22 @@ module _ (l : Layout) (o : Origin) (ns : List ℕ) where
     -- the access was answered with a, and told is what the call then says
     stepped : (told : IdentifyTold) (a : Answer) (d′ : BenchState) (used′ : ℕ) → saidIdentify told ≡ stepIdentify c a → standsIdentify told
         → (standsIdentify (Ask x c)
-        → runAsked l side source (question (fits x a) 12 (yes (restOf c a))) (world d′) (decodedAll (drop used′ ns)) ≡ run l side source (ask x (restOf c)) (world d) lent .outcome)
+        → runAsked (layoutOf (port .family)) (side (hasMux port)) source (question (fits x a) 12 (yes (restOf c a))) (world d′) (decodedAll (drop used′ ns)) ≡ run (layoutOf (port .family)) (side (hasMux port)) source (ask x (restOf c)) (world d) lent .outcome)
         → Advances left from (record { told = told; state = d′; used = used′; over = false })
     unfolding Advances leftOf runAsked
     stepped told a d′ used′ said stands same st =
         record {
           same =
-              ap (λ q. runAsked l side source q (world d′) (decodedAll (drop used′ ns))) (said ∙ step-is x c a st)
+              ap (λ q. runAsked (layoutOf (port .family)) (side (hasMux port)) source q (world d′) (decodedAll (drop used′ ns))) (said ∙ step-is x c a st)
               ∙ same st
-              ∙ ap (λ q. runAsked l side source q (world d) lent) (sym (said-ask x c st));
+              ∙ ap (λ q. runAsked (layoutOf (port .family)) (side (hasMux port)) source q (world d) lent) (sym (said-ask x c st));
           stands = stands;
           less = λ _ n h. subst⁻¹ (λ q. Bounded q n) (said ∙ step-is x c a st) (fewer x (restOf c) a (fits x a) refl n (subst (λ q. Bounded q (suc n)) (said-ask x c st) h));
           final = λ z. absurd (false≢true z);
         }
 
-    module _ (r : Reply) (er : r ≡ accessed l x d) where
-      here-is : (b : Bool) → r .here ≡ b → accessed l x d .here ≡ b
+    module _ (r : Reply) (er : r ≡ accessed (layoutOf (port .family)) (hasMux port) x d) where
+      here-is : (b : Bool) → r .here ≡ b → accessed (layoutOf (port .family)) (hasMux port) x d .here ≡ b
       here-is b h = sym (ap (λ (q : Reply). q .here) er) ∙ h
 
       -- by the machine
@@ -171,27 +171,27 @@ module _ (l : Layout) (o : Origin) (ns : List ℕ) where
           → Advances left from (record { told = t; state = r .state; used = used; over = false })
       unfolding runAsked question
       visit-own t h said stands =
-          let own = reply-own l x d (modelled l x) refl (here-is true h) in
+          let own = reply-own (layoutOf (port .family)) (hasMux port) x d (modelled (layoutOf (port .family)) (side (hasMux port)) x) refl (here-is true h) in
           stepped t (r .answer) (r .state) used said stands
           (λ _.
-          ap (λ (q : Reply). runAsked l side source (question (fits x (q .answer)) 12 (yes (restOf c (q .answer)))) (world (q .state)) lent) (er ∙ own .1)
-          ∙ ap (λ b. runAsked l side source (question b 12 (yes (restOf c (reply l side x (world d))))) (after l side x (world d)) lent) (is-true (fits x (reply l side x (world d))) (reply-fits l side x (world d)))
-          ∙ ap (λ (q : BenchRun side (Counted (R Identity))). q .outcome) (sym (run-own l side source x (restOf c) (world d) lent (own .0))))
+          ap (λ (q : Reply). runAsked (layoutOf (port .family)) (side (hasMux port)) source (question (fits x (q .answer)) 12 (yes (restOf c (q .answer)))) (world (q .state)) lent) (er ∙ own .1)
+          ∙ ap (λ b. runAsked (layoutOf (port .family)) (side (hasMux port)) source (question b 12 (yes (restOf c (reply (layoutOf (port .family)) (side (hasMux port)) x (world d))))) (after (layoutOf (port .family)) (side (hasMux port)) x (world d)) lent) (is-true (fits x (reply (layoutOf (port .family)) (side (hasMux port)) x (world d))) (reply-fits (layoutOf (port .family)) (side (hasMux port)) x (world d)))
+          ∙ ap (λ (q : BenchRun (At Caged) (Counted (R Identity))). q .outcome) (sym (run-own (layoutOf (port .family)) (side (hasMux port)) source x (restOf c) (world d) lent (own .0))))
 
       -- by the next answer, of the awaited kind or not
       taken : (a : Answer) (rest : List Answer) (b : Bool)
-          → runAsked l side source (question b 12 (yes (restOf c a))) (world d) rest
-          ≡ proceed x (world d) (λ e t. run l side source (restOf c e) (world d) t) (pick b (given a rest) (refused 12)) .outcome
+          → runAsked (layoutOf (port .family)) (side (hasMux port)) source (question b 12 (yes (restOf c a))) (world d) rest
+          ≡ proceed x (world d) (λ e t. run (layoutOf (port .family)) (side (hasMux port)) source (restOf c e) (world d) t) (pick b (given a rest) (refused 12)) .outcome
       unfolding runAsked question proceed pick
       taken a rest true = refl
       taken a rest false = refl
 
       proceed-by : (n : Next) → nextOf ns n ≡ sourceOf o x lent → r .here ≡ false
-          → run l side source (ask x (restOf c)) (world d) lent .outcome
-          ≡ proceed x (world d) (λ e t. run l side source (restOf c e) (world d) t) (kindAsked x (nextOf ns n)) .outcome
+          → run (layoutOf (port .family)) (side (hasMux port)) source (ask x (restOf c)) (world d) lent .outcome
+          ≡ proceed x (world d) (λ e t. run (layoutOf (port .family)) (side (hasMux port)) source (restOf c e) (world d) t) (kindAsked x (nextOf ns n)) .outcome
       proceed-by n en h =
-          ap (λ (q : BenchRun side (Counted (R Identity))). q .outcome) (run-other l side source x (restOf c) (world d) lent (reply-other l x d (modelled l x) refl (here-is false h)))
-          ∙ ap (λ (g : Gives). proceed x (world d) (λ e t. run l side source (restOf c e) (world d) t) (kindAsked x g) .outcome) (sym en)
+          ap (λ (q : BenchRun (At Caged) (Counted (R Identity))). q .outcome) (run-other (layoutOf (port .family)) (side (hasMux port)) source x (restOf c) (world d) lent (reply-other (layoutOf (port .family)) (hasMux port) x d (modelled (layoutOf (port .family)) (side (hasMux port)) x) refl (here-is false h)))
+          ∙ ap (λ (g : Gives). proceed x (world d) (λ e t. run (layoutOf (port .family)) (side (hasMux port)) source (restOf c e) (world d) t) (kindAsked x g) .outcome) (sym en)
 
       pub visit-given : (n : Next) (t : IdentifyTold) (a : Answer) (used′ : ℕ) → n ≡ Given a used′ → nextOf ns n ≡ sourceOf o x lent → r .here ≡ false
           → saidIdentify t ≡ stepIdentify c a → standsIdentify t
@@ -209,7 +209,7 @@ module _ (l : Layout) (o : Origin) (ns : List ℕ) where
             same = refl;
             stands = st;
             less = λ z. absurd (false≢true (sym z));
-            final = λ _. ap (λ q. runAsked l side source q (world d) lent) (said-ask x c st) ∙ proceed-by Nothing (ap (nextOf ns) (sym e) ∙ en) h;
+            final = λ _. ap (λ q. runAsked (layoutOf (port .family)) (side (hasMux port)) source q (world d) lent) (said-ask x c st) ∙ proceed-by Nothing (ap (nextOf ns) (sym e) ∙ en) h;
           }
 
   -- by what was told
@@ -302,13 +302,13 @@ module _ (q : Sequence) (family device lan : ℕ) (d : BenchState) where
     pub opened : (g : Opening) (p : Port) (t : IdentifyTold) (r : Run) → g ≡ Opened p → portOpened g ≡ openPort family device lan
         → saidIdentify t ≡ openIdentify q family device lan → standsIdentify t
         → (standsIdentify t → Bounded (saidIdentify t) 1600450488
-        → outcomeOf r ≡ leftOf (layoutOf (p .family)) o ns (record { told = t; state = d; used = 0; over = false }))
+        → outcomeOf r ≡ leftOf p o ns (record { told = t; state = d; used = 0; over = false }))
         → outcomeOf r ≡ identifyRun q (sourceOf o) (openPort family device lan) (world d) (decodedAll ns)
     unfolding portOpened Bounded leftOf runAsked identifyRun
     opened g p t r e h said st played =
         let y : yes p ≡ openPort family device lan = ap portOpened (sym e) ∙ h in
         played st (subst⁻¹ (λ z. Bounded z 1600450488) (opened-said p t y said) (enough q p))
-        ∙ ap (λ z. runAsked (layoutOf (p .family)) side (kindChecked (sourceOf o)) z (world d) (decodedAll ns)) (opened-said p t y said)
+        ∙ ap (λ z. runAsked (layoutOf (p .family)) (side (hasMux p)) (kindChecked (sourceOf o)) z (world d) (decodedAll ns)) (opened-said p t y said)
         ∙ ap (λ z. identifyRun q (sourceOf o) z (world d) (decodedAll ns)) y
 
     pub unopened : (g : Opening) (n : Refusal) → g ≡ Unopened n → portOpened g ≡ openPort family device lan
@@ -317,19 +317,19 @@ module _ (q : Sequence) (family device lan : ℕ) (d : BenchState) where
     unopened g n e h = ap (λ z. identifyRun q (sourceOf o) z (world d) (decodedAll ns)) (ap portOpened (sym e) ∙ h)
 
   -- Demand 3 of what the call comes to: over the numbers lent, and with none
-  module _ (small : (n : ℕ) → getD (d .bench .a0 .bytes) n 0 < 256) (port : Port) (y : yes port ≡ openPort family device lan) (go : ready (layoutOf (port .family)) (d .word) ≡ true) where
-    starts : Starts port (d .bench) (d .word)
+  module _ (small : (n : ℕ) → getD (d .bench .a0 .bytes) n 0 < 256) (port : Port) (y : yes port ≡ openPort family device lan) (go : Allowed port (startOf d)) where
+    starts : Starts port (d .bench) (startOf d)
     unfolding Starts
     starts = (small, go)
 
     pub lent-claim : (ns : List ℕ) (r : IdentifyOutcome) → r ≡ identifyRun q listed (openPort family device lan) (world d) (decodedAll ns)
-        → Premises q port (d .bench) (d .word) (decodedAll ns) → Finished r ⊎ (IDENTIFY-STEPS (port .family) ≤ length ns)
-        → Demand3 q port (d .bench) (d .word) (decodedAll ns) r
+        → Premises q port (d .bench) (startOf d) (decodedAll ns) → Finished r ⊎ (IDENTIFY-STEPS (port .family) ≤ length ns)
+        → Demand3 q port (d .bench) (startOf d) (decodedAll ns) r
     lent-claim ns r e m =
-        subst⁻¹ (λ z. Finished z ⊎ (IDENTIFY-STEPS (port .family) ≤ length ns) → Demand3 q port (d .bench) (d .word) (decodedAll ns) z) (e ∙ ap (λ z. identifyRun q listed z (world d) (decodedAll ns)) (sym y))
-        (⊎-elim (demand-3-ended q port (d .bench) (d .word) (decodedAll ns) starts m)
-        (λ n. demand-3 q port (d .bench) (d .word) (decodedAll ns) starts m (subst⁻¹ (λ k. IDENTIFY-STEPS (port .family) ≤ k) (decoded-length ns) n)))
+        subst⁻¹ (λ z. Finished z ⊎ (IDENTIFY-STEPS (port .family) ≤ length ns) → Demand3 q port (d .bench) (startOf d) (decodedAll ns) z) (e ∙ ap (λ z. identifyRun q listed z (world d) (decodedAll ns)) (sym y))
+        (⊎-elim (demand-3-ended q port (d .bench) (startOf d) (decodedAll ns) starts m)
+        (λ n. demand-3 q port (d .bench) (startOf d) (decodedAll ns) starts m (subst⁻¹ (λ k. IDENTIFY-STEPS (port .family) ≤ k) (decoded-length ns) n)))
 
-    pub at-once-claim : (r : IdentifyOutcome) → r ≡ identifyRun q (fixed atOnce) (openPort family device lan) (world d) [] → Demand3AtOnce q port (d .bench) (d .word) r
+    pub at-once-claim : (r : IdentifyOutcome) → r ≡ identifyRun q (fixed atOnce) (openPort family device lan) (world d) [] → Demand3AtOnce q port (d .bench) (startOf d) r
     at-once-claim r e =
-        subst⁻¹ (Demand3AtOnce q port (d .bench) (d .word)) (e ∙ ap (λ z. identifyRun q (fixed atOnce) z (world d) []) (sym y)) (demand-3-at-once q port (d .bench) (d .word) starts)
+        subst⁻¹ (Demand3AtOnce q port (d .bench) (startOf d)) (e ∙ ap (λ z. identifyRun q (fixed atOnce) z (world d) []) (sym y)) (demand-3-at-once q port (d .bench) (startOf d) starts)

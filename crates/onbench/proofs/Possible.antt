@@ -24,7 +24,7 @@ use Rattle.bench.specs.declared.Bench.{Bench}
 use Rattle.bench.specs.AtOnce.{atOnce, atOnceAt}
 use Rattle.sfp.specs.Identify.{identify}
 use Rattle.sfp.specs.Steps.{IDENTIFY-STEPS}
-use Rattle.demand.specs.Claim.{machine, atStart, Premises}
+use Rattle.demand.specs.Claim.{Start, machine, atStart, Premises}
 use Rattle.demand.proofs.Possible.{dones, prompt, promptAnswers, at-once-meets, at-once-long}
 use Rattle.onbench.specs.Run.{decoded, decodedAll}
 
@@ -73,7 +73,7 @@ at-once-plain (Write r v) = tt
 at-once-plain (Wait n) = tt
 
 module _ (l : Layout) (o : Side) {A : Type 0} where
-  plain-at : (x : Access) (b : Bool) (f : Answer → Prog A) (w : World o) (answers : List Answer) → modelled l x ≡ b
+  plain-at : (x : Access) (b : Bool) (f : Answer → Prog A) (w : World o) (answers : List Answer) → modelled l o x ≡ b
       → ((a : Answer) (w′ : World o) (rest : List Answer) → AllPlain (answersIn (run l o (fixed atOnce) (f a) w′ rest .trace)))
       → AllPlain (answersIn (run l o (fixed atOnce) (ask x f) w answers .trace))
   unfolding run pick fixed proceed answersIn
@@ -83,7 +83,7 @@ module _ (l : Layout) (o : Side) {A : Type 0} where
   run-plain : (p : Prog A) (w : World o) (answers : List Answer) → AllPlain (answersIn (run l o (fixed atOnce) p w answers .trace))
   unfolding run answersIn
   run-plain (ret a) w answers = tt
-  run-plain (ask x f) w answers = plain-at x (modelled l x) f w answers refl (λ a w′ rest. run-plain (f a) w′ rest)
+  run-plain (ask x f) w answers = plain-at x (modelled l o x) f w answers refl (λ a w′ rest. run-plain (f a) w′ rest)
   run-plain (note k p) w answers = run-plain p (noted o k w) answers
   run-plain (give b p) w answers = run-plain p w answers
 
@@ -102,12 +102,12 @@ lendable [] h = tt
 lendable (a ∷ l) h = (encoded-fits a (h .0), lendable l (h .1))
 
 -- For every port and every start, AckWrite included, numbers that stand for answers which meet the premises, and enough of them
-pub possible-lent : (q : Sequence) (port : Port) (b : Bench) (word : ℕ)
-    → (ns : List ℕ) × Lendable ns × Premises q port b word (decodedAll ns) × (IDENTIFY-STEPS (port .family) ≤ length ns)
-possible-lent q port b word =
-    let plain = plain-append (answersIn (prompt q port b word .trace)) (dones (IDENTIFY-STEPS (port .family))) (run-plain (layoutOf (port .family)) machine (identify q port) (atStart word b) []) (plain-dones (IDENTIFY-STEPS (port .family))) in (
-      map encoded (promptAnswers q port b word),
-      lendable (promptAnswers q port b word) plain,
-      subst⁻¹ (Premises q port b word) (decoded-all (promptAnswers q port b word) plain) (at-once-meets q port b word),
-      omega (arith, at-once-long q port b word, length-map (promptAnswers q port b word) encoded),
+pub possible-lent : (q : Sequence) (port : Port) (b : Bench) (start : Start)
+    → (ns : List ℕ) × Lendable ns × Premises q port b start (decodedAll ns) × (IDENTIFY-STEPS (port .family) ≤ length ns)
+possible-lent q port b start =
+    let plain = plain-append (answersIn (prompt q port b start .trace)) (dones (IDENTIFY-STEPS (port .family))) (run-plain (layoutOf (port .family)) (machine port) (identify q port) (atStart start b) []) (plain-dones (IDENTIFY-STEPS (port .family))) in (
+      map encoded (promptAnswers q port b start),
+      lendable (promptAnswers q port b start) plain,
+      subst⁻¹ (Premises q port b start) (decoded-all (promptAnswers q port b start) plain) (at-once-meets q port b start),
+      omega (arith, at-once-long q port b start, length-map (promptAnswers q port b start) encoded),
     )

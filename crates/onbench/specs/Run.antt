@@ -11,11 +11,13 @@ use Rattle.hardware.specs.Asked.{Asked, no, yes}
 use Rattle.hardware.specs.Numbers.{refusalNumber}
 use Rattle.hardware.specs.Prog.{Prog, R, pick, Counted}
 use Rattle.hardware.specs.Runs.{Ends}
-use Rattle.bus.specs.declared.Layout.{Layout}
-use Rattle.wire.specs.Machine.{World}
+use Rattle.hardware.specs.declared.Port.{Port}
+use Rattle.bus.specs.Layout.{layoutOf}
+use Rattle.wire.specs.Machine.{At}
 use Rattle.wire.specs.Run.{Given as Gives, given, nothing, Source, listed, fixed, kindChecked, BenchOutcome, ended, short, stopped, runAsked}
 use Rattle.bench.specs.AtOnce.{atOnce}
-use Rattle.bench.specs.Register.{side, world}
+use Rattle.bench.specs.Register.{Caged, side, world}
+use Rattle.bench.specs.Mux.{hasMux}
 use Rattle.sfp.specs.declared.Identity.{Identity}
 use Rattle.identify.specs.declared.calls.IdentifyTold.{IdentifyTold}
 use Rattle.identify.specs.declared.calls.IdentifyTold.the-variants.{Ask, End, Refused}
@@ -48,9 +50,9 @@ nextOf ns (Given a used) = given a (decodedAll (drop used ns))
 nextOf ns Nothing = nothing
 
 abbrev pub IdentifyOutcome : Type 0
-IdentifyOutcome = BenchOutcome side (Counted (R Identity))
+IdentifyOutcome = BenchOutcome (At Caged) (Counted (R Identity))
 
-unfoldable pub endingOf : Ending → World side → IdentifyOutcome
+unfoldable pub endingOf : Ending → At Caged → IdentifyOutcome
 endingOf (Ended f m) w = ended (record { meter = m; result = foundOf f }) w
 endingOf Short w = short w
 endingOf (Stopped q) w = stopped (refusalNumber q) w
@@ -59,8 +61,8 @@ unfoldable pub outcomeOf : Run → IdentifyOutcome
 outcomeOf r = endingOf (r .ending) (world (r .state))
 
 -- what the call comes to from here
-unfoldable pub leftOf : Layout → Origin → List ℕ → Progress → IdentifyOutcome
-leftOf l o ns s = runAsked l side (kindChecked (sourceOf o)) (saidIdentify (s .told)) (world (s .state)) (decodedAll (drop (s .used) ns))
+unfoldable pub leftOf : Port → Origin → List ℕ → Progress → IdentifyOutcome
+leftOf port o ns s = runAsked (layoutOf (port .family)) (side (hasMux port)) (kindChecked (sourceOf o)) (saidIdentify (s .told)) (world (s .state)) (decodedAll (drop (s .used) ns))
 
 -- n more accesses are enough
 unfoldable pub Bounded : {A : Type 0} → Asked (Prog A) → ℕ → Type 0
@@ -68,7 +70,7 @@ Bounded (no k) n = Unit {0}
 Bounded (yes p) n = Ends p n
 
 -- what a run comes to that stops here
-unfoldable pub stopsAt : IdentifyTold → World side → IdentifyOutcome
+unfoldable pub stopsAt : IdentifyTold → At Caged → IdentifyOutcome
 stopsAt (Ask x c) w = short w
 stopsAt (End f m) w = ended (record { meter = m; result = foundOf f }) w
 stopsAt (Refused q) w = stopped (refusalNumber q) w

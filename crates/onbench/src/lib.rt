@@ -3,9 +3,9 @@
 use bench::register::BenchState;
 use hardware::Access;
 use hardware::Answer;
-use hardware::Family;
 use hardware::Meter;
 use hardware::Opening;
+use hardware::Port;
 use hardware::Refusal;
 use identify::calls::IdentifyCall;
 use identify::calls::IdentifyTold;
@@ -17,17 +17,14 @@ ghost use mathlib.Core.Bool.{true, false};
 ghost use mathlib.Core.List.{[]};
 ghost use mathlib.Core.Logic.{_⊎_};
 ghost use lib.ListN.{length, getD, drop};
-ghost use Rattle.hardware.specs.declared.Port.{Port};
 ghost use Rattle.hardware.specs.Asked.{yes, openPort};
-ghost use Rattle.bus.specs.Layout.{layoutOf};
-ghost use Rattle.wire.specs.Lines.{ready};
 ghost use Rattle.wire.specs.Run.{listed, fixed, Finished};
 ghost use Rattle.bench.specs.AtOnce.{atOnce};
 ghost use Rattle.bench.specs.Register.{world};
 ghost use Rattle.sfp.specs.Steps.{IDENTIFY-STEPS};
 ghost use Rattle.identify.specs.Calls.{saidIdentify, standsIdentify};
-ghost use Rattle.demand.specs.Claim.{Premises};
-ghost use Rattle.demand.specs.Library.{identifyRun, Demand3, Demand3AtOnce};
+ghost use Rattle.demand.specs.Claim.{Allowed, Premises};
+ghost use Rattle.demand.specs.Library.{startOf, identifyRun, Demand3, Demand3AtOnce};
 ghost use Rattle.onbench.specs.Run.{decoded, decodedAll, sourceOf, nextOf, outcomeOf, leftOf, stopsAt, Advances, Bounded};
 
 // How a run ended: with the call's result and the meter, for want of answers, or by a refusal.
@@ -37,14 +34,14 @@ pub enum Ending {
     Stopped(Refusal),
 }
 
-// I2CCTL and the module at the end.
+// The registers and the module at the end.
 pub struct Run {
     pub ending: Ending,
     pub state: BenchState,
 }
 
-// Where the answers to accesses other than I2CCTL's come from: they are lent, or fixed so that every lock and grant comes at
-// once.
+// Where the answers to accesses that are not the machine's own come from: they are lent, or fixed so that every lock and grant
+// comes at once.
 pub enum Origin {
     Lent,
     AtOnce,
@@ -94,9 +91,9 @@ fn next_answer(origin: Origin, x: Access, used: usize, answers: &[u64]) -> Next
     }
 }
 
-// The access is I2CCTL's, and the module answers it; or it gets the next answer, if there is one.
+// The access is the machine's own, and is answered there; or it gets the next answer, if there is one.
 fn visit(
-    family: Family,
+    port: Port,
     origin: Origin,
     x: Access,
     c: IdentifyCall,
@@ -104,9 +101,9 @@ fn visit(
     used: usize,
     answers: &[u64],
 ) -> Progress
-    ensures { λ t. ⌜ Advances (leftOf (layoutOf family) origin (now (answers .entry))) (record { told = IdentifyTold.Ask x c; state = d; used = used; over = false }) t ⌝ }
+    ensures { λ t. ⌜ Advances (leftOf port origin (now (answers .entry))) (record { told = IdentifyTold.Ask x c; state = d; used = used; over = false }) t ⌝ }
 {
-    let r = bench::register::access(family, d, x);
+    let r = bench::register::access(port, d, x);
     let after = r.state;
     let answer = r.answer;
     if r.here {
@@ -133,14 +130,14 @@ fn visit(
     }
 }
 
-fn one(family: Family, origin: Origin, s: Progress, answers: &[u64]) -> Progress
-    ensures { λ t. ⌜ (s .over ≡ false → Advances (leftOf (layoutOf family) origin (now (answers .entry))) s t) ⌝ }
+fn one(port: Port, origin: Origin, s: Progress, answers: &[u64]) -> Progress
+    ensures { λ t. ⌜ (s .over ≡ false → Advances (leftOf port origin (now (answers .entry))) s t) ⌝ }
 {
     let told = s.told;
     let d = s.state;
     let used = s.used;
     match told {
-        IdentifyTold::Ask(x, c) => visit(family, origin, x, c, d, used, answers),
+        IdentifyTold::Ask(x, c) => visit(port, origin, x, c, d, used, answers),
         IdentifyTold::End(f, m) => Progress {
             told: IdentifyTold::End(f, m),
             state: d,
@@ -177,8 +174,8 @@ fn finish(s: Progress) -> Run
     }
 }
 
-fn play(family: Family, origin: Origin, told: IdentifyTold, d: BenchState, answers: &[u64]) -> Run
-    ensures { λ r. ⌜ (standsIdentify told → Bounded (saidIdentify told) 1600450488 → outcomeOf r ≡ leftOf (layoutOf family) origin (now (answers .entry)) (record { told = told; state = d; used = 0; over = false })) ⌝ }
+fn play(port: Port, origin: Origin, told: IdentifyTold, d: BenchState, answers: &[u64]) -> Run
+    ensures { λ r. ⌜ (standsIdentify told → Bounded (saidIdentify told) 1600450488 → outcomeOf r ≡ leftOf port origin (now (answers .entry)) (record { told = told; state = d; used = 0; over = false })) ⌝ }
 {
     let mut s = Progress {
         told,
@@ -191,7 +188,7 @@ fn play(family: Family, origin: Origin, told: IdentifyTold, d: BenchState, answe
         if s.over {
             return finish(s);
         }
-        s = one(family, origin, s, answers);
+        s = one(port, origin, s, answers);
         left -= 1;
     }
     finish(s)
@@ -211,9 +208,8 @@ fn from_opening(
 {
     match hardware::open_port(family, device, lan) {
         Opening::Port(p) => {
-            let f = p.family;
             let told = identify::calls::identify_open_with(family, device, lan, sequence);
-            play(f, origin, told, d, answers)
+            play(p, origin, told, d, answers)
         }
         Opening::Refused(q) => Run {
             ending: Ending::Stopped(q),
@@ -247,7 +243,7 @@ pub fn identify_on_bench(
     sequence: Sequence,
 ) -> Run
     ensures { λ r. ⌜ outcomeOf r ≡ identifyRun sequence listed (openPort family device lan) (world d) (decodedAll (now (answers .entry))) ⌝ }
-    ensures { λ r. ⌜ ((port : Port) → yes port ≡ openPort family device lan → ready (layoutOf (port .family)) (d .word) ≡ true → Premises sequence port (d .bench) (d .word) (decodedAll (now (answers .entry))) → Finished (outcomeOf r) ⊎ (IDENTIFY-STEPS (port .family) ≤ length (now (answers .entry))) → Demand3 sequence port (d .bench) (d .word) (decodedAll (now (answers .entry))) (outcomeOf r)) ⌝ }
+    ensures { λ r. ⌜ ((port : Port) → yes port ≡ openPort family device lan → Allowed port (startOf d) → Premises sequence port (d .bench) (startOf d) (decodedAll (now (answers .entry))) → Finished (outcomeOf r) ⊎ (IDENTIFY-STEPS (port .family) ≤ length (now (answers .entry))) → Demand3 sequence port (d .bench) (startOf d) (decodedAll (now (answers .entry))) (outcomeOf r)) ⌝ }
 {
     let page = d.bench.a0.bytes;
     bytes(&page);
@@ -263,7 +259,7 @@ pub fn identify_at_once(
     sequence: Sequence,
 ) -> Run
     ensures { λ r. ⌜ outcomeOf r ≡ identifyRun sequence (fixed atOnce) (openPort family device lan) (world d) [] ⌝ }
-    ensures { λ r. ⌜ ((port : Port) → yes port ≡ openPort family device lan → ready (layoutOf (port .family)) (d .word) ≡ true → Demand3AtOnce sequence port (d .bench) (d .word) (outcomeOf r)) ⌝ }
+    ensures { λ r. ⌜ ((port : Port) → yes port ≡ openPort family device lan → Allowed port (startOf d) → Demand3AtOnce sequence port (d .bench) (startOf d) (outcomeOf r)) ⌝ }
 {
     let page = d.bench.a0.bytes;
     bytes(&page);

@@ -38,9 +38,8 @@ fn meaning(f: Fault) {
         Fault::Long => faults::long(),
         Fault::Second => text(b"an image is named already, and a setting is NAME=VALUE\n"),
         Fault::Name => {
-            text(
-                b"the names are family port device stage taken page next sda a0 a2 control sequence",
-            );
+            text(b"the names are family port device stage taken page next sda a0 a2 control esdp ");
+            text(b"sequence");
             text(b"; put ./ before an image whose path has =\n");
         }
         Fault::Twice => text(b"the name was given before\n"),
@@ -79,7 +78,7 @@ pub(crate) fn control(place: usize) {
 
 pub(crate) fn too_many(words: usize) {
     decimal(words);
-    text(b" words: at most 13 are taken, an image and 12 settings\n");
+    text(b" words: at most 14 are taken, an image and 13 settings\n");
 }
 
 pub(crate) fn no_image() {

@@ -96,7 +96,7 @@ fn main() {
     let count = os::arg_count();
     if count < 2 {
         table::all();
-    } else if count <= 14 {
+    } else if count <= 15 {
         words(settings::all(count));
     } else {
         faults::too_many(count - 1);

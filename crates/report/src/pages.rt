@@ -2,7 +2,6 @@
 use bench::register::BenchState;
 use hardware::Access;
 use hardware::Answer;
-use hardware::Family;
 use hardware::Port;
 use page::calls::PageTold;
 use page::sums::Paged;
@@ -22,8 +21,8 @@ struct Answered {
 // More accesses than a page makes where every lock and grant comes at once.
 const MOST_ACCESSES: u64 = 1_000_000_000;
 
-fn met(family: Family, d: BenchState, x: Access) -> Answered {
-    let r = bench::register::access(family, d, x);
+fn met(port: Port, d: BenchState, x: Access) -> Answered {
+    let r = bench::register::access(port, d, x);
     let state = r.state;
     if r.here {
         let answer = r.answer;
@@ -35,14 +34,14 @@ fn met(family: Family, d: BenchState, x: Access) -> Answered {
     }
 }
 
-fn run(family: Family, first: PageTold, d: BenchState, buffer: &mut [u8]) -> PageEnd {
+fn run(port: Port, first: PageTold, d: BenchState, buffer: &mut [u8]) -> PageEnd {
     let mut told = first;
     let mut state = d;
     let mut left = MOST_ACCESSES;
     while 0 < left {
         match told {
             PageTold::Ask(x, s) => {
-                let m = met(family, state, x);
+                let m = met(port, state, x);
                 let a = m.answer;
                 state = m.state;
                 told = page::calls::page_step(s, buffer, a);
@@ -65,7 +64,6 @@ pub(crate) fn read(
     buffer: &mut [u8],
     sequence: Sequence,
 ) -> PageEnd {
-    let f = p.family;
     let told = page::calls::page_open_with(
         family,
         p.device,
@@ -74,5 +72,5 @@ pub(crate) fn read(
         buffer,
         sequence,
     );
-    run(f, told, d, buffer)
+    run(p, told, d, buffer)
 }

@@ -122,6 +122,19 @@ fn start(d: BenchState) {
     );
 }
 
+// ESDP, where the port has a mux.
+fn mux(name: &[u8], p: Port, d: BenchState) {
+    if bench::register::has_mux(p) {
+        print::text(name);
+        print::hex(d.esdp as u64, 8);
+        print::either(
+            hardware::none_of(d.esdp, 2),
+            b"; the mux is off\n",
+            b"; the mux is on\n",
+        );
+    }
+}
+
 fn byte(name: &[u8], b: u8) {
     print::text(name);
     print::hex(b as u64, 2);
@@ -214,9 +227,11 @@ pub(crate) fn all(
     print::text(b"\n");
     port(p);
     start(before);
+    mux(b"esdp        ", p, before);
     sequence(q);
     let h = r.ending;
     ending(p, h);
     end(p, before.bench, r.state);
+    mux(b"esdp after  ", p, r.state);
     texts(read, page);
 }

@@ -31,16 +31,18 @@ pub const A2: usize = 9;
 
 pub const CONTROL: usize = 10;
 
-pub const SEQUENCE: usize = 11;
+pub const ESDP: usize = 11;
+
+pub const SEQUENCE: usize = 12;
 
 // How many there are, and the number of every other name.
-const NAMES: usize = 12;
+const NAMES: usize = 13;
 
 // values: each setting as a number. places: the word that gave it, from 1, and 0 where none did. image: the word that names
 // the image, likewise.
 pub struct Settings {
-    pub values: [u32; 12],
-    pub places: [usize; 12],
+    pub values: [u32; 13],
+    pub places: [usize; 13],
     pub image: usize,
 }
 
@@ -74,11 +76,11 @@ pub struct Reading {
 }
 
 // 82599, port number 0, PCI device 10fb; Idle, no bits taken, page A0, data next, SDA noted high, both offsets 0. The
-// default of I2CCTL goes by the family, that of the sequence is the library's.
+// default of I2CCTL goes by the family, that of ESDP is 0, and that of the sequence is the library's.
 fn defaults() -> Settings {
     Settings {
-        values: [0, 0, 0x10fb, 0, 0, 0, 0, 1, 0, 0, 0, 0],
-        places: [0; 12],
+        values: [0, 0, 0x10fb, 0, 0, 0, 0, 1, 0, 0, 0, 0, 0],
+        places: [0; 13],
         image: 0,
     }
 }
@@ -99,7 +101,7 @@ fn find(text: &[u8], b: u8) -> usize
 }
 
 fn state_number(name: &[u8]) -> usize
-    ensures { λ r. ⌜ r ≤ 12 ⌝ }
+    ensures { λ r. ⌜ r ≤ 13 ⌝ }
 {
     if check::same(name, b"taken") {
         return TAKEN;
@@ -122,6 +124,9 @@ fn state_number(name: &[u8]) -> usize
     if check::same(name, b"control") {
         return CONTROL;
     }
+    if check::same(name, b"esdp") {
+        return ESDP;
+    }
     if check::same(name, b"sequence") {
         return SEQUENCE;
     }
@@ -129,7 +134,7 @@ fn state_number(name: &[u8]) -> usize
 }
 
 fn number(name: &[u8]) -> usize
-    ensures { λ r. ⌜ r ≤ 12 ⌝ }
+    ensures { λ r. ⌜ r ≤ 13 ⌝ }
 {
     if check::same(name, b"family") {
         return FAMILY;
@@ -267,7 +272,7 @@ fn parsed(number: usize, text: &[u8]) -> Value {
         NEXT => either(text, b"data", b"offset", Fault::Next),
         SDA => either(text, b"low", b"high", Fault::Sda),
         SEQUENCE => either(text, b"rounds", b"pulses", Fault::Sequence),
-        CONTROL => hex_value(text, 8),
+        CONTROL | ESDP => hex_value(text, 8),
         _ => hex_value(text, 2),
     }
 }

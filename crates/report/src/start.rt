@@ -1,4 +1,4 @@
-// The starts: the module and I2CCTL as a reset left them.
+// The starts: the module, I2CCTL and ESDP as a reset left them.
 use crate::settings;
 use crate::settings::Settings;
 use bench::Bench;
@@ -96,6 +96,7 @@ pub(crate) fn described(
     let bench = Bench { receiver, a0, a2 };
     BenchState {
         word: control(family, s),
+        esdp: v[settings::ESDP],
         bench,
     }
 }
@@ -121,8 +122,8 @@ fn state_offset(n: u8) -> u8 {
     ZEROS
 }
 
-// State n of the table, on a family with both lines released by the driver. In each the bits taken are a0, the page is A0,
-// and data comes next.
+// State n of the table, on a family's port without a mux and with both lines released by the driver. In each the bits taken
+// are a0, the page is A0, and data comes next.
 pub(crate) fn state(family: Family, n: u8, first: [u8; 256], second: [u8; 256]) -> BenchState
     ensures { λ r. ⌜ ready (layoutOf family) (r .word) ≡ true ⌝ }
     ensures { λ r. ⌜ (r .bench .a0 .bytes ≡ first) × (r .bench .a2 .bytes ≡ second) ⌝ }
@@ -145,6 +146,7 @@ pub(crate) fn state(family: Family, n: u8, first: [u8; 256], second: [u8; 256]) 
     let bench = Bench { receiver, a0, a2 };
     BenchState {
         word: released(family),
+        esdp: 0,
         bench,
     }
 }

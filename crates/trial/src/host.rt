@@ -1,4 +1,5 @@
-// The host: I2CCTL is the bench module's, and at every other register locks and grants come at once.
+// The host: I2CCTL is the bench module's, and ESDP where the port has a mux; at every other register locks and grants come at
+// once.
 use bench::register::BenchState;
 use hardware::Access;
 use hardware::Answer;
@@ -9,6 +10,7 @@ use transfer::attempt::Sequence;
 ghost use mathlib.Core.Path.{_≡_};
 ghost use Rattle.hardware.specs.Prog.{pick};
 ghost use Rattle.bus.specs.Layout.{layoutOf};
+ghost use Rattle.bench.specs.Mux.{hasMux};
 ghost use Rattle.bench.specs.Register.{accessed};
 ghost use Rattle.bench.specs.AtOnce.{atOnce};
 
@@ -32,11 +34,10 @@ pub struct Outcome {
 }
 
 fn meet(port: Port, d: BenchState, x: Access) -> Reply
-    ensures { λ m. ⌜ m .state ≡ accessed (layoutOf (port .family)) x d .state ⌝ }
-    ensures { λ m. ⌜ m .answer ≡ pick (accessed (layoutOf (port .family)) x d .here) (accessed (layoutOf (port .family)) x d .answer) (atOnce x) ⌝ }
+    ensures { λ m. ⌜ m .state ≡ accessed (layoutOf (port .family)) (hasMux port) x d .state ⌝ }
+    ensures { λ m. ⌜ m .answer ≡ pick (accessed (layoutOf (port .family)) (hasMux port) x d .here) (accessed (layoutOf (port .family)) (hasMux port) x d .answer) (atOnce x) ⌝ }
 {
-    let family = port.family;
-    let reply = bench::register::access(family, d, x);
+    let reply = bench::register::access(port, d, x);
     let state = reply.state;
     if reply.here {
         let answer = reply.answer;

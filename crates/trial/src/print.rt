@@ -96,9 +96,7 @@ fn module(port: Port, before: BenchState, after: BenchState) {
     either(bench::same(b, a), b" same", b" changed");
 }
 
-fn cell(number: u32, port: Port, q: Sequence, row: Row, column: u8) {
-    let family = port.family;
-    let before = start::state(family, row, column);
+fn run(number: u32, port: Port, q: Sequence, before: BenchState) {
     let outcome = host::read(number, port, q, before);
     let after = outcome.state;
     text(b" | ");
@@ -106,10 +104,13 @@ fn cell(number: u32, port: Port, q: Sequence, row: Row, column: u8) {
     module(port, before, after);
 }
 
+fn cell(number: u32, port: Port, q: Sequence, row: Row, column: u8) {
+    run(number, port, q, start::state(port, row, column));
+}
+
 // The receiver at the start, and whether the module pulls SDA.
 fn label(port: Port, row: Row) {
-    let family = port.family;
-    let d = start::state(family, row, 0);
+    let d = start::state(port, row, 0);
     let bench = d.bench;
     let s = row.stage;
     stage(s);
@@ -127,19 +128,45 @@ pub(crate) fn line(number: u32, port: Port, q: Sequence, n: u8) {
     text(b"\n");
 }
 
-fn word(port: Port, column: u8) {
-    let family = port.family;
+fn word(w: u32) {
     text(b" |            ");
-    io::print_hex(STDOUT, start::word(family, column) as u64, 8);
+    io::print_hex(STDOUT, w as u64, 8);
 }
 
-// The four words of I2CCTL at the start.
+fn four(name: &[u8], first: u32, second: u32, third: u32, fourth: u32) {
+    text(name);
+    word(first);
+    word(second);
+    word(third);
+    word(fourth);
+    text(b"\n");
+}
+
+// The four words of I2CCTL at the start, and those of ESDP where the port has a mux.
 pub(crate) fn words(port: Port) {
-    text(b"I2CCTL           ");
-    word(port, 0);
-    word(port, 1);
-    word(port, 2);
-    word(port, 3);
+    four(
+        b"I2CCTL           ",
+        start::word(port, 0),
+        start::word(port, 1),
+        start::word(port, 2),
+        start::word(port, 3),
+    );
+    if bench::register::has_mux(port) {
+        four(
+            b"ESDP             ",
+            start::esdp(0),
+            start::esdp(1),
+            start::esdp(2),
+            start::esdp(3),
+        );
+    }
+}
+
+// A line whose start S-6 leaves out.
+pub(crate) fn left_out(number: u32, port: Port, q: Sequence, n: u8) {
+    let row = start::row_at(n);
+    label(port, row);
+    run(number, port, q, start::pulled(row));
     text(b"\n");
 }
 

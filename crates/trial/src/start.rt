@@ -1,11 +1,12 @@
-// The starts: the bench module in every stage of its receiver, and four words of I2CCTL for each layout.
+// The starts: the bench module in every stage of its receiver, and four words of I2CCTL for each layout; four with ESDP where the
+// port has a mux.
 use bench::Bench;
 use bench::Page;
 use bench::receiver::Chosen;
 use bench::receiver::Receiver;
 use bench::receiver::Stage;
 use bench::register::BenchState;
-use hardware::Family;
+use hardware::Port;
 use std::num::wrapping_add_u8;
 use std::num::wrapping_sub_u8;
 ghost use mathlib.Core.Path.{_≡_};
@@ -13,11 +14,17 @@ ghost use Prim.Native.Nat.{ℕ, _+_, _%_, _<_};
 ghost use lib.ListN.{getD};
 ghost use mathlib.Core.Bool.{true};
 ghost use Rattle.bus.specs.Layout.{L82599, LX552, layoutOf};
-ghost use Rattle.wire.specs.Lines.{ready};
+ghost use Rattle.wire.specs.Lines.{ready, Rests};
+ghost use Rattle.wire.specs.Always.{nobody};
 ghost use Rattle.bench.specs.Bench.{under};
 
 // The states of the receiver.
 pub const ROWS: u8 = 39;
+
+// Of them Address 8 and AckWrite, in which the next fall of SCL makes the module pull SDA, or release it.
+pub const ADDRESSED: u8 = 9;
+
+pub const ACK_WRITE: u8 = 20;
 
 // sent: the byte at the offset of the page chosen, which the module sends in the state Send.
 pub struct Row {
@@ -100,14 +107,40 @@ fn late(column: u8) -> u32
     }
 }
 
-// I2CCTL at the start, of the four: every one is allowed.
-pub(crate) fn word(family: Family, column: u8) -> u32
-    ensures { λ r. ⌜ ready (layoutOf family) r ≡ true ⌝ }
+// With a mux the master pulls neither line: BB_EN is clear and both enables off, or both outputs are high.
+fn apart(column: u8) -> u32
+    ensures { λ r. ⌜ Rests LX552 nobody r ⌝ }
 {
+    match column {
+        0 | 1 => 0x0000_2800,
+        _ => 0xffff_d7ff,
+    }
+}
+
+// I2CCTL at the start, of the four: every one is allowed.
+pub(crate) fn word(port: Port, column: u8) -> u32
+    ensures { λ r. ⌜ ready (layoutOf (port .family)) r ≡ true ⌝ }
+{
+    let family = port.family;
     if bus::x550em(family) {
+        if bench::register::has_mux(port) {
+            return apart(column);
+        }
         return late(column);
     }
     early(column)
+}
+
+// ESDP at the start, with the mux off in every second one; in each some bit besides bit 1 is clear, bit 31.
+pub(crate) fn esdp(column: u8) -> u32
+    ensures { λ r. ⌜ r < 0x80000000 ⌝ }
+{
+    match column {
+        0 => 0x0000_0000,
+        1 => 0x0000_0002,
+        2 => 0x7fff_fffd,
+        _ => 0x7fff_ffff,
+    }
 }
 
 // With the first two words A0 is chosen, with the others A2; with every second one the next byte is the offset. The bits
@@ -140,9 +173,8 @@ fn counted(first: u8) -> [u8; 256]
 }
 
 // Byte i of A0 is i + 11, of A2 it is i + 91 (hexadecimal): at both offsets stands the row's byte.
-pub(crate) fn state(family: Family, row: Row, column: u8) -> BenchState
-    ensures { λ r. ⌜ ready (layoutOf family) (r .word) ≡ true ⌝ }
-    ensures { λ r. ⌜ (under (r .bench .a0) ≡ row .sent) × (under (r .bench .a2) ≡ row .sent) ⌝ }
+fn module(row: Row, column: u8) -> Bench
+    ensures { λ r. ⌜ (under (r .a0) ≡ row .sent) × (under (r .a2) ≡ row .sent) ⌝ }
 {
     let receiver = receiver(row, column);
     let low = counted(0x11);
@@ -155,9 +187,28 @@ pub(crate) fn state(family: Family, row: Row, column: u8) -> BenchState
         offset: wrapping_sub_u8(row.sent, 0x91),
         bytes: high,
     };
-    let bench = Bench { receiver, a0, a2 };
+    Bench { receiver, a0, a2 }
+}
+
+pub(crate) fn state(port: Port, row: Row, column: u8) -> BenchState
+    ensures { λ r. ⌜ ready (layoutOf (port .family)) (r .word) ≡ true ⌝ }
+{
+    let bench = module(row, column);
     BenchState {
-        word: word(family, column),
+        word: word(port, column),
+        esdp: esdp(column),
+        bench,
+    }
+}
+
+// A start that S-6 leaves out: the master pulls SCL while the mux is off.
+pub(crate) fn pulled(row: Row) -> BenchState
+    ensures { λ r. ⌜ r .word ≡ 0xffffddff ⌝ }
+{
+    let bench = module(row, 2);
+    BenchState {
+        word: 0xffff_ddff,
+        esdp: 0,
         bench,
     }
 }

@@ -4,7 +4,7 @@ use mathlib.Core.Bool.{Bool, true, false}
 use Rattle.hardware.specs.declared.Access.{Access}
 use Rattle.hardware.specs.declared.Access.the-variants.{Read, Write, Wait}
 use Rattle.hardware.specs.declared.Answer.{Answer}
-use Rattle.hardware.specs.Prog.{Prog, ret, ask, note, give, Note, Attempt, Acquires, Acquired, Released, Lapsed, _>>=_}
+use Rattle.hardware.specs.Prog.{Prog, ret, ask, note, give, Note, Attempt, Acquires, Acquired, Released, Lapsed, _>>=_, pick}
 use Rattle.bus.specs.declared.Layout.{Layout}
 use Rattle.wire.specs.Machine.{Side, World, modelled, noted}
 use Rattle.wire.specs.Always.{Either, ByKind, Answered, Kept, Always}
@@ -22,7 +22,7 @@ by-kind-map may (Wait n) K L h k = h _ k
 answered-map : (l : Layout) (o : Side) (x : Access) (K L : Answer → World o → Type 0) (w : World o) → ((a : Answer) (w′ : World o) → K a w′ → L a w′)
     → Answered l o x K w → Answered l o x L w
 unfolding Answered
-answered-map l o x K L w h = either-map (modelled l x) (λ k. (k .0, h _ _ (k .1))) (by-kind-map (o .may) x _ _ (λ a. h a w))
+answered-map l o x K L w h = either-map (modelled l o x) (λ k. (k .0, h _ _ (k .1))) (by-kind-map (o .may) x _ _ (λ a. h a w))
 
 kept-map : (n : Note) (X Y : Type 0) → (X → Y) → Kept n X → Kept n Y
 kept-map Attempt X Y f k = f k
@@ -48,3 +48,10 @@ always-bind l o (ret a) f w Q h = h
 always-bind l o (ask x k) f w Q h = answered-map l o x _ _ w (λ a w′. always-bind l o (k a) f w′ Q) h
 always-bind l o (note n p) f w Q h = kept-map n _ _ (always-bind l o p f (noted o n w) Q) h
 always-bind l o (give b p) f w Q h = always-bind l o p f w Q h
+
+-- one of two calls
+pub always-pick : (l : Layout) (o : Side) {A : Type 0} (b : Bool) (p q : Prog A) (w : World o) (Q : A → World o → Type 0) → Always l o p w Q → Always l o q w Q
+    → Always l o (pick b p q) w Q
+unfolding pick
+always-pick l o true p q w Q h g = h
+always-pick l o false p q w Q h g = g

@@ -42,7 +42,7 @@ bit-or k x y = ap (λ n. n % 2) (or-shr x y k) ∙ or-mod (x / 2 ^ k) (y / 2 ^ k
 pub bit-and : (k x y : ℕ) → bit k (bitAnd x y) ≡ min (bit k x) (bit k y)
 bit-and k x y = ap (λ n. n % 2) (and-shr x y k) ∙ and-mod (x / 2 ^ k) (y / 2 ^ k) 1 ∙ and-two _ _ (bit-two k x) (bit-two k y)
 
-bit-suc : (k x : ℕ) → bit (suc k) x ≡ bit k (x / 2)
+pub bit-suc : (k x : ℕ) → bit (suc k) x ≡ bit k (x / 2)
 bit-suc k x = ap (λ n. n % 2) (ap (λ n. x / n) (pow-succ' 2 k) ∙ sym (div-div-eq-div-mul x 2 (2 ^ k)))
 
 -- in n bits

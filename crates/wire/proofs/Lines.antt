@@ -9,12 +9,12 @@ use lib.Dec.{eqb}
 use borrow.Author.Tests.{eq-eqb}
 use Rattle.hardware.specs.Failures.{I2c}
 use Rattle.hardware.specs.Prog.{pick}
-use Rattle.hardware.specs.Registers.{noneOf, raw, written, flushed}
+use Rattle.hardware.specs.Registers.{STATUS, noneOf, raw, written, flushed}
 use Rattle.bus.specs.declared.Layout.{Layout}
 use Rattle.bus.specs.Bus.{Bus, fail, orHeld, flushing, put, get, wait, sdaLevel, sclSeen, sclTries, sclHigh, sclLow, sdaSeen, sdaFree, sda, releaseSda, lookSeen, look, close, sampleSeen, sample, ackSeen, ackTries}
 use Rattle.wire.specs.Lines.{Pulls, drawn, OneMoves, master, levels, edge, sclEdge, sdaEdge, Drives, Rests, Known, Distinct}
-use Rattle.wire.specs.Machine.{Side, World, takesAll, turn, wrote, reading, models, modelled, reply, after}
-use Rattle.wire.specs.Always.{Either, ByKind, Answered, Always, Claim, From, FromRest}
+use Rattle.wire.specs.Machine.{Side, World, takesAll, turn, wrote, reading, models, modelled, atLines, reply, after}
+use Rattle.wire.specs.Always.{Either, ByKind, Meets, Answered, Always, Claim, From, FromRest}
 use Rattle.wire.proofs.Words as Words
 
 pub first : (X Y : Type 0) (b : Bool) → b ≡ true → X → Either b X Y
@@ -44,16 +44,21 @@ unfolding pick
 flipped true = refl
 flipped false = refl
 
+-- STATUS is none of the machine's registers
+pub status-other : (l : Layout) → Distinct l → (o : Side) → models l o STATUS ≡ false
+unfolding models
+status-other l g o = rw (g .reg)
+
 module _ (l : Layout) (g : Distinct l) (o : Side) where
   put-goes : (k : Bus) (v w : ℕ) (s : o .State) (Q : Claim o) → OneMoves (master l w) (master l v)
       → Always l o (k v) (wrote l o v (record { word = w; other = s })) Q → Always l o (put l k v) (record { word = w; other = s }) Q
-  unfolding Always Answered ByKind modelled models reply after wrote put flushing orHeld written flushed
-  put-goes k v w s Q u h = first _ _ _ (eq-eqb (l .reg) (l .reg) refl) (u, second _ _ _ (g .reg) (λ _ _. h))
+  unfolding Always Answered Meets ByKind modelled models atLines reply after wrote put flushing orHeld written flushed pick
+  put-goes k v w s Q u h = rw (eq-eqb (l .reg) (l .reg) refl) (u, second _ _ _ (status-other l g o) (λ _ _. h))
 
   pub get-goes : (k : ℕ → Bus) (ctl : ℕ) (w : World o) (Q : Claim o)
       → Always l o (k (reading l o w) ctl) w Q → Always l o (get l k ctl) w Q
-  unfolding Always Answered modelled models reply after get orHeld raw
-  get-goes k ctl w Q h = first _ _ _ (eq-eqb (l .reg) (l .reg) refl) (inl refl, h)
+  unfolding Always Answered Meets modelled models atLines reply after get orHeld raw pick
+  get-goes k ctl w Q h = rw (eq-eqb (l .reg) (l .reg) refl) (inl refl, h)
 
   -- a program that goes by a Boolean u, which is t
   by-it : {t u : Bool} (f : Bool → Bus) (ctl : ℕ) (w : World o) (Q : Claim o) → u ≡ t → Always l o (f t ctl) w Q → Always l o (f u ctl) w Q

@@ -15,8 +15,8 @@ use Rattle.wire.specs.Run.{Given, given, nothing, refused, Source, liste
 use Rattle.hardware.proofs.Laws.{is-true}
 
 -- an answer of the awaited kind
-unfoldable pub Fits : Event → Type 0
-Fits (atMachine old new) = Unit {0}
+unfoldable pub Fits : {W : Type 0} → Event W → Type 0
+Fits (atMachine x w) = Unit {0}
 Fits (answered x a) = T (fits x a)
 Fits (noticed n) = Unit {0}
 
@@ -27,18 +27,18 @@ fixed-kind-checked f h = fun-ext (λ x. fun-ext (λ answers. rw (is-true (fits x
 
 module _ (l : Layout) (o : Side) {A : Type 0} where
   -- an access of the machine's own, and any other
-  pub run-own : (s : Source) (x : Access) (f : Answer → Prog A) (w : World o) (answers : List Answer) → modelled l x ≡ true
-      → run l o s (ask x f) w answers ≡ saw (atMachine (w .word) (after l o x w .word)) (run l o s (f (reply l o x w)) (after l o x w) answers)
+  pub run-own : (s : Source) (x : Access) (f : Answer → Prog A) (w : World o) (answers : List Answer) → modelled l o x ≡ true
+      → run l o s (ask x f) w answers ≡ saw (atMachine x w) (run l o s (f (reply l o x w)) (after l o x w) answers)
   unfolding run pick
   run-own s x f w answers e = rw e
 
-  pub run-other : (s : Source) (x : Access) (f : Answer → Prog A) (w : World o) (answers : List Answer) → modelled l x ≡ false
+  pub run-other : (s : Source) (x : Access) (f : Answer → Prog A) (w : World o) (answers : List Answer) → modelled l o x ≡ false
       → run l o s (ask x f) w answers ≡ proceed x w (λ a rest. run l o s (f a) w rest) (s x answers)
   unfolding run pick
   run-other s x f w answers e = rw e
 
   -- Where every answer is of the awaited kind, that question changes nothing
-  kind-checked-proceed : (x : Access) (w : World o) (h k : Answer → List Answer → BenchRun o A) (g : Given)
+  kind-checked-proceed : (x : Access) (w : World o) (h k : Answer → List Answer → BenchRun (World o) A) (g : Given)
       → ((a : Answer) (rest : List Answer) → Each Fits (k a rest .trace) → h a rest ≡ k a rest) → Each Fits (proceed x w k g .trace)
       → proceed x w h (kindAsked x g) ≡ proceed x w k g
   unfolding proceed kindAsked pick Fits
@@ -46,7 +46,7 @@ module _ (l : Layout) (o : Side) {A : Type 0} where
   kind-checked-proceed x w h k nothing e m = refl
   kind-checked-proceed x w h k (refused n) e m = refl
 
-  kind-checked-at : (s : Source) (x : Access) (b : Bool) (f : Answer → Prog A) (w : World o) (answers : List Answer) → modelled l x ≡ b
+  kind-checked-at : (s : Source) (x : Access) (b : Bool) (f : Answer → Prog A) (w : World o) (answers : List Answer) → modelled l o x ≡ b
       → ((a : Answer) (w′ : World o) (rest : List Answer) → Each Fits (run l o s (f a) w′ rest .trace)
       → run l o (kindChecked s) (f a) w′ rest ≡ run l o s (f a) w′ rest)
       → Each Fits (run l o s (ask x f) w answers .trace) → run l o (kindChecked s) (ask x f) w answers ≡ run l o s (ask x f) w answers
@@ -58,7 +58,7 @@ module _ (l : Layout) (o : Side) {A : Type 0} where
       → run l o (kindChecked s) p w answers ≡ run l o s p w answers
   unfolding run
   kind-checked-run s (ret a) w answers m = refl
-  kind-checked-run s (ask x f) w answers m = kind-checked-at s x (modelled l x) f w answers refl (λ a w′ rest. kind-checked-run s (f a) w′ rest) m
+  kind-checked-run s (ask x f) w answers m = kind-checked-at s x (modelled l o x) f w answers refl (λ a w′ rest. kind-checked-run s (f a) w′ rest) m
   kind-checked-run s (note n p) w answers m = ap (saw (noticed n)) (kind-checked-run s p (noted o n w) answers (m .1))
   kind-checked-run s (give b p) w answers m = kind-checked-run s p w answers m
 
@@ -74,7 +74,7 @@ module _ (l : Layout) (o : Side) {A : Type 0} where
     replayed-proceed x f w nothing h m = absurd m
     replayed-proceed x f w (refused n) h m = absurd m
 
-    replayed-at : (x : Access) (b : Bool) (f : Answer → Prog A) (w : World o) (answers : List Answer) → modelled l x ≡ b
+    replayed-at : (x : Access) (b : Bool) (f : Answer → Prog A) (w : World o) (answers : List Answer) → modelled l o x ≡ b
         → ((a : Answer) (w′ : World o) (t : List Answer) → Finished (run l o s (f a) w′ t .outcome)
         → run l o listed (f a) w′ (answersIn (run l o s (f a) w′ t .trace) ++ rest) ≡ run l o s (f a) w′ t)
         → Finished (run l o s (ask x f) w answers .outcome)
@@ -87,13 +87,13 @@ module _ (l : Layout) (o : Side) {A : Type 0} where
         → run l o listed p w (answersIn (run l o s p w answers .trace) ++ rest) ≡ run l o s p w answers
     unfolding run answersIn
     replayed (ret a) w answers m = refl
-    replayed (ask x f) w answers m = replayed-at x (modelled l x) f w answers refl (λ a w′ t. replayed (f a) w′ t) m
+    replayed (ask x f) w answers m = replayed-at x (modelled l o x) f w answers refl (λ a w′ t. replayed (f a) w′ t) m
     replayed (note n p) w answers m = ap (saw (noticed n)) (replayed p (noted o n w) answers m)
     replayed (give b p) w answers m = replayed p w answers m
 
   -- a run with fixed answers comes to its end
   module _ (fix : Access → Answer) where
-    finishes-at : (x : Access) (b : Bool) (f : Answer → Prog A) (w : World o) (answers : List Answer) → modelled l x ≡ b
+    finishes-at : (x : Access) (b : Bool) (f : Answer → Prog A) (w : World o) (answers : List Answer) → modelled l o x ≡ b
         → ((a : Answer) (w′ : World o) (t : List Answer) → Finished (run l o (fixed fix) (f a) w′ t .outcome)) → Finished (run l o (fixed fix) (ask x f) w answers .outcome)
     unfolding run pick fixed proceed
     finishes-at x true f w answers e h = rw e (h _ _ _)
@@ -102,7 +102,7 @@ module _ (l : Layout) (o : Side) {A : Type 0} where
     pub fixed-finishes : (p : Prog A) (w : World o) (answers : List Answer) → Finished (run l o (fixed fix) p w answers .outcome)
     unfolding run Finished
     fixed-finishes (ret a) w answers = tt
-    fixed-finishes (ask x f) w answers = finishes-at x (modelled l x) f w answers refl (λ a w′ t. fixed-finishes (f a) w′ t)
+    fixed-finishes (ask x f) w answers = finishes-at x (modelled l o x) f w answers refl (λ a w′ t. fixed-finishes (f a) w′ t)
     fixed-finishes (note n p) w answers = fixed-finishes p (noted o n w) answers
     fixed-finishes (give b p) w answers = fixed-finishes p w answers
 

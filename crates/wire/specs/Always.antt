@@ -12,7 +12,7 @@ use Rattle.bus.specs.declared.Layout.{Layout}
 use Rattle.bus.specs.declared.Taken.{Taken}
 use Rattle.bus.specs.Bus.{Held, Bus}
 use Rattle.wire.specs.Lines.{Pulls, drawn, OneMoves, Edge, START, STOP, Bit, master, Rests, Known}
-use Rattle.wire.specs.Machine.{Side, World, modelled, reply, after, noted}
+use Rattle.wire.specs.Machine.{Side, World, atLines, modelled, reply, after, noted}
 
 -- Nobody pulls more or less than p, and every edge is written down, the newest last
 abbrev pub listener : Pulls → Side
@@ -23,6 +23,10 @@ listener p =
       takes = λ e es. es ++ (e ∷ []);
       notes = λ n es. es;
       may = λ r v. Unit {0};
+      muxed = false;
+      esdp = λ es. 0;
+      switched = λ m v es. es;
+      meets = λ x m es. Unit {0};
     }
 
 abbrev pub nobody : Pulls
@@ -38,11 +42,15 @@ ByKind may (Read r) K = (v : ℕ) → may r v → K (Value v)
 ByKind may (Write r v) K = K Done
 ByKind may (Wait n) K = K Done
 
--- the machine answers its own accesses, none of which moves both lines; every other gets any answer of its kind
+-- what is to be shown of an access of the machine's own: one to I2CCTL does not move both lines, one to ESDP is as the other side
+-- asks
+unfoldable pub Meets : (l : Layout) (o : Side) → Access → World o → Type 0
+Meets l o x w = Either (atLines l x) (OneMoves (master l (w .word)) (master l (after l o x w .word))) (o .meets x (master l (w .word)) (w .other))
+
+-- the machine answers its own accesses; every other gets any answer of its kind
 unfoldable pub Answered : (l : Layout) (o : Side) → Access → (Answer → World o → Type 0) → World o → Type 0
 Answered l o x K w =
-    Either (modelled l x) (OneMoves (master l (w .word)) (master l (after l o x w .word)) × K (reply l o x w) (after l o x w))
-    (ByKind (o .may) x (λ a. K a w))
+    Either (modelled l o x) (Meets l o x w × K (reply l o x w) (after l o x w)) (ByKind (o .may) x (λ a. K a w))
 
 -- where a lock or a grant runs out there is nothing to show
 abbrev pub Kept : Note → Type 0 → Type 0

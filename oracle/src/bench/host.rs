@@ -1,10 +1,11 @@
-//! The registers of a start: I2CCTL is the bench module's, every other read
-//! gets a random value that the premises allow: no access fails, each lock and
-//! grant comes within its tries, no checked read gives FFFFFFFF.
+//! The registers of a start: I2CCTL is the bench module's, so is ESDP where
+//! the port has a mux, and every other read gets a random value that the
+//! premises allow: no access fails, each lock and grant comes within its tries,
+//! no checked read gives FFFFFFFF.
 
 use std::convert::Infallible;
 
-use super::module::{layout, Wired};
+use super::module::Wired;
 use super::start::Start;
 use crate::driver::{sync, Family, Port, Registers, ESDP, STATUS};
 use crate::fresh::Choice;
@@ -61,8 +62,8 @@ pub struct Host {
 
 impl Host {
     pub fn new(start: &Start) -> Self {
-        let Start { port, word, module, .. } = start;
-        Host::at(start, Wired { layout: layout(port.family), word: *word, module: module.clone(), both: 0 })
+        let Start { port, word, esdp, module, .. } = start;
+        Host::at(start, Wired::new(*port, *word, *esdp, module.clone()))
     }
 
     /// The lines as an earlier call left them.
@@ -89,6 +90,10 @@ impl Host {
         }
         self.at_bus = here || self.at_bus && register == STATUS;
         here
+    }
+
+    fn at_mux(&self, register: u32) -> bool {
+        self.wired.mux && register == ESDP
     }
 
     /// SW_FW_SYNC: free, or with REGSMP or some of the bits that keep the bus
@@ -141,6 +146,9 @@ impl Registers for Host {
         if self.bus(register) {
             return Ok(self.wired.read());
         }
+        if self.at_mux(register) {
+            return Ok(self.wired.esdp);
+        }
         if register == STATUS {
             let value = self.choice.word();
             return Ok(self.choice.one(&[value, value, value, u32::MAX]));
@@ -153,6 +161,8 @@ impl Registers for Host {
     fn write(&mut self, register: u32, value: u32) -> Result<(), Infallible> {
         if self.bus(register) {
             self.wired.write(value);
+        } else if self.at_mux(register) {
+            self.wired.switch(value);
         }
         Ok(())
     }

@@ -1,7 +1,7 @@
-//! The bench module of the papers, with the lines and I2CCTL. Written from
-//! their text and from nothing of the port.
+//! The bench module of the papers, with the lines, I2CCTL and the second
+//! cage's mux. Written from their text and from nothing of the port.
 
-use crate::driver::Family;
+use crate::driver::{Family, Port};
 
 /// `Address` and `Receive` with so many bits taken, 0 to 8; `Send` with the
 /// bit that is on SDA, 0 to 7, the highest first.
@@ -166,6 +166,11 @@ impl Layout {
         enabled && word & out == 0
     }
 
+    /// I2CCTL with both lines released.
+    pub fn released(&self, word: u32) -> u32 {
+        word | self.scl_out | self.sda_out
+    }
+
     fn pulls_scl(&self, word: u32) -> bool {
         self.drives(word, self.scl_out, self.scl_off)
     }
@@ -175,37 +180,81 @@ impl Layout {
     }
 }
 
-/// I2CCTL with the module at the lines.
+/// The bit of ESDP that switches the mux on.
+pub const MUX_ON: u32 = 1 << 1;
+
+/// Whether the port reaches its module through a mux.
+pub fn has_mux(port: Port) -> bool {
+    port.family == Family::X552 && port.lan == 1
+}
+
+/// I2CCTL with the module at the lines, and ESDP where that switches a mux.
 #[derive(Clone)]
 pub struct Wired {
     pub layout: Layout,
+    pub mux: bool,
     pub word: u32,
+    /// As last written; without a mux it means nothing.
+    pub esdp: u32,
     pub module: Module,
-    /// Writes that moved both lines.
+    /// Writes that moved both lines at the module.
     pub both: u32,
+    /// Writes of ESDP that moved a line there.
+    pub moved: u32,
+    /// Writes of ESDP with the bit clear that found the module not Idle or a
+    /// line pulled.
+    pub unsettled: u32,
 }
 
 impl Wired {
-    fn scl(&self, word: u32) -> bool {
-        !self.layout.pulls_scl(word)
+    pub fn new(port: Port, word: u32, esdp: u32, module: Module) -> Self {
+        let (layout, mux) = (layout(port.family), has_mux(port));
+        Wired { layout, mux, word, esdp, module, both: 0, moved: 0, unsettled: 0 }
     }
 
-    fn sda(&self, word: u32) -> bool {
-        !self.layout.pulls_sda(word) && !self.module.pulls_sda()
+    /// Each side feels the other's pulls.
+    fn joined(&self, esdp: u32) -> bool {
+        !self.mux || esdp & MUX_ON != 0
     }
 
     pub fn read(&self) -> u32 {
         let Layout { scl_in, sda_in, .. } = self.layout;
-        let scl = if self.scl(self.word) { scl_in } else { 0 };
-        let sda = if self.sda(self.word) { sda_in } else { 0 };
+        let felt = self.joined(self.esdp) && self.module.pulls_sda();
+        let scl = if self.layout.pulls_scl(self.word) { 0 } else { scl_in };
+        let sda = if self.layout.pulls_sda(self.word) || felt { 0 } else { sda_in };
         self.word & !(scl_in | sda_in) | scl | sda
     }
 
-    /// Where both lines move, SCL does so first and sees the old SDA.
     pub fn write(&mut self, word: u32) {
-        let (scl_before, sda_before) = (self.scl(self.word), self.sda(self.word));
-        let (scl, sda) = (self.scl(word), self.sda(word));
+        self.turn(word, self.esdp);
+    }
+
+    /// ESDP is written.
+    pub fn switch(&mut self, esdp: u32) {
+        let settled = self.module.receiver.stage == Stage::Idle && self.released();
+        if esdp & MUX_ON == 0 && !settled {
+            self.unsettled += 1;
+        }
+        if self.turn(self.word, esdp) {
+            self.moved += 1;
+        }
+    }
+
+    /// SCL and SDA as the module sees them.
+    fn seen(&self, word: u32, esdp: u32) -> (bool, bool) {
+        let joined = self.joined(esdp);
+        let scl = joined && self.layout.pulls_scl(word);
+        let sda = joined && self.layout.pulls_sda(word) || self.module.pulls_sda();
+        (!scl, !sda)
+    }
+
+    /// Whether a line moves at the module. Where both do, SCL moves first and
+    /// sees the old SDA.
+    fn turn(&mut self, word: u32, esdp: u32) -> bool {
+        let (scl_before, sda_before) = self.seen(self.word, self.esdp);
+        let (scl, sda) = self.seen(word, esdp);
         self.word = word;
+        self.esdp = esdp;
         if scl != scl_before && sda != sda_before {
             self.both += 1;
         }
@@ -219,6 +268,7 @@ impl Wired {
             (true, false, true) => self.module.stop(),
             _ => {}
         }
+        (scl, sda) != (scl_before, sda_before)
     }
 
     /// Neither side pulls either line.

@@ -5,7 +5,7 @@
 use std::fmt::Write;
 
 use super::host::Host;
-use super::module::{layout, Module, Receiver, Stage, Wired};
+use super::module::{has_mux, layout, Module, Receiver, Stage, Wired, MUX_ON};
 use super::start::Start;
 use super::{run, End};
 use crate::case::FAMILIES;
@@ -63,7 +63,7 @@ fn start(words: &str, folder: &str) -> Result<(String, Start), String> {
     let mut port = Port { family: Family::F82599, device: 0x10fb, lan: 0 };
     let mut receiver =
         Receiver { stage: Stage::Idle, bits: 0, page: 0, offset_next: false, noted: true };
-    let (mut offsets, mut word) = ([0, 0], None);
+    let (mut offsets, mut word, mut esdp) = ([0, 0], None, 0);
     for w in words.split(' ') {
         let Some((name, value)) = w.split_once('=') else {
             image = w.into();
@@ -81,6 +81,7 @@ fn start(words: &str, folder: &str) -> Result<(String, Start), String> {
             "a0" => offsets[0] = hex(value)? as u8,
             "a2" => offsets[1] = hex(value)? as u8,
             "control" => word = Some(hex(value)?),
+            "esdp" => esdp = hex(value)?,
             "sequence" => {
                 sequence = [Sequence::Pulses, Sequence::Rounds][place(&SEQUENCES, value)?];
             }
@@ -95,7 +96,7 @@ fn start(words: &str, folder: &str) -> Result<(String, Start), String> {
         Family::X552 | Family::X553 => 0x2800,
         _ => 0x000a,
     };
-    Ok((image, Start { sequence, port, word: word.unwrap_or(default), module, answers: 0 }))
+    Ok((image, Start { sequence, port, word: word.unwrap_or(default), esdp, module, answers: 0 }))
 }
 
 fn text(bytes: &[u8]) -> String {
@@ -108,8 +109,25 @@ fn or(yes: bool, one: &'static str, other: &'static str) -> &'static str {
     if yes { one } else { other }
 }
 
+/// ESDP, where the port has a mux.
+fn mux(out: &mut String, name: &str, port: Port, esdp: u32) -> std::fmt::Result {
+    if has_mux(port) {
+        writeln!(out, "{name:12}{esdp:08x}; the mux is {}", or(esdp & MUX_ON == 0, "off", "on"))?;
+    }
+    Ok(())
+}
+
+/// The number of a failure that a start can have.
+fn number<E: std::fmt::Debug>(error: &Error<E>) -> u32 {
+    match error {
+        Error::Removed => 21,
+        Error::I2c { .. } => 23,
+        e => panic!("from no start a call ends with {e:?}"),
+    }
+}
+
 fn record(image: &str, start: &Start, end: &End) -> Result<String, std::fmt::Error> {
-    let Start { sequence, port, word, module, .. } = start;
+    let Start { sequence, port, word, esdp, module, .. } = start;
     let mut out = String::new();
     writeln!(out, "image       {image}")?;
     let family = NAMES[FAMILIES.iter().position(|f| *f == port.family).unwrap_or(0)];
@@ -122,6 +140,7 @@ fn record(image: &str, start: &Start, end: &End) -> Result<String, std::fmt::Err
     writeln!(out, "start       {}, {kept}, next {next}, sda {sda}, a0 {o0:02x}, a2 {o2:02x}", name(r.stage))?;
     let pulls = or(module.pulls_sda(), "pulls", "does not pull");
     writeln!(out, "control     {word:08x}; the module {pulls} SDA")?;
+    mux(&mut out, "esdp", *port, *esdp)?;
     writeln!(out, "sequence    {}", SEQUENCES[*sequence as usize])?;
     match &end.result {
         Ok(m) => {
@@ -133,7 +152,7 @@ fn record(image: &str, start: &Start, end: &End) -> Result<String, std::fmt::Err
             writeln!(out, "cable       {:02x}", m.cable)?;
             writeln!(out, "supported   {}", or(m.supported(port.family), "yes", "no"))?;
         }
-        Err(e) => writeln!(out, "failed      {e:?}")?,
+        Err(e) => writeln!(out, "failed      {}", number(e))?,
     }
     writeln!(out, "transfers   {}", end.transfers)?;
     let Wired { module: after, .. } = &end.wired;
@@ -142,6 +161,7 @@ fn record(image: &str, start: &Start, end: &End) -> Result<String, std::fmt::Err
     let [o0, o2] = after.offsets;
     let stage = name(after.receiver.stage);
     writeln!(out, "module      {stage}, {released}, bytes {bytes}, a0 {o0:02x}, a2 {o2:02x}")?;
+    mux(&mut out, "esdp after", *port, end.wired.esdp)?;
     texts(&mut out, start, end)?;
     Ok(out)
 }
@@ -157,8 +177,7 @@ fn texts(out: &mut String, start: &Start, end: &End) -> std::fmt::Result {
         i2c::probe_with(start.sequence, || page::read(&mut host, start.port, 0, attempts, &mut buffer));
     let number = match read {
         Ok(()) => page::judged(&buffer),
-        Err(Error::I2c { .. }) => 23,
-        Err(e) => panic!("under the premises no page ends with {e:?}"),
+        Err(e) => number(&e),
     };
     let transfers = i2c::probe_transfers();
     if number != 0 {
@@ -181,6 +200,12 @@ pub fn records(list: &str, folder: &str) -> Result<(), String> {
 }
 
 impl Choice {
+    /// Any word, or one with which ESDP comes to read FFFFFFFF on the port with a mux.
+    fn any_esdp(&mut self) -> u32 {
+        let word = self.word();
+        self.one(&[word & !MUX_ON, word | MUX_ON, word, MUX_ON, !MUX_ON, u32::MAX])
+    }
+
     /// The words of a case: an image and any of the settings.
     fn words(&mut self, images: &[String]) -> String {
         let at = self.below(images.len() as u32) as usize;
@@ -199,6 +224,7 @@ impl Choice {
             ("sda", self.one(&["low", "high"]).into()),
             ("a0", format!("{:02x}", self.below(256))),
             ("a2", format!("{:x}", self.below(256))),
+            ("esdp", format!("{:x}", self.any_esdp())),
             ("sequence", self.one(&SEQUENCES).into()),
         ];
         for (name, value) in all {

@@ -1,16 +1,18 @@
-//! Starts chosen at random: either sequence, any port, any module, any word of
-//! I2CCTL that the papers allow.
+//! Starts chosen at random: either sequence, any port, any module, any words of
+//! I2CCTL and of ESDP that the papers allow.
 
-use super::module::{layout, Module, Receiver, Stage};
+use super::module::{has_mux, layout, Module, Receiver, Stage, MUX_ON};
 use crate::case::FAMILIES;
 use crate::driver::i2c::Sequence;
-use crate::driver::{Family, Port};
+use crate::driver::Port;
 use crate::fresh::Choice;
 
 pub struct Start {
     pub sequence: Sequence,
     pub port: Port,
     pub word: u32,
+    /// Without a mux it means nothing.
+    pub esdp: u32,
     pub module: Module,
     /// The seed of all other answers.
     pub answers: u64,
@@ -22,13 +24,12 @@ impl Choice {
     pub fn start(&mut self) -> Start {
         let sequence = self.one(&[Sequence::Pulses, Sequence::Rounds]);
         let port = self.port();
-        Start {
-            sequence,
-            port,
-            word: self.control(port.family),
-            module: self.module(),
-            answers: u64::from(self.word()),
-        }
+        let word = self.control(port);
+        let module = self.module();
+        let answers = u64::from(self.word());
+        // From a stream of its own.
+        let esdp = if has_mux(port) { Choice::new(!answers).switch() } else { 0 };
+        Start { sequence, port, word, esdp, module, answers }
     }
 
     fn port(&mut self) -> Port {
@@ -38,14 +39,25 @@ impl Choice {
     }
 
     /// BB_EN set or both enables off, where the layout has them; else any.
-    fn control(&mut self, family: Family) -> u32 {
-        let layout = layout(family);
+    /// With a mux neither line is pulled.
+    fn control(&mut self, port: Port) -> u32 {
+        let layout = layout(port.family);
         let word = self.word();
         if word & layout.bb_en == 0 {
             word | layout.scl_off | layout.sda_off
+        } else if has_mux(port) {
+            layout.released(word)
         } else {
             word
         }
+    }
+
+    /// ESDP with the mux off or on and some bit besides bit 1 clear: mostly
+    /// many, now and then one.
+    fn switch(&mut self) -> u32 {
+        let (word, clear) = (self.word(), 1 << self.one(&[0, 2, 5, 16, 31]));
+        let bits = self.one(&[word, word, word, 0, u32::MAX]) & !clear;
+        self.one(&[bits & !MUX_ON, bits | MUX_ON])
     }
 
     fn module(&mut self) -> Module {

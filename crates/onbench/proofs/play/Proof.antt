@@ -1,6 +1,5 @@
 -- `play` meets its contract.
 use mathlib.Core.Path.{refl}
-use Rattle.bus.specs.Layout.{layoutOf}
 use Rattle.identify.specs.Calls.{saidIdentify, standsIdentify}
 use borrow.Author.Needs.{needs}
 use Rattle.onbench.proofs.Laws.{Invariant, invariant-first, invariant-next, invariant-stops, invariant-ends}
@@ -9,11 +8,11 @@ use Rattle.onbench.proofs.play.Statement.{statement}
 use Rattle.onbench.proofs.play.Tie as tie
 
 abbrev Inv-loop : tie.InvT-loop
-Inv-loop family origin answers s₀ left₀ s left =
-    standsIdentify (s₀ .told) → Bounded (saidIdentify (s₀ .told)) left₀ → Invariant (layoutOf family) origin answers s₀ left s
+Inv-loop port origin answers s₀ left₀ s left =
+    standsIdentify (s₀ .told) → Bounded (saidIdentify (s₀ .told)) left₀ → Invariant port origin answers s₀ left s
 
 abbrev μ-loop : tie.MeasureT-loop
-μ-loop family origin answers s₀ left₀ s left = left
+μ-loop port origin answers s₀ left₀ s left = left
 
 loop-holds : tie.Need-loop-holds Inv-loop μ-loop
 loop-holds c = λ st b. invariant-first _ _ _ _ _ refl st b

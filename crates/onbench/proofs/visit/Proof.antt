@@ -1,5 +1,4 @@
 -- `visit` meets its contract.
-use Rattle.bus.specs.Layout.{layoutOf}
 use Rattle.onbench.proofs.Laws.{visit-given, visit-none, visit-own}
 use borrow.Author.Needs.{needs}
 use Rattle.onbench.proofs.visit.Statement.{statement}
@@ -14,7 +13,7 @@ identify-step-requires c κs = search needs
 returns : tie.Need-returns
 returns c =
     let a = c .before .before .before .before .before .args in
-    visit-own (layoutOf (a .family)) (a .origin) (a .answers .now) (a .x) (a .c) (a .d) (a .used) (c .before .before .before .access .result) (c .before .before .before .access .ensures)
+    visit-own (a .port) (a .origin) (a .answers .now) (a .x) (a .c) (a .d) (a .used) (c .before .before .before .access .result) (c .before .before .before .access .ensures)
     (c .identify-step .result) (c .before .if1 .taken) (c .identify-step .ensures .yields) (c .identify-step .ensures .limits)
 
 next-answer-requires : tie.Need-next-answer-requires
@@ -32,14 +31,14 @@ enum-told c = search needs
 returns-2 : tie.Need-returns-2
 returns-2 c =
     let a = c .before .before .before .before .before .before .before .before .before .args in
-    visit-given (layoutOf (a .family)) (a .origin) (a .answers .now) (a .x) (a .c) (a .d) (a .used) (c .before .before .before .before .before .before .before .access .result) (c .before .before .before .before .before .before .before .access .ensures)
+    visit-given (a .port) (a .origin) (a .answers .now) (a .x) (a .c) (a .d) (a .used) (c .before .before .before .before .before .before .before .access .result) (c .before .before .before .before .before .before .before .access .ensures)
     (c .before .before .before .before .next-answer .result) (c .identify-step2 .result) _ _ (c .before .before .a .given .1) (c .before .before .before .before .next-answer .ensures) (c .before .before .before .before .before .if1 .left)
     (c .identify-step2 .ensures .yields) (c .identify-step2 .ensures .limits)
 
 returns-3 : tie.Need-returns-3
 returns-3 c =
     let a = c .before .before .before .before .before .before .before .args in
-    visit-none (layoutOf (a .family)) (a .origin) (a .answers .now) (a .x) (a .c) (a .d) (a .used) (c .before .before .before .before .before .access .result) (c .before .before .before .before .before .access .ensures)
+    visit-none (a .port) (a .origin) (a .answers .now) (a .x) (a .c) (a .d) (a .used) (c .before .before .before .before .before .access .result) (c .before .before .before .before .before .access .ensures)
     (c .before .before .next-answer .result) (c .enum-told .given .1) (c .before .before .next-answer .ensures) (c .before .before .before .if1 .left)
 
 pub visit-spec : {M : Type 1} → statement M

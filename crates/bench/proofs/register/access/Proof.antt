@@ -9,6 +9,9 @@ use Rattle.bench.proofs.register.access.Tie as tie
 layout-of-requires : tie.Need-layout-of-requires
 layout-of-requires c κs = search needs
 
+has-mux-requires : tie.Need-has-mux-requires
+has-mux-requires c κs = search needs
+
 enum-known-x : tie.Need-enum-known-x
 enum-known-x c = search needs
 
@@ -28,10 +31,10 @@ elsewhere-requires : tie.Need-elsewhere-requires
 elsewhere-requires c κs = search needs
 
 returns : tie.Need-returns
-returns c = rw (c .before .before .x .given .1, ← c .before .before .before .before .layout-of .ensures) (c .read-at .ensures)
+returns c = rw (c .before .before .x .given .1, ← c .before .before .before .before .has-mux .ensures, ← c .before .before .before .before .before .layout-of .ensures) (c .read-at .ensures)
 
 returns-2 : tie.Need-returns-2
-returns-2 c = rw (c .before .before .x2 .given .1, ← c .before .before .before .before .layout-of .ensures) (c .write-at .ensures)
+returns-2 c = rw (c .before .before .x2 .given .1, ← c .before .before .before .before .has-mux .ensures, ← c .before .before .before .before .before .layout-of .ensures) (c .write-at .ensures)
 
 returns-3 : tie.Need-returns-3
 unfolding accessed modelled pick
@@ -39,5 +42,5 @@ returns-3 c = rw (c .before .enum-told .given .1) (c .elsewhere .ensures)
 
 pub access-spec : {M : Type 1} → statement M
 access-spec =
-    tie.close (tie.spec layout-of-requires enum-known-x read-at-requires enum-known-x-2 write-at-requires enum-told
-    elsewhere-requires returns returns-2 returns-3)
+    tie.close (tie.spec layout-of-requires has-mux-requires enum-known-x read-at-requires enum-known-x-2
+    write-at-requires enum-told elsewhere-requires returns returns-2 returns-3)

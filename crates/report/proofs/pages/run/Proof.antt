@@ -6,10 +6,10 @@ use Rattle.report.proofs.pages.run.Statement.{statement}
 use Rattle.report.proofs.pages.run.Tie as tie
 
 abbrev Inv-loop : tie.InvT-loop
-Inv-loop family buffer₀ told₀ state₀ left₀ buffer told state left = length buffer ≡ length buffer₀
+Inv-loop port buffer₀ told₀ state₀ left₀ buffer told state left = length buffer ≡ length buffer₀
 
 abbrev μ-loop : tie.MeasureT-loop
-μ-loop family buffer₀ told₀ state₀ left₀ buffer told state left = left
+μ-loop port buffer₀ told₀ state₀ left₀ buffer told state left = left
 
 loop-holds : tie.Need-loop-holds Inv-loop μ-loop
 loop-holds c = search needs

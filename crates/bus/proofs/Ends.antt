@@ -2,7 +2,8 @@
 -- every layout and control word. The numbers are accesses.
 use Prim.Native.Nat.{ℕ, _+_, _*_, _≤_, suc, zero}
 use mathlib.Core.Path.{_≡_, refl}
-use mathlib.Core.Bool.{Bool, true, false}
+use mathlib.Core.Bool.{Bool, true, false, true≢false}
+use lib.Bits.{bitOr}
 use lib.Dec.{eqb}
 use native.Mathlib.Omega.{arith}
 use Rattle.hardware.specs.Failures.{Failure, I2c}
@@ -12,6 +13,7 @@ use Rattle.hardware.specs.Runs.{Ends}
 use Rattle.hardware.proofs.Ends.{ends-more, ends-bind, ends-pick, ret-ends, ask-ends}
 use Rattle.bus.specs.declared.Layout.{Layout}
 use Rattle.bus.specs.declared.Taken.{Taken}
+use Rattle.bus.specs.Layout.{L82599}
 use Rattle.bus.specs.Bus.{Bus, done, fail, none, orHeld, flushing, put, get, wait, sclSeen, sclTries, sclHigh, sclLow, sdaSeen, sdaFree, sda, releaseSda, look, lookSeen, start, close, stop, outBit, sample, sampleSeen, inBit, shifted, inBits, inByte, bitOf, outBits, ackSeen, ackTries, send, pulses, orQuiet, quieted, quiet, clear, clearFree, clearAgain, clearStop, pulled, rounds, clearRounds}
 use Rattle.bus.specs.Steps.{PUT-STEPS, GET-STEPS, WAIT-STEPS, SCL-TRY-STEPS, SCL-HIGH-STEPS, SCL-LOW-STEPS, SDA-LOW-STEPS, SDA-STEPS, RELEASE-SDA-STEPS, START-STEPS, STOP-STEPS, PULSE-STEPS, OUT-BIT-STEPS, IN-BIT-STEPS, IN-BYTE-STEPS, ACK-STEPS, SEND-STEPS, FREE-STEPS, CLEAR-STEPS, ROUND-STEPS, FINISH-STEPS, CLEAR-ROUNDS-STEPS, CALL-STEPS}
 use Rattle.hardware.specs.declared.Answer.{Answer}
@@ -159,22 +161,42 @@ sda-seen-ends : (l : Layout) (k : Bus) (n : ℕ) → EndsBus k n → (v : ℕ) �
 unfolding sdaSeen
 sda-seen-ends l k n e v = either-ends _ _ _ n (fail-ends _ n) e
 
-sda-free-ends : (l : Layout) (k : Bus) (n : ℕ) → EndsBus k n → EndsBus (sdaFree l k) (PUT-STEPS + (GET-STEPS + n))
-unfolding sdaFree
-sda-free-ends l k n e ctl =
-    let d = get-ends l (sdaSeen l k) n (sda-seen-ends l k n e) in
-    ends-pick _ _ _ (PUT-STEPS + (GET-STEPS + n)) (ends-more _ (GET-STEPS + n) (PUT-STEPS + (GET-STEPS + n)) (d ctl) (omega arith))
-    (put-ends l _ (GET-STEPS + n) d _)
+-- On the X552's layout a second word is put before SDA is looked at, and another at the end of a stop; on the 82599's neither is.
+-- m: the accesses of such a word
+pub record Words (l : Layout) (m : ℕ) : Type 0 where
+  pub look : eqb (l .sdaoen) 0 ≡ false → PUT-STEPS ≤ m
+  pub last : eqb (l .bben) 0 ≡ false → PUT-STEPS ≤ m
+
+pub any-words : (l : Layout) → Words l PUT-STEPS
+any-words l = record { look = λ _. omega arith; last = λ _. omega arith }
+
+pub no-words : Words L82599 0
+no-words = record { look = λ e. absurd (true≢false e); last = λ e. absurd (true≢false e) }
+
+sda-free-by : (l : Layout) (m : ℕ) → Words l m → (k : Bus) (n : ℕ) → EndsBus k n → EndsBus (sdaFree l k) (m + (GET-STEPS + n))
+unfolding sdaFree pick
+sda-free-by l m h k n e ctl = by (eqb (l .sdaoen) 0) (h .look)
+  where
+    seen : EndsBus (get l (sdaSeen l k)) (GET-STEPS + n)
+    seen = get-ends l (sdaSeen l k) n (sda-seen-ends l k n e)
+
+    by : (b : Bool) → (b ≡ false → PUT-STEPS ≤ m) → Ends (pick b (get l (sdaSeen l k) ctl) (put l (get l (sdaSeen l k)) (bitOr ctl (l .sdaoen)))) (m + (GET-STEPS + n))
+    by true g = ends-more _ (GET-STEPS + n) (m + (GET-STEPS + n)) (seen ctl) (omega arith)
+    by false g = ends-more _ (PUT-STEPS + (GET-STEPS + n)) (m + (GET-STEPS + n)) (put-ends l _ (GET-STEPS + n) seen _) (omega (arith, g refl))
 
 pub sda-low-ends : (l : Layout) (k : Bus) (n : ℕ) → EndsBus k n → EndsBus (sda l false k) (SDA-LOW-STEPS + n)
 unfolding sda
 sda-low-ends l k n e ctl = put-wait-ends l 3 k n e _
 
+-- SDA released and looked at
+pub sda-by : (l : Layout) (m : ℕ) → Words l m → (k : Bus) (n : ℕ) → EndsBus k n → EndsBus (sda l true k) (PUT-STEPS + WAIT-STEPS + (m + (GET-STEPS + n)))
+unfolding sda
+sda-by l m h k n e ctl = put-wait-ends l 3 _ _ (sda-free-by l m h k n e) _
+
 pub sda-ends : (l : Layout) (high : Bool) (k : Bus) (n : ℕ) → EndsBus k n → EndsBus (sda l high k) (SDA-STEPS + n)
 unfolding sda
-sda-ends l true k n e ctl =
-    ends-more _ _ (SDA-STEPS + n) (put-wait-ends l 3 _ _ (sda-free-ends l k n e) _) (omega arith)
-sda-ends l false k n e ctl = ends-more _ _ (SDA-STEPS + n) (sda-low-ends l k n e ctl) (omega arith)
+sda-ends l true k n e = bus-more _ _ (SDA-STEPS + n) (sda-by l PUT-STEPS (any-words l) k n e) (omega arith)
+sda-ends l false k n e = bus-more _ _ (SDA-STEPS + n) (sda-low-ends l k n e) (omega arith)
 
 pub release-sda-ends : (l : Layout) (k : Bus) (n : ℕ) → EndsBus k n → EndsBus (releaseSda l k) (RELEASE-SDA-STEPS + n)
 unfolding releaseSda
@@ -184,31 +206,38 @@ pub look-ends : (l : Layout) (k : Bus) (n : ℕ) → EndsBus k n → EndsBus (lo
 unfolding look lookSeen
 look-ends l k n e = get-ends l _ n (λ v ctl. e _)
 
-pub start-ends : (l : Layout) (k : Bus) (n : ℕ) → EndsBus k n → EndsBus (start l k) (START-STEPS + n)
+start-by : (l : Layout) (m : ℕ) → Words l m → (k : Bus) (n : ℕ) → EndsBus k n → EndsBus (start l k) (2014 + m + n)
 unfolding start
-start-ends l k n e =
-    bus-more _ _ (START-STEPS + n)
+start-by l m h k n e =
+    bus-more _ _ (2014 + m + n)
     (look-ends l _ _
-    (sda-ends l true _ _
+    (sda-by l m h _ _
     (scl-high-ends l _ _
     (wait-ends 5 _ _ (sda-low-ends l _ _ (wait-ends 4 _ _ (scl-low-ends l _ _ (wait-ends 5 k n e))))))))
     (omega arith)
+
+pub start-ends : (l : Layout) (k : Bus) (n : ℕ) → EndsBus k n → EndsBus (start l k) (START-STEPS + n)
+start-ends l k n e = bus-more _ _ (START-STEPS + n) (start-by l PUT-STEPS (any-words l) k n e) (omega arith)
 
 pub close-ends : (l : Layout) (k : Bus) (n : ℕ) → EndsBus k n → EndsBus (close l k) (PUT-STEPS + n)
 unfolding close
 close-ends l k n e ctl = put-ends l k n e _
 
-pub stop-ends : (l : Layout) (k : Bus) (n : ℕ) → EndsBus k n → EndsBus (stop l k) (STOP-STEPS + n)
-unfolding stop
-stop-ends l k n e =
-    bus-more _ _ (STOP-STEPS + n)
+stop-by : (l : Layout) (m : ℕ) → Words l m → (k : Bus) (n : ℕ) → EndsBus k n → EndsBus (stop l k) (2009 + (m + m) + n)
+unfolding stop pick
+stop-by l m h k n e =
+    bus-more _ _ (2009 + (m + m) + n)
     (sda-low-ends l _ _
     (scl-high-ends l _ _
-    (wait-ends 4 _ _
-    (sda-ends l true _ _
-    (wait-ends 5 _ _
-    (either-ends _ k (close l k) (PUT-STEPS + n) (bus-more k n (PUT-STEPS + n) e (omega arith)) (close-ends l k n e)))))))
+    (wait-ends 4 _ _ (sda-by l m h _ _ (wait-ends 5 _ _ (by (eqb (l .bben) 0) (h .last)))))))
     (omega arith)
+  where
+    by : (b : Bool) → (b ≡ false → PUT-STEPS ≤ m) → EndsBus (pick b k (close l k)) (m + n)
+    by true g = bus-more k n (m + n) e (omega arith)
+    by false g = bus-more (close l k) (PUT-STEPS + n) (m + n) (close-ends l k n e) (omega (arith, g refl))
+
+pub stop-ends : (l : Layout) (k : Bus) (n : ℕ) → EndsBus k n → EndsBus (stop l k) (STOP-STEPS + n)
+stop-ends l k n e = bus-more _ _ (STOP-STEPS + n) (stop-by l PUT-STEPS (any-words l) k n e) (omega arith)
 
 -- SCL high, a wait, SCL low and a wait: how a bit that goes out ends
 pub pulse-ends : (l : Layout) (k : Bus) (n : ℕ) → EndsBus k n → EndsBus (sclHigh l (wait 4 (sclLow l (wait 5 k)))) (PULSE-STEPS + n)
@@ -302,53 +331,77 @@ pub quiet-ends : (p k : Bus) (m n : ℕ) → EndsBus p m → EndsBus k n → End
 unfolding quiet quieted
 quiet-ends p k m n d e ctl = ends-bind _ _ m n (d ctl) (λ h. quieted-ends k n e (h .ctl) (h .out))
 
-clear-stop-ends : (l : Layout) → EndsBus (clearStop l) STOP-STEPS
-unfolding clearStop
-clear-stop-ends l = quiet-ends _ _ (STOP-STEPS + 0) 0 (stop-ends l (done none) 0 (done-ends none 0)) (done-ends none 0)
+module _ (l : Layout) (m : ℕ) (h : Words l m) where
+  clear-stop-by : EndsBus (clearStop l) (2009 + (m + m))
+  unfolding clearStop
+  clear-stop-by = bus-more _ _ (2009 + (m + m)) (quiet-ends _ _ _ 0 (stop-by l m h (done none) 0 (done-ends none 0)) (done-ends none 0)) (omega arith)
 
-clear-again-ends : (l : Layout) → EndsBus (clearAgain l) (START-STEPS + STOP-STEPS)
-unfolding clearAgain
-clear-again-ends l = quiet-ends _ _ (START-STEPS + 0) STOP-STEPS (start-ends l (done none) 0 (done-ends none 0)) (clear-stop-ends l)
+  clear-again-by : EndsBus (clearAgain l) (4023 + (m + m + m))
+  unfolding clearAgain
+  clear-again-by = bus-more _ _ (4023 + (m + m + m)) (quiet-ends _ _ _ _ (start-by l m h (done none) 0 (done-ends none 0)) clear-stop-by) (omega arith)
 
-clear-free-ends : (l : Layout) → EndsBus (clearFree l) (FREE-STEPS + (START-STEPS + STOP-STEPS))
-unfolding clearFree freed
-clear-free-ends l = free-ends l Pulses (λ _. clearAgain l) (START-STEPS + STOP-STEPS) (λ _. clear-again-ends l)
+  clear-free-by : EndsBus (clearFree l) (FREE-STEPS + (4023 + (m + m + m)))
+  unfolding clearFree freed
+  clear-free-by = free-ends l Pulses (λ _. clearAgain l) (4023 + (m + m + m)) (λ _. clear-again-by)
 
-pub clear-ends : (l : Layout) → EndsBus (clear l) CLEAR-STEPS
-unfolding clear
-clear-ends l =
-    quiet-ends _ _ (START-STEPS + 0) (FREE-STEPS + (START-STEPS + STOP-STEPS)) (start-ends l (done none) 0 (done-ends none 0)) (clear-free-ends l)
+  pub clear-by : EndsBus (clear l) (24085 + 4 * m)
+  unfolding clear
+  clear-by = bus-more _ _ (24085 + 4 * m) (quiet-ends _ _ _ _ (start-by l m h (done none) 0 (done-ends none 0)) clear-free-by) (omega arith)
 
-pulled-ends : (l : Layout) → EndsBus (pulled l) (SCL-LOW-STEPS + WAIT-STEPS + FINISH-STEPS)
-unfolding pulled
-pulled-ends l =
-    bus-more _ _ (SCL-LOW-STEPS + WAIT-STEPS + FINISH-STEPS)
-    (sda-low-ends l _ _ (wait-ends 4 _ _ (scl-low-ends l _ _ (wait-ends 5 _ _ (clear-stop-ends l)))))
-    (omega arith)
+  pulled-by : EndsBus (pulled l) (2017 + (m + m))
+  unfolding pulled
+  pulled-by = bus-more _ _ (2017 + (m + m)) (sda-low-ends l _ _ (wait-ends 4 _ _ (scl-low-ends l _ _ (wait-ends 5 _ _ clear-stop-by)))) (omega arith)
 
--- SCL is lowered in a round, and so many are left; SDA pulled before it takes no more
-lowers-ends : (l : Layout) (left : ℕ) → EndsBus (rounds l left) (left * ROUND-STEPS + FINISH-STEPS)
-    → EndsBus (sclLow l (wait 5 (rounds l left))) (SCL-LOW-STEPS + WAIT-STEPS + (left * ROUND-STEPS + FINISH-STEPS))
-lowers-ends l left e =
-    bus-more _ _ (SCL-LOW-STEPS + WAIT-STEPS + (left * ROUND-STEPS + FINISH-STEPS)) (scl-low-ends l _ _ (wait-ends 5 _ _ e)) (omega arith)
+  -- SCL is lowered in a round, and so many are left; SDA pulled before it takes no more
+  lowers-by : (left : ℕ) → EndsBus (rounds l left) (left * ROUND-STEPS + (2013 + (m + m)))
+      → EndsBus (sclLow l (wait 5 (rounds l left))) (SCL-LOW-STEPS + WAIT-STEPS + (left * ROUND-STEPS + (2013 + (m + m))))
+  lowers-by left e =
+      bus-more _ _ (SCL-LOW-STEPS + WAIT-STEPS + (left * ROUND-STEPS + (2013 + (m + m)))) (scl-low-ends l _ _ (wait-ends 5 _ _ e)) (omega arith)
 
-pulls-ends : (l : Layout) (left : ℕ) → EndsBus (pulled l) (SCL-LOW-STEPS + WAIT-STEPS + (left * ROUND-STEPS + FINISH-STEPS))
-pulls-ends l left = bus-more _ _ (SCL-LOW-STEPS + WAIT-STEPS + (left * ROUND-STEPS + FINISH-STEPS)) (pulled-ends l) (omega arith)
+  pulls-by : (left : ℕ) → EndsBus (pulled l) (SCL-LOW-STEPS + WAIT-STEPS + (left * ROUND-STEPS + (2013 + (m + m))))
+  pulls-by left = bus-more _ _ (SCL-LOW-STEPS + WAIT-STEPS + (left * ROUND-STEPS + (2013 + (m + m)))) pulled-by (omega arith)
 
-pub rounds-ends : (l : Layout) (left : ℕ) → EndsBus (rounds l left) (left * ROUND-STEPS + FINISH-STEPS)
-unfolding rounds
-rounds-ends l zero = done-ends none _
-rounds-ends l (suc left) =
-    bus-more _ _ (suc left * ROUND-STEPS + FINISH-STEPS)
-    (scl-high-ends l _ _
-    (wait-ends 4 _ _
-    (sample-ends l _ (SCL-LOW-STEPS + WAIT-STEPS + (left * ROUND-STEPS + FINISH-STEPS))
-    (λ high. either-ends high _ _ _ (pulls-ends l left) (lowers-ends l left (rounds-ends l left))))))
-    (omega arith)
+  rounds-by : (left : ℕ) → EndsBus (rounds l left) (left * ROUND-STEPS + (2013 + (m + m)))
+  unfolding rounds
+  rounds-by zero = done-ends none _
+  rounds-by (suc left) =
+      bus-more _ _ (suc left * ROUND-STEPS + (2013 + (m + m)))
+      (scl-high-ends l _ _
+      (wait-ends 4 _ _
+      (sample-ends l _ (SCL-LOW-STEPS + WAIT-STEPS + (left * ROUND-STEPS + (2013 + (m + m))))
+      (λ high. either-ends high _ _ _ (pulls-by left) (lowers-by left (rounds-by left))))))
+      (omega arith)
 
-pub clear-rounds-ends : (l : Layout) → EndsBus (clearRounds l) CLEAR-ROUNDS-STEPS
-unfolding clearRounds
-clear-rounds-ends l = release-sda-ends l _ _ (rounds-ends l 10)
+  pub clear-rounds-by : EndsBus (clearRounds l) (22076 + 2 * m)
+  unfolding clearRounds
+  clear-rounds-by = bus-more _ _ (22076 + 2 * m) (release-sda-ends l _ _ (rounds-by 10)) (omega arith)
+
+-- the same for every layout
+module _ (l : Layout) where
+  clear-stop-ends : EndsBus (clearStop l) STOP-STEPS
+  clear-stop-ends = clear-stop-by l PUT-STEPS (any-words l)
+
+  clear-again-ends : EndsBus (clearAgain l) (START-STEPS + STOP-STEPS)
+  clear-again-ends = clear-again-by l PUT-STEPS (any-words l)
+
+  clear-free-ends : EndsBus (clearFree l) (FREE-STEPS + (START-STEPS + STOP-STEPS))
+  clear-free-ends = clear-free-by l PUT-STEPS (any-words l)
+
+  pub clear-ends : EndsBus (clear l) CLEAR-STEPS
+  clear-ends = clear-by l PUT-STEPS (any-words l)
+
+  lowers-ends : (left : ℕ) → EndsBus (rounds l left) (left * ROUND-STEPS + FINISH-STEPS)
+      → EndsBus (sclLow l (wait 5 (rounds l left))) (SCL-LOW-STEPS + WAIT-STEPS + (left * ROUND-STEPS + FINISH-STEPS))
+  lowers-ends left e = lowers-by l PUT-STEPS (any-words l) left e
+
+  pulls-ends : (left : ℕ) → EndsBus (pulled l) (SCL-LOW-STEPS + WAIT-STEPS + (left * ROUND-STEPS + FINISH-STEPS))
+  pulls-ends left = pulls-by l PUT-STEPS (any-words l) left
+
+  pub rounds-ends : (left : ℕ) → EndsBus (rounds l left) (left * ROUND-STEPS + FINISH-STEPS)
+  rounds-ends left = rounds-by l PUT-STEPS (any-words l) left
+
+  pub clear-rounds-ends : EndsBus (clearRounds l) CLEAR-ROUNDS-STEPS
+  clear-rounds-ends = clear-rounds-by l PUT-STEPS (any-words l)
 
 -- the answers that each machine may still need after the one it awaits, up to the end of the call, the command or the sequence
 
@@ -396,7 +449,7 @@ clearAfter s = jobAfter (s .job) + partAfter (s .part)
 
 reached-ends : (l : Layout) (g : Goal) (k : Bus) (n : ℕ) → EndsBus k n → EndsBus (reached l g k) (reachAfter g + n)
 unfolding reached sclSeen
-reached-ends l High k n e = bus-more _ (PUT-STEPS + (GET-STEPS + n)) (reachAfter High + n) (sda-free-ends l k n e) (omega arith)
+reached-ends l High k n e = bus-more _ (PUT-STEPS + (GET-STEPS + n)) (reachAfter High + n) (sda-free-by l PUT-STEPS (any-words l) k n e) (omega arith)
 reached-ends l Free k n e = get-ends l _ n (sda-seen-ends l k n e)
 reached-ends l Low k n e = bus-more _ n (0 + n) e (omega arith)
 reached-ends l Released k n e = bus-more _ n (0 + n) e (omega arith)

@@ -14,8 +14,9 @@ use Rattle.bus.specs.declared.command.Command.{Command}
 use Rattle.bus.specs.declared.command.Command.the-variants.{Start, Send, Read, Stop, Free}
 use Rattle.hardware.specs.Failures.{I2c}
 use Rattle.bus.specs.Bus.{Bus, none, fail, look, sda, sdaSeen}
-use Rattle.bus.specs.Steps.{GET-STEPS, SDA-STEPS, SEND-STEPS, CLEAR-STEPS, CLEAR-ROUNDS-STEPS}
-use Rattle.bus.proofs.Ends.{EndsBus, bus-more, done-ends, fail-ends, look-ends, sda-ends, start-ends, send-ends, in-byte-ends, out-bit-ends, stop-ends, free-ends, clear-ends, clear-rounds-ends, jobAfter, clearAfter, job-rest-ends, clear-rest-ends}
+use Rattle.bus.specs.Layout.{L82599}
+use Rattle.bus.specs.Steps.{PUT-STEPS, SEND-STEPS, CLEAR-STEPS, CLEAR-ROUNDS-STEPS}
+use Rattle.bus.proofs.Ends.{EndsBus, bus-more, done-ends, fail-ends, Words, any-words, no-words, look-ends, sda-by, clear-by, clear-rounds-by, start-ends, send-ends, in-byte-ends, out-bit-ends, stop-ends, free-ends, clear-ends, clear-rounds-ends, jobAfter, clearAfter, job-rest-ends, clear-rest-ends}
 use Rattle.transfer.specs.declared.attempt.Sequence.{Sequence}
 use Rattle.transfer.specs.declared.attempt.Sequence.the-variants.{Pulses, Rounds}
 use Rattle.transfer.specs.Transfer.{Mode, handing, keeping, tells, did, tookBy, handed, transfer, ranOn, restTransfer}
@@ -96,24 +97,29 @@ unfolding orCleared
 or-cleared-ends device (Ok t) = ret-ends _ 0
 or-cleared-ends device (Err e) = ret-ends _ 0
 
-or-tried-ends : (q : Sequence) (l : Layout) (device ctl : ℕ) (r : R Taken) → Ends (orTried q l device ctl r) (CLEARING-STEPS q)
-unfolding orTried cleared
-or-tried-ends q l device ctl (Ok t) = ret-ends _ (CLEARING-STEPS q)
-or-tried-ends q l device ctl (Err e) =
-    let n : ℕ = CLEARING-STEPS q in
-    ends-pick _ _ _ n (ends-more _ (n + 0) n (ends-bind _ _ n 0 (clearing-ends q l ctl) (λ h. or-cleared-ends device (h .out))) (omega arith)) (ret-ends _ n)
+-- n: the accesses of what the attempt does on the bus; c: those of the clearing
+module _ (q : Sequence) (l : Layout) (device c : ℕ) (clears : EndsBus (clearing q l) c) where
+  or-tried-by : (ctl : ℕ) (r : R Taken) → Ends (orTried q l device ctl r) c
+  unfolding orTried cleared
+  or-tried-by ctl (Ok t) = ret-ends _ c
+  or-tried-by ctl (Err e) = ends-pick _ _ _ c (ends-more _ (c + 0) c (ends-bind _ _ c 0 (clears ctl) (λ h. or-cleared-ends device (h .out))) (omega arith)) (ret-ends _ c)
 
--- n: the accesses of what the attempt does on the bus
+  begun-by : (f : Bus) (n : ℕ) → EndsBus f n → (ctl : ℕ) → Ends (begun q l device f ctl) (n + c)
+  unfolding begun tried
+  begun-by f n e ctl = ends-bind _ _ n c (e ctl) (λ h. or-tried-by (h .ctl) (h .out))
+
+  attempt-by : (f : Bus) (n : ℕ) → EndsBus f n → Ends (attempt q l device f) (1 + n + c)
+  unfolding attempt attempting
+  attempt-by f n e = ends-more _ (1 + (n + c)) (1 + n + c) (note-ends _ _ _ (ends-try _ _ 1 (n + c) (readRaw-ends _) (begun-by f n e))) (omega arith)
+
+or-tried-ends : (q : Sequence) (l : Layout) (device ctl : ℕ) (r : R Taken) → Ends (orTried q l device ctl r) (CLEARING-STEPS q)
+or-tried-ends q l device ctl r = or-tried-by q l device (CLEARING-STEPS q) (clearing-ends q l) ctl r
+
 begun-ends : (q : Sequence) (l : Layout) (device : ℕ) (f : Bus) (n : ℕ) → EndsBus f n → (ctl : ℕ) → Ends (begun q l device f ctl) (n + CLEARING-STEPS q)
-unfolding begun tried
-begun-ends q l device f n e ctl = ends-bind _ _ n (CLEARING-STEPS q) (e ctl) (λ h. or-tried-ends q l device (h .ctl) (h .out))
+begun-ends q l device f n e ctl = begun-by q l device (CLEARING-STEPS q) (clearing-ends q l) f n e ctl
 
 pub attempt-ends-by : (q : Sequence) (l : Layout) (device : ℕ) (f : Bus) (n : ℕ) → EndsBus f n → Ends (attempt q l device f) (1 + n + CLEARING-STEPS q)
-unfolding attempt attempting
-attempt-ends-by q l device f n e =
-    ends-more _ (1 + (n + CLEARING-STEPS q)) (1 + n + CLEARING-STEPS q)
-    (note-ends _ _ _ (ends-try _ _ 1 (n + CLEARING-STEPS q) (readRaw-ends _) (begun-ends q l device f n e)))
-    (omega arith)
+attempt-ends-by q l device f n e = attempt-by q l device (CLEARING-STEPS q) (clearing-ends q l) f n e
 
 -- with either sequence
 pub attempt-ends : (q : Sequence) (l : Layout) (device : ℕ) (f : Bus) (n : ℕ) → EndsBus f n → Ends (attempt q l device f) (ATTEMPT-STEPS n)
@@ -124,13 +130,32 @@ pub low-look : (l : Layout) (k : Bus) (v : ℕ) → noneOf v (l .sdain) ≡ true
 unfolding sdaSeen pick
 low-look l k v e = rw e
 
--- so an attempt that fails at its first look is one whose start ends there
-pub first-look-ends : (q : Sequence) (l : Layout) (device : ℕ) → Ends (attempt q l device (look l (sda l true (fail (I2c 0))))) (1 + (GET-STEPS + SDA-STEPS) + CLEARING-STEPS q)
-first-look-ends q l device =
-    attempt-ends-by q l device _ (GET-STEPS + SDA-STEPS) (bus-more _ _ (GET-STEPS + SDA-STEPS) (look-ends l _ _ (sda-ends l true _ 0 (fail-ends _ 0))) (omega arith))
+-- so an attempt that fails at its first look is one whose start ends there. m: the accesses of a further word, none on the 82599's
+-- layout
+abbrev pub FIRST-LOOK-STEPS : Sequence → ℕ → ℕ
+FIRST-LOOK-STEPS Pulses m = 24091 + 5 * m
+FIRST-LOOK-STEPS Rounds m = 22082 + 3 * m
 
-pub first-look-steps : (1 + (GET-STEPS + SDA-STEPS) + CLEARING-STEPS Pulses ≡ 24101) × (1 + (GET-STEPS + SDA-STEPS) + CLEARING-STEPS Rounds ≡ 22088)
-first-look-steps = (refl, refl)
+first-look-by : (l : Layout) (m : ℕ) → Words l m → EndsBus (look l (sda l true (fail (I2c 0)))) (5 + m)
+first-look-by l m h = bus-more _ _ (5 + m) (look-ends l _ _ (sda-by l m h _ 0 (fail-ends _ 0))) (omega arith)
+
+pub first-look-ends : (q : Sequence) (l : Layout) (m : ℕ) → Words l m → (device : ℕ)
+    → Ends (attempt q l device (look l (sda l true (fail (I2c 0))))) (FIRST-LOOK-STEPS q m)
+unfolding clearing
+first-look-ends Pulses l m h device =
+    ends-more _ (1 + (5 + m) + (24085 + 4 * m)) (24091 + 5 * m) (attempt-by Pulses l device (24085 + 4 * m) (clear-by l m h) _ (5 + m) (first-look-by l m h)) (omega arith)
+first-look-ends Rounds l m h device =
+    ends-more _ (1 + (5 + m) + (22076 + 2 * m)) (22082 + 3 * m) (attempt-by Rounds l device (22076 + 2 * m) (clear-rounds-by l m h) _ (5 + m) (first-look-by l m h)) (omega arith)
+
+-- on the 82599's layout 24,091 and 22,082, on any 24,101 and 22,088
+pub first-look-82599 : (q : Sequence) (device : ℕ) → Ends (attempt q L82599 device (look L82599 (sda L82599 true (fail (I2c 0))))) (FIRST-LOOK-STEPS q 0)
+first-look-82599 q device = first-look-ends q L82599 0 no-words device
+
+pub first-look-any : (q : Sequence) (l : Layout) (device : ℕ) → Ends (attempt q l device (look l (sda l true (fail (I2c 0))))) (FIRST-LOOK-STEPS q PUT-STEPS)
+first-look-any q l device = first-look-ends q l PUT-STEPS (any-words l) device
+
+pub first-look-steps : (FIRST-LOOK-STEPS Pulses 0 ≡ 24091) × (FIRST-LOOK-STEPS Rounds 0 ≡ 22082) × (FIRST-LOOK-STEPS Pulses PUT-STEPS ≡ 24101) × (FIRST-LOOK-STEPS Rounds PUT-STEPS ≡ 22088)
+first-look-steps = (refl, refl, refl, refl)
 
 -- an attempt at a list of commands
 pub commands-ends : (m : Mode) (q : Sequence) (l : Layout) (device : ℕ) (cs : List Command) (t : Taken)

@@ -17,6 +17,7 @@ pub mod Identify
 pub mod Runs
 pub mod Claim
 pub mod Switched
+pub mod Releases
 pub mod Possible
 pub mod Page
 pub mod Light

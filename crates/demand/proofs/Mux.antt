@@ -137,6 +137,10 @@ pub mux-set : (e : ℕ) → noneOf (bitOr e 2) 2 ≡ false
 unfolding noneOf
 mux-set e = none-set e 2 (at 1 (lit< tt))
 
+pub mux-cleared : (e : ℕ) → noneOf (bitAnd e (not32 2)) 2 ≡ true
+unfolding noneOf
+mux-cleared e = none-clear e 2 (lit< tt) (at 1 (lit< tt))
+
 pub joined-set : (mux : Bool) (e : ℕ) → joins mux (bitOr e 2) ≡ true
 unfolding joins
 joined-set true e = rw (mux-set e)

@@ -1,5 +1,6 @@
--- Where the mux is switched in a run of `identify`: no line moves at the module, and with the default sequence each release finds it
--- idle with both lines released. And before the call first sets the bit it makes no access to I2CCTL, which is then as at the start.
+-- Where the mux is switched in a run of `identify`: no line moves at the module, and with the default sequence each write that clears
+-- the bit finds it idle with both lines released. And before the call first sets the bit it makes no access to I2CCTL, which is then as
+-- at the start.
 use Prim.Native.Nat.{ℕ, suc, zero}
 use mathlib.Core.Path.{_≡_, refl, _∙_, sym, subst}
 use mathlib.Core.Bool.{Bool, true, false, not, _&&_, _||_, false≢true}
@@ -190,7 +191,7 @@ all-semaphores X550 = semaphores X550 refl refl refl
 all-semaphores X552 = semaphores X552 refl refl refl
 all-semaphores X553 = semaphores X553 refl refl refl
 
-not-qsfp : (port : Port) → hasMux port ≡ true → qsfp port ≡ false
+pub not-qsfp : (port : Port) → hasMux port ≡ true → qsfp port ≡ false
 not-qsfp port h = by (qsfp port) refl
   where
     by : (b : Bool) → qsfp port ≡ b → b ≡ false

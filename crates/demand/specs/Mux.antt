@@ -1,5 +1,5 @@
 -- What is to be shown where the mux is switched: no write of ESDP moves a line at the module, and with the default sequence one that
--- clears the bit, with which a release begins, finds the module idle and both lines released.
+-- clears the bit finds the module idle and both lines released; with such a write each release begins.
 use mathlib.Core.Path.{_≡_}
 use Prim.Native.Nat.{ℕ}
 use mathlib.Core.Bool.{Bool, true, false, not, _&&_}
@@ -9,7 +9,7 @@ use Rattle.hardware.specs.declared.Access.{Access}
 use Rattle.hardware.specs.declared.Access.the-variants.{Read, Write, Wait}
 use Rattle.hardware.specs.declared.Answer.{Answer}
 use Rattle.hardware.specs.declared.Port.{Port}
-use Rattle.hardware.specs.Prog.{Prog, ret, ask, note, give}
+use Rattle.hardware.specs.Prog.{Prog, ret, ask, note, give, Note, Attempt, Acquires, Acquired, Released, Lapsed}
 use Rattle.hardware.specs.Registers.{ESDP, noneOf}
 use Rattle.transfer.specs.declared.attempt.Sequence.{Sequence}
 use Rattle.transfer.specs.declared.attempt.Sequence.the-variants.{Pulses, Rounds}
@@ -66,3 +66,28 @@ FirstWord word [] = Unit {0}
 FirstWord word (atMachine x w ∷ es) = Either (setsBit x) (w .word ≡ word) (FirstWord word es)
 FirstWord word (answered x a ∷ es) = FirstWord word es
 FirstWord word (noticed n ∷ es) = FirstWord word es
+
+-- What comes next is a write of ESDP with the bit clear, with nothing before it but reads of ESDP. The module is settled at the write
+-- and, as a read changes nothing, at the reads. Events that end before the write are not so
+unfoldable pub NextClears : Sequence → Port → List (Event BenchWorld) → Type 0
+NextClears q port [] = ⊥
+NextClears q port (atMachine (Read r) w ∷ es) = (r ≡ ESDP) × Settled q (master (layoutOf (port .family)) (w .word)) (w .other) × NextClears q port es
+NextClears q port (atMachine (Write r v) w ∷ es) = (r ≡ ESDP) × (noneOf v 2 ≡ true) × Settled q (master (layoutOf (port .family)) (w .word)) (w .other)
+NextClears q port (atMachine (Wait n) w ∷ es) = ⊥
+NextClears q port (answered x a ∷ es) = ⊥
+NextClears q port (noticed n ∷ es) = ⊥
+
+-- asked only where a release begins
+abbrev pub AtRelease : Note → Type 0 → Type 0
+AtRelease Attempt X = Unit {0}
+AtRelease Acquires X = Unit {0}
+AtRelease Acquired X = Unit {0}
+AtRelease Released X = X
+AtRelease Lapsed X = Unit {0}
+
+-- in a run on a port with a mux: so behind the beginning of each release
+unfoldable pub Releases : Sequence → Port → List (Event BenchWorld) → Type 0
+Releases q port [] = Unit {0}
+Releases q port (atMachine x w ∷ es) = Releases q port es
+Releases q port (answered x a ∷ es) = Releases q port es
+Releases q port (noticed n ∷ es) = AtRelease n (NextClears q port es) × Releases q port es

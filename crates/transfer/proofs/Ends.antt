@@ -1,19 +1,19 @@
 -- How many answers of the awaited kinds bring commands, transfers and attempts to their end, for every layout, device
 -- and control word. The numbers are accesses.
-use Prim.Native.Nat.{ℕ, _+_, _*_, _-_, _≤_}
-use mathlib.Core.Path.{_≡_, refl}
+use Prim.Native.Nat.{ℕ, _+_, _*_, _-_, _≤_, suc, zero}
+use mathlib.Core.Path.{_≡_, refl, sym}
 use mathlib.Core.List.{List, [], _∷_}
 use lib.ListN.{length, drop, length-drop}
 use native.Mathlib.Omega.{arith}
-use Rattle.hardware.specs.Prog.{Prog, ret, ask, note, give, R, Ok, Err, pick}
-use Rattle.hardware.specs.Runs.{Ends}
+use Rattle.hardware.specs.Prog.{Prog, ret, ask, note, give, R, Ok, Err, orErr, pick, _>>=_}
+use Rattle.hardware.specs.Runs.{Ends, Awaited, run, onAnswer}
 use Rattle.hardware.proofs.Ends.{ends-more, ends-bind, ends-try, ends-pick, ret-ends, note-ends, readRaw-ends, ends-or}
 use Rattle.bus.specs.declared.Layout.{Layout}
 use Rattle.bus.specs.declared.Taken.{Taken}
 use Rattle.bus.specs.declared.command.Command.{Command}
 use Rattle.bus.specs.declared.command.Command.the-variants.{Start, Send, Read, Stop, Free}
-use Rattle.hardware.specs.Failures.{I2c}
-use Rattle.bus.specs.Bus.{Bus, none, fail, look, sda, sdaSeen}
+use Rattle.hardware.specs.Failures.{Failure, I2c}
+use Rattle.bus.specs.Bus.{Bus, none, fail, orHeld, flushing, put, get, wait, look, lookSeen, sda, sdaFree, sdaSeen, start}
 use Rattle.bus.specs.Layout.{L82599}
 use Rattle.bus.specs.Steps.{PUT-STEPS, SEND-STEPS, CLEAR-STEPS, CLEAR-ROUNDS-STEPS}
 use Rattle.bus.proofs.Ends.{EndsBus, bus-more, done-ends, fail-ends, Words, any-words, no-words, look-ends, sda-by, clear-by, clear-rounds-by, start-ends, send-ends, in-byte-ends, out-bit-ends, stop-ends, free-ends, clear-ends, clear-rounds-ends, jobAfter, clearAfter, job-rest-ends, clear-rest-ends}
@@ -21,10 +21,12 @@ use Rattle.transfer.specs.declared.attempt.Sequence.{Sequence}
 use Rattle.transfer.specs.declared.attempt.Sequence.the-variants.{Pulses, Rounds}
 use Rattle.transfer.specs.Transfer.{Mode, handing, keeping, tells, did, tookBy, handed, transfer, ranOn, restTransfer}
 use Rattle.transfer.specs.Attempt.{clearing, orCleared, cleared, orTried, tried, begun, attempting, attempt, restAttempt}
-use mathlib.Core.Bool.{Bool, true, false}
-use Rattle.hardware.specs.Registers.{noneOf}
-use lib.Dec.{ltb}
+use mathlib.Core.Bool.{Bool, true, false, true≢false}
+use Rattle.hardware.specs.Registers.{noneOf, raw, written, flushed}
+use lib.Bits.{bitOr}
+use lib.Dec.{eqb, ltb}
 use borrow.Author.Tests.{ltb-true, ltb-false}
+use Rattle.hardware.specs.declared.Access.{Access}
 use Rattle.hardware.specs.declared.Answer.{Answer}
 use Rattle.script.specs.Script.{commands, nextAt}
 use Rattle.script.proofs.Laws.{commands-length, next-after}
@@ -125,34 +127,121 @@ attempt-ends-by q l device f n e = attempt-by q l device (CLEARING-STEPS q) (cle
 pub attempt-ends : (q : Sequence) (l : Layout) (device : ℕ) (f : Bus) (n : ℕ) → EndsBus f n → Ends (attempt q l device f) (ATTEMPT-STEPS n)
 attempt-ends q l device f n e = ends-more _ (1 + n + CLEARING-STEPS q) (ATTEMPT-STEPS n) (attempt-ends-by q l device f n e) (omega (arith, clearing-most q))
 
--- where SDA is seen low, what was to come after the look plays no part
-pub low-look : (l : Layout) (k : Bus) (v : ℕ) → noneOf v (l .sdain) ≡ true → sdaSeen l k v ≡ sdaSeen l (fail (I2c 0)) v
-unfolding sdaSeen pick
-low-look l k v e = rw e
+-- An attempt that fails at its first look. Where the answer at a position is a word, SDA is low in it
+unfoldable pub LowAt : Layout → ℕ → List Answer → Type 0
+LowAt l i [] = Unit {0}
+LowAt l zero (a ∷ answers) = (v : ℕ) → raw a ≡ Ok v → noneOf v (l .sdain) ≡ true
+LowAt l (suc i) (a ∷ answers) = LowAt l i answers
 
--- so an attempt that fails at its first look is one whose start ends there. m: the accesses of a further word, none on the 82599's
--- layout
+-- a run over answers of the awaited kinds, SDA low in the one at i, makes at most n accesses
+abbrev pub AtMost : {A : Type 0} → Layout → ℕ → Prog A → ℕ → Type 0
+AtMost l i p n = (answers : List Answer) → Awaited p answers → LowAt l i answers → length ((run p answers) .accesses) ≤ n
+
+-- the accesses before the first look: I2CCTL is read by the attempt and by the start, a word is put, there is a wait, and on the X552's
+-- layout a second word is put
+abbrev pub LOOK-AT : Layout → ℕ
+LOOK-AT l = suc (suc (suc (suc (suc (pick (eqb (l .sdaoen) 0) 0 2)))))
+
+-- m: the accesses of a further word, none on the 82599's layout
 abbrev pub FIRST-LOOK-STEPS : Sequence → ℕ → ℕ
 FIRST-LOOK-STEPS Pulses m = 24091 + 5 * m
 FIRST-LOOK-STEPS Rounds m = 22082 + 3 * m
 
-first-look-by : (l : Layout) (m : ℕ) → Words l m → EndsBus (look l (sda l true (fail (I2c 0)))) (5 + m)
-first-look-by l m h = bus-more _ _ (5 + m) (look-ends l _ _ (sda-by l m h _ 0 (fail-ends _ 0))) (omega arith)
+ends-few : {A : Type 0} (p : Prog A) (n : ℕ) → Ends p n → (answers : List Answer) → Awaited p answers → length ((run p answers) .accesses) ≤ n
+unfolding Ends Awaited run onAnswer
+ends-few (ret v) n e answers w = omega arith
+ends-few (ask x f) zero e answers w = absurd e
+ends-few (ask x f) (suc n) e [] w = omega arith
+ends-few (ask x f) (suc n) e (a ∷ answers) w = omega (arith, ends-few (f a) n (e a (w .0)) answers (w .1))
+ends-few (note k p) n e answers w = ends-few p n e answers w
+ends-few (give b p) n e answers w = ends-few p n e answers w
 
-pub first-look-ends : (q : Sequence) (l : Layout) (m : ℕ) → Words l m → (device : ℕ)
-    → Ends (attempt q l device (look l (sda l true (fail (I2c 0))))) (FIRST-LOOK-STEPS q m)
-unfolding clearing
-first-look-ends Pulses l m h device =
-    ends-more _ (1 + (5 + m) + (24085 + 4 * m)) (24091 + 5 * m) (attempt-by Pulses l device (24085 + 4 * m) (clear-by l m h) _ (5 + m) (first-look-by l m h)) (omega arith)
-first-look-ends Rounds l m h device =
-    ends-more _ (1 + (5 + m) + (22076 + 2 * m)) (22082 + 3 * m) (attempt-by Rounds l device (22076 + 2 * m) (clear-rounds-by l m h) _ (5 + m) (first-look-by l m h)) (omega arith)
+asked : {A : Type 0} (l : Layout) (x : Access) (f : Answer → Prog A) (i n : ℕ) → ((a : Answer) → AtMost l i (f a) n) → AtMost l (suc i) (ask x f) (suc n)
+unfolding LowAt Awaited run onAnswer
+asked l x f i n d [] w t = omega arith
+asked l x f i n d (a ∷ answers) w t = omega (arith, d a answers (w .1) t)
+
+module _ (q : Sequence) (l : Layout) (device c : ℕ) (clears : EndsBus (clearing q l) c) where
+  -- with what the attempt does after it; i accesses come before the look
+  Left : ℕ → Bus → ℕ → Type 0
+  Left i k n = (ctl : ℕ) → AtMost l i (k ctl >>= tried q l device) n
+
+  fails : (e : Failure) (n : ℕ) → c ≤ n → (ctl : ℕ) (answers : List Answer) → Awaited (fail e ctl >>= tried q l device) answers
+      → length ((run (fail e ctl >>= tried q l device) answers) .accesses) ≤ n
+  unfolding _>>=_ tried
+  fails e n h ctl answers w = ends-few (orTried q l device ctl (Err e)) n (ends-more _ c n (or-tried-by q l device c clears ctl (Err e)) h) answers w
+
+  held : {A : Type 0} (k : A → Bus) (i n : ℕ) → c ≤ n → ((a : A) → Left i (k a) n) → (ctl : ℕ) (r : R A) → AtMost l i (orHeld k ctl r >>= tried q l device) n
+  unfolding Left orHeld
+  held k i n h d ctl (Ok a) = d a ctl
+  held k i n h d ctl (Err e) = λ answers w t. fails e n h ctl answers w
+
+  puts : (k : Bus) (i n : ℕ) → c ≤ n → Left i k n → Left (suc (suc i)) (put l k) (suc (suc n))
+  unfolding Left put flushing _>>=_
+  puts k i n h d ctl =
+      asked l _ _ (suc i) (suc n) (λ a. held (λ _. flushing k) (suc i) (suc n) (omega arith)
+      (λ _ ctl. asked l _ _ i n (λ b. held (λ _. k) i n h (λ _. d) ctl (flushed b))) ctl (written a))
+
+  -- SDA is low: what was to come after the look plays no part
+  looks : (k : Bus) (n : ℕ) → c ≤ n → Left zero (get l (sdaSeen l k)) (suc n)
+  unfolding Left LowAt Awaited get orHeld sdaSeen pick _>>=_ run onAnswer
+  looks k n h ctl [] w t = omega arith
+  looks k n h ctl (a ∷ answers) w t = omega (arith, by (raw a) t (w .1))
+    where
+      seen : (b : Bool) → b ≡ true → Awaited (pick b (fail (I2c 0)) k ctl >>= tried q l device) answers
+          → length ((run (pick b (fail (I2c 0)) k ctl >>= tried q l device) answers) .accesses) ≤ n
+      seen true e u = fails (I2c 0) n h ctl answers u
+      seen false e u = absurd (true≢false (sym e))
+
+      by : (r : R ℕ) → ((v : ℕ) → r ≡ Ok v → noneOf v (l .sdain) ≡ true) → Awaited (orHeld (sdaSeen l k) ctl r >>= tried q l device) answers
+          → length ((run (orHeld (sdaSeen l k) ctl r >>= tried q l device) answers) .accesses) ≤ n
+      by (Ok v) low u = seen (noneOf v (l .sdain)) (low v refl) u
+      by (Err e) low u = fails e n h ctl answers u
+
+  frees : (m : ℕ) → Words l m → (k : Bus) → Left (pick (eqb (l .sdaoen) 0) 0 2) (sdaFree l k) (suc (m + c))
+  unfolding Left sdaFree pick
+  frees m h k ctl = by (eqb (l .sdaoen) 0) (h .look)
+    where
+      by : (b : Bool) → (b ≡ false → PUT-STEPS ≤ m)
+          → AtMost l (pick b 0 2) (pick b (get l (sdaSeen l k) ctl) (put l (get l (sdaSeen l k)) (bitOr ctl (l .sdaoen))) >>= tried q l device) (suc (m + c))
+      by true g = looks k (m + c) (omega arith) ctl
+      by false g = λ answers w t. omega (arith, g refl, puts (get l (sdaSeen l k)) 0 (suc c) (omega arith) (looks k c (omega arith)) (bitOr ctl (l .sdaoen)) answers w t)
+
+  releases : (m : ℕ) → Words l m → (k : Bus) → Left (suc (suc (suc (pick (eqb (l .sdaoen) 0) 0 2)))) (sda l true k) (suc (suc (suc (suc (m + c)))))
+  unfolding Left sda wait _>>=_
+  releases m h k ctl = puts (wait 3 (sdaFree l k)) _ (suc (suc (m + c))) (omega arith) (λ ctl. asked l _ _ _ _ (λ a. frees m h k ctl)) _
+
+  reads : (k : Bus) (i n : ℕ) → c ≤ n → Left i k n → Left (suc i) (look l k) (suc n)
+  unfolding Left look lookSeen get _>>=_
+  reads k i n h d ctl = asked l _ _ i n (λ a. held (lookSeen l k) i n h (λ v _. d (bitOr v (l .bben))) ctl (raw a))
+
+  begins : (k : Bus) (i n : ℕ) → Left i k n → (r : R ℕ) → AtMost l i (orErr (begun q l device k) r) n
+  unfolding Left orErr begun run
+  begins k i n d (Ok ctl) = d ctl
+  begins k i n d (Err e) = λ answers w t. omega arith
+
+  first-look-by : (m : ℕ) → Words l m → (k : Bus) → AtMost l (LOOK-AT l) (attempt q l device (look l (sda l true k))) (suc (suc (suc (suc (suc (suc (m + c)))))))
+  unfolding attempt attempting _>>=_ Awaited run
+  first-look-by m h k = asked l _ _ _ _ (λ a. begins (look l (sda l true k)) _ _ (reads (sda l true k) _ _ (omega arith) (releases m h k)) (raw a))
+
+-- whatever comes after the start
+pub first-look : (q : Sequence) (l : Layout) (m : ℕ) → Words l m → (device : ℕ) (k : Bus) → AtMost l (LOOK-AT l) (attempt q l device (start l k)) (FIRST-LOOK-STEPS q m)
+unfolding clearing start
+first-look Pulses l m h device k answers w t = omega (arith, first-look-by Pulses l device (24085 + 4 * m) (clear-by l m h) m h _ answers w t)
+first-look Rounds l m h device k answers w t = omega (arith, first-look-by Rounds l device (22076 + 2 * m) (clear-rounds-by l m h) m h _ answers w t)
+
+-- so of every list of commands that begins with a start
+pub first-look-transfer : (q : Sequence) (l : Layout) (m : ℕ) → Words l m → (mode : Mode) (device : ℕ) (cs : List Command) (t : Taken)
+    → AtMost l (LOOK-AT l) (attempt q l device (transfer mode l device (Start ∷ cs) t)) (FIRST-LOOK-STEPS q m)
+unfolding transfer did
+first-look-transfer q l m h mode device cs t = first-look q l m h device _
 
 -- on the 82599's layout 24,091 and 22,082, on any 24,101 and 22,088
-pub first-look-82599 : (q : Sequence) (device : ℕ) → Ends (attempt q L82599 device (look L82599 (sda L82599 true (fail (I2c 0))))) (FIRST-LOOK-STEPS q 0)
-first-look-82599 q device = first-look-ends q L82599 0 no-words device
+pub first-look-82599 : (q : Sequence) (device : ℕ) (k : Bus) → AtMost L82599 (LOOK-AT L82599) (attempt q L82599 device (start L82599 k)) (FIRST-LOOK-STEPS q 0)
+first-look-82599 q device k = first-look q L82599 0 no-words device k
 
-pub first-look-any : (q : Sequence) (l : Layout) (device : ℕ) → Ends (attempt q l device (look l (sda l true (fail (I2c 0))))) (FIRST-LOOK-STEPS q PUT-STEPS)
-first-look-any q l device = first-look-ends q l PUT-STEPS (any-words l) device
+pub first-look-any : (q : Sequence) (l : Layout) (device : ℕ) (k : Bus) → AtMost l (LOOK-AT l) (attempt q l device (start l k)) (FIRST-LOOK-STEPS q PUT-STEPS)
+first-look-any q l device k = first-look q l PUT-STEPS (any-words l) device k
 
 pub first-look-steps : (FIRST-LOOK-STEPS Pulses 0 ≡ 24091) × (FIRST-LOOK-STEPS Rounds 0 ≡ 22082) × (FIRST-LOOK-STEPS Pulses PUT-STEPS ≡ 24101) × (FIRST-LOOK-STEPS Rounds PUT-STEPS ≡ 22088)
 first-look-steps = (refl, refl, refl, refl)

@@ -15,7 +15,7 @@ use Rattle.bus.specs.declared.command.Command.the-variants.{Start, Send, Read, 
 use Rattle.hardware.specs.Failures.{Failure, I2c}
 use Rattle.bus.specs.Bus.{Bus, none, fail, orHeld, flushing, put, get, wait, look, lookSeen, sda, sdaFree, sdaSeen, start}
 use Rattle.bus.specs.Layout.{L82599}
-use Rattle.bus.specs.Steps.{PUT-STEPS, SEND-STEPS, CLEAR-STEPS, CLEAR-ROUNDS-STEPS}
+use Rattle.bus.specs.Steps.{PUT-STEPS, GET-STEPS, WAIT-STEPS, SEND-STEPS, CLEAR-STEPS, CLEAR-ROUNDS-STEPS}
 use Rattle.bus.proofs.Ends.{EndsBus, bus-more, done-ends, fail-ends, Words, any-words, no-words, look-ends, sda-by, clear-by, clear-rounds-by, start-ends, send-ends, in-byte-ends, out-bit-ends, stop-ends, free-ends, clear-ends, clear-rounds-ends, jobAfter, clearAfter, job-rest-ends, clear-rest-ends}
 use Rattle.transfer.specs.declared.attempt.Sequence.{Sequence}
 use Rattle.transfer.specs.declared.attempt.Sequence.the-variants.{Pulses, Rounds}
@@ -142,10 +142,14 @@ AtMost l i p n = (answers : List Answer) → Awaited p answers → LowAt l i ans
 abbrev pub LOOK-AT : Layout → ℕ
 LOOK-AT l = suc (suc (suc (suc (suc (pick (eqb (l .sdaoen) 0) 0 2)))))
 
--- m: the accesses of a further word, none on the 82599's layout
+-- the further words in a clearing sequence, which the 82599's layout does not put: in each start, and two in a stop
+abbrev WORDS : Sequence → ℕ
+WORDS Pulses = 4
+WORDS Rounds = 2
+
+-- I2CCTL read, the start up to its look, and the clearing; m: the accesses of a further word
 abbrev pub FIRST-LOOK-STEPS : Sequence → ℕ → ℕ
-FIRST-LOOK-STEPS Pulses m = 24091 + 5 * m
-FIRST-LOOK-STEPS Rounds m = 22082 + 3 * m
+FIRST-LOOK-STEPS q m = GET-STEPS + (GET-STEPS + PUT-STEPS + WAIT-STEPS + m + GET-STEPS) + (CLEARING-STEPS q - WORDS q * PUT-STEPS + WORDS q * m)
 
 ends-few : {A : Type 0} (p : Prog A) (n : ℕ) → Ends p n → (answers : List Answer) → Awaited p answers → length ((run p answers) .accesses) ≤ n
 unfolding Ends Awaited run onAnswer

@@ -73,12 +73,17 @@ switch-joins port m = by (hasMux port)
     by true = joined-set true (m .esdp)
     by false = refl
 
-pub locked-sound : (port : Port) (lock : Bool) (m : CountedBench) → (hasMux port ≡ true → Sound (m .esdp)) → hasMux port ≡ true → Sound (lockedBy port lock m .esdp)
+-- without the lock nothing is asked of ESDP
+pub fit-sound : (port : Port) (lock : Bool) (w : ℕ) (m : CountedBench) → (lock ≡ true → Fit port w m) → (lock && hasMux port) ≡ true → Sound (m .esdp)
+fit-sound port true w m f h = f refl .sound h
+fit-sound port false w m f h = absurd (false≢true h)
+
+pub locked-sound : (port : Port) (lock : Bool) (m : CountedBench) → ((lock && hasMux port) ≡ true → Sound (m .esdp)) → (lock && hasMux port) ≡ true → Sound (lockedBy port lock m .esdp)
 unfolding pick
 locked-sound port true m s h = switch-sound port true m s h
 locked-sound port false m s h = s h
 
-pub unlocked-sound : (port : Port) (lock : Bool) (m : CountedBench) → (hasMux port ≡ true → Sound (m .esdp)) → hasMux port ≡ true → Sound (unlockedBy port lock m .esdp)
+pub unlocked-sound : (port : Port) (lock : Bool) (m : CountedBench) → ((lock && hasMux port) ≡ true → Sound (m .esdp)) → (lock && hasMux port) ≡ true → Sound (unlockedBy port lock m .esdp)
 unfolding pick
 unlocked-sound port true m s h = switch-sound port false m s h
 unlocked-sound port false m s h = s h
@@ -208,17 +213,17 @@ module _ (q : Sequence) (port : Port) where
       (unmuxed-alone (world w (switch port false m)) _ k))))
 
   module _ (w : ℕ) (m : CountedBench) (Q : R Taken → BenchWorld → Type 0) where
-    pub lock-alone : (on : Bool) (k : Prog (R Taken)) → Fit port w m → Always (layoutOf (port .family)) (watched q port) k (world w (lockedBy port on m)) Q
+    pub lock-alone : (on : Bool) (k : Prog (R Taken)) → (on ≡ true → Fit port w m) → Always (layoutOf (port .family)) (watched q port) k (world w (lockedBy port on m)) Q
         → Always (layoutOf (port .family)) (watched q port) (whenLock on (acquire port (mask port)) k) (world w m) Q
     unfolding whenLock pick orErr
-    lock-alone true k f h = always-bind _ _ _ _ (world w m) Q (acquire-alone w m _ f h)
+    lock-alone true k f h = always-bind _ _ _ _ (world w m) Q (acquire-alone w m _ (f refl) h)
     lock-alone false k f h = h
 
-    pub unlock-alone : (on : Bool) (k : Prog (R Taken)) → Fit port w m → (hasMux port ≡ true → Settled q nobody m)
+    pub unlock-alone : (on : Bool) (k : Prog (R Taken)) → (on ≡ true → Fit port w m) → (hasMux port ≡ true → Settled q nobody m)
         → Always (layoutOf (port .family)) (watched q port) k (world w (unlockedBy port on m)) Q
         → Always (layoutOf (port .family)) (watched q port) (whenLock on (release port (mask port)) k) (world w m) Q
     unfolding whenLock pick orErr
-    unlock-alone true k f left h = always-bind _ _ _ _ (world w m) Q (release-alone w m _ f left h)
+    unlock-alone true k f left h = always-bind _ _ _ _ (world w m) Q (release-alone w m _ (f refl) left h)
     unlock-alone false k f left h = h
 
     pub pause-alone : (ms : ℕ) (k : Unit {0} → Prog (R Taken)) → Always (layoutOf (port .family)) (watched q port) (k tt) (world w m) Q

@@ -184,7 +184,7 @@ allowed-possible port =
 -- for a write too, with the lock and without
 pub write-starts-possible : (port : Port) (lock : Bool) → WriteStarts port lock freeStart
 unfolding joins noneOf
-write-starts-possible port lock = record { allowed = allowed-possible port; joined = λ _. on (hasMux port) }
+write-starts-possible port lock = record { fit = allowed-possible port .fit; mux = λ _. allowed-possible port .mux; joined = λ _. on (hasMux port) }
   where
     on : (b : Bool) → joins b 2 ≡ true
     on true = refl

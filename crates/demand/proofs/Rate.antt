@@ -71,7 +71,7 @@ module _ (q : Sequence) (port : Port) (ten : Bool) where
           → Continues q port m Q j (transferred port (WriteByte DIAG offset (selected ten (byteAt A2 (m .bench) offset))) (locked q) 2 >>= orNot k (λ _. k ok))
       write j e n u f =
           always-bind _ _ (transferred port (WriteByte DIAG offset (selected ten (byteAt A2 (m .bench) offset))) (locked q) 2) _ (world u n) Q
-          (call-writes A2 offset _ small (selected-small ten _ v) q port true u n false false _ (after-fit f) (λ e. absurd (false≢true (sym e))) (f .rests)
+          (call-writes A2 offset _ small (selected-small ten _ v) q port true u n false false _ (λ _. after-fit f) (λ e. absurd (false≢true (sym e))) (f .rests)
           (λ held. absurd (idle-held n (f .idle) held))
           (λ o y g. h o y (counted-as (omega (arith, e, idle-extra n (f .idle))) (after-then (wrote-after A2 offset _ f) g))))
 

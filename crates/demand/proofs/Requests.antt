@@ -44,16 +44,19 @@ abbrev pub bytes : CountedBench → ℕ → ℕ
 bytes m i = byteAt A0 (m .bench) i
 
 -- the module at n, when j transfers were made since m and all went well: idle, the bytes as they were, both lines released, and
--- ESDP as a mux needs it
-pub record After (port : Port) (m : CountedBench) (j : ℕ) (n : CountedBench) (w : ℕ) : Type 0 where
+-- ESDP as a mux needs it, where one is to be switched
+pub record Since (l : Layout) (mux : Bool) (m : CountedBench) (j : ℕ) (n : CountedBench) (w : ℕ) : Type 0 where
   pub idle : n .bench .receiver .stage ≡ Idle
   pub a0 : n .bench .a0 .bytes ≡ m .bench .a0 .bytes
   pub a2 : n .bench .a2 .bytes ≡ m .bench .a2 .bytes
   pub made : n .meter .transfers ≡ j + m .meter .transfers
-  pub rests : Rests (layoutOf (port .family)) (drawn false false) w
-  pub sound : hasMux port ≡ true → Sound (n .esdp)
+  pub rests : Rests l (drawn false false) w
+  pub sound : mux ≡ true → Sound (n .esdp)
 
-pub after-then : {port : Port} {m n o : CountedBench} {i j w v : ℕ} → After port m j n w → After port n i o v → After port m (i + j) o v
+abbrev pub After : Port → CountedBench → ℕ → CountedBench → ℕ → Type 0
+After port = Since (layoutOf (port .family)) (hasMux port)
+
+pub after-then : {l : Layout} {x : Bool} {m n o : CountedBench} {i j w v : ℕ} → Since l x m j n w → Since l x n i o v → Since l x m (i + j) o v
 after-then h k = record { idle = k .idle; a0 = k .a0 ∙ h .a0; a2 = k .a2 ∙ h .a2; made = omega (arith, k .made, h .made); rests = k .rests; sound = k .sound }
 
 -- so that the next request may take its lock
@@ -65,14 +68,14 @@ same-byte : (b c : Bench) (page : Chosen) (i : ℕ) → b .a0 .bytes ≡ c .a0 .
 same-byte b c A0 i e f = ap (λ l. getD l i 0) e
 same-byte b c A2 i e f = ap (λ l. getD l i 0) f
 
-pub after-byte : {port : Port} {m n : CountedBench} {j w : ℕ} (page : Chosen) (i : ℕ) → After port m j n w → byteAt page (n .bench) i ≡ byteAt page (m .bench) i
+pub after-byte : {l : Layout} {x : Bool} {m n : CountedBench} {j w : ℕ} (page : Chosen) (i : ℕ) → Since l x m j n w → byteAt page (n .bench) i ≡ byteAt page (m .bench) i
 after-byte {m = m} {n} page i h = same-byte (n .bench) (m .bench) page i (h .a0) (h .a2)
 
 -- a count of transfers, written otherwise
-pub counted-as : {port : Port} {m o : CountedBench} {i j v : ℕ} → i ≡ j → After port m i o v → After port m j o v
-counted-as {port} {m} {o} {v = v} e h = subst (λ i. After port m i o v) e h
+pub counted-as : {l : Layout} {x : Bool} {m o : CountedBench} {i j v : ℕ} → i ≡ j → Since l x m i o v → Since l x m j o v
+counted-as {l} {x} {m} {o} {v = v} e h = subst (λ i. Since l x m i o v) e h
 
-pub later : {port : Port} {m n o : CountedBench} {j w v : ℕ} → After port m j n w → After port n 1 o v → After port m (suc j) o v
+pub later : {l : Layout} {x : Bool} {m n o : CountedBench} {j w v : ℕ} → Since l x m j n w → Since l x n 1 o v → Since l x m (suc j) o v
 later h k = counted-as (omega arith) (after-then h k)
 
 -- an idle module does not pull SDA
@@ -92,7 +95,7 @@ pub allowed-fit : {port : Port} {start : Start} (b : Bench) → Allowed port sta
 allowed-fit b h = record { released = λ e. h .mux e .released; sound = λ e. h .mux e .sound }
 
 -- what a call leaves that began there, where all went well
-pub after-leaves : {port : Port} (start : Start) (b : Bench) {i j w : ℕ} {n : CountedBench} → After port (begun start b) i n w → i ≡ j → Leaves (layoutOf (port .family)) b j (world w n)
+pub after-leaves : {l : Layout} {x : Bool} (start : Start) (b : Bench) {i j w : ℕ} {n : CountedBench} → Since l x (begun start b) i n w → i ≡ j → Leaves l b j (world w n)
 after-leaves start b {n = n} a e =
     record {
       a0 = a .a0;
@@ -107,12 +110,12 @@ pub leaves-byte : {l : Layout} {b : Bench} {j : ℕ} {w : BenchWorld} (page : Ch
 leaves-byte {b = b} {w = w} page i h = same-byte (w .other .bench) b page i (h .a0) (h .a2)
 
 -- an attempt went well, ESDP being f meanwhile and e after it
-pub kept-after : {port : Port} (m n : CountedBench) (f e : ℕ) {v : ℕ} → n .bench .receiver .stage ≡ Idle → Kept (more (at f m)) n
-    → Rests (layoutOf (port .family)) (drawn false false) v → (hasMux port ≡ true → Sound e) → After port m 1 (at e n) v
+pub kept-after : {l : Layout} {x : Bool} (m n : CountedBench) (f e : ℕ) {v : ℕ} → n .bench .receiver .stage ≡ Idle → Kept (more (at f m)) n
+    → Rests l (drawn false false) v → (x ≡ true → Sound e) → Since l x m 1 (at e n) v
 kept-after m n f e idle kept rests sound = record { idle = idle; a0 = kept .a0; a2 = kept .a2; made = omega (arith, kept .made); rests = rests; sound = sound }
 
 -- the same beside another ESDP
-pub after-at : {port : Port} {j v : ℕ} (m n : CountedBench) (f e : ℕ) → After port (at f m) j n v → (hasMux port ≡ true → Sound e) → After port m j (at e n) v
+pub after-at : {l : Layout} {x : Bool} {j v : ℕ} (m n : CountedBench) (f e : ℕ) → Since l x (at f m) j n v → (x ≡ true → Sound e) → Since l x m j (at e n) v
 after-at m n f e h sound = record { idle = h .idle; a0 = h .a0; a2 = h .a2; made = h .made; rests = h .rests; sound = sound }
 
 -- what a release finds
@@ -159,7 +162,7 @@ module _ (q : Sequence) (port : Port) (page : Chosen) (offset : ℕ) (small : of
       → Always (layoutOf (port .family)) (watched q port) (whenLock true (release port (mask port)) k) (world v n) Q
   unfolding pick
   back w v m n Q k f rests s left h =
-      Handshake.unlock-alone q port v n Q true k (record { released = λ _. rests .lines; sound = λ e. rw s (switch-sound port true m (f .sound) e) }) (λ _. left) h
+      Handshake.unlock-alone q port v n Q true k (λ _. record { released = λ _. rests .lines; sound = λ e. rw s (switch-sound port true m (f .sound) e) }) (λ _. left) h
 
   -- and ESDP is then as it has to be
   back-sound : (w : ℕ) (m n : CountedBench) → Fit port w m → n .esdp ≡ switch port true m .esdp → hasMux port ≡ true → Sound (switch port false n .esdp)
@@ -178,7 +181,7 @@ module _ (q : Sequence) (port : Port) (page : Chosen) (offset : ℕ) (small : of
       → Always (layoutOf (port .family)) (watched q port) (readTries port (ReadByte (addressOf page) offset) (locked q) (suc left)) (world w m) Q
   unfolding readTries once body deviceOf readJudged failedI2c pick Always
   tries-read left w m a b Q f r v free h =
-      Handshake.lock-alone q port w m Q true _ f
+      Handshake.lock-alone q port w m Q true _ (λ _. f)
       (always-bind _ _ (once port (ReadByte (addressOf page) offset) (locked q)) _ (world w (switch port true m)) Q
       (through q port w (switch port true m) (switch-joins port m) (Judged left Q) (once port (ReadByte (addressOf page) offset) (locked q))
       (Attempts.attempt-reads q (layoutOf (port .family)) (distinct (port .family)) page offset w (switch port true m) a b (λ r v. v .other .esdp ≡ switch port true m .esdp → Judged left Q r v) r small v free
@@ -191,7 +194,7 @@ module _ (q : Sequence) (port : Port) (page : Chosen) (offset : ℕ) (small : of
       → Always (layoutOf (port .family)) (watched q port) (readTries port (ReadByte (addressOf page) offset) (locked q) (suc (suc left))) (world w m) Q
   unfolding readTries once body deviceOf readJudged failedI2c isI2c pauses pick
   tries-clear left w m a b Q f r v held s h =
-      Handshake.lock-alone q port w m Q true _ f
+      Handshake.lock-alone q port w m Q true _ (λ _. f)
       (always-bind _ _ (once port (ReadByte (addressOf page) offset) (locked q)) _ (world w (switch port true m)) Q
       (through q port w (switch port true m) (switch-joins port m) (Judged (suc left) Q) (once port (ReadByte (addressOf page) offset) (locked q))
       (Attempts.attempt-clears q (layoutOf (port .family)) (distinct (port .family)) (addressOf page) _ w (switch port true m) a b (λ r v. v .other .esdp ≡ switch port true m .esdp → Judged (suc left) Q r v) r held s
@@ -213,7 +216,7 @@ module _ (q : Sequence) (port : Port) (page : Chosen) (offset : ℕ) (small : of
   unfolding readTries once body deviceOf readJudged failedI2c isI2c pauses pick Always
   tries-fail zero w m a b Q f r e h = h m w (omega arith)
   tries-fail (suc left) w m a b Q f r e h =
-      Handshake.lock-alone q port w m Q true _ f
+      Handshake.lock-alone q port w m Q true _ (λ _. f)
       (always-bind _ _ (once port (ReadByte (addressOf page) offset) (locked q)) _ (world w (switch port true m)) Q
       (through q port w (switch port true m) (switch-joins port m) (Judged left Q) (once port (ReadByte (addressOf page) offset) (locked q))
       (Attempts.attempt-stays q (layoutOf (port .family)) (distinct (port .family)) (addressOf page) _ w (switch port true m) a b (λ r v. v .other .esdp ≡ switch port true m .esdp → Judged left Q r v) r e

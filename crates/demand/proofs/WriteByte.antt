@@ -2,7 +2,7 @@
 -- every list of answers that meets the premises: only the byte that it names changes.
 use Prim.Native.Nat.{ℕ, _+_, _<_, _≤_, suc}
 use mathlib.Core.Path.{_≡_, refl, ap, _∙_}
-use mathlib.Core.Bool.{Bool, true, false}
+use mathlib.Core.Bool.{Bool, true, false, _&&_}
 use mathlib.Core.List.{List}
 use lib.ListN.{length, set}
 use lib.Seq.{getD-set-same, getD-set-other}
@@ -40,8 +40,8 @@ use Rattle.demand.specs.WriteClaim.{addressOf, written, WriteStarts, Wri
 use Rattle.demand.proofs.Receiver.{with, asked, receive-taking, taking-free, idle-free, expecting}
 use Rattle.demand.proofs.ReadByte.{Kept, kept-then, byteAt, stops, byte-sent, offset-sent}
 use Rattle.demand.proofs.Attempts.{more, Frees, begins, attempt-clears}
-use Rattle.demand.proofs.Handshake.{world, Fit, lockedBy, unlockedBy, locked-sound, unlocked-sound, locked-joins}
-use Rattle.demand.proofs.Requests.{After, after-fit, after-at, later, counted-as, begun, allowed-fit, after-leaves, leaves-byte, kept-after, idle-settled, around, Joined, through}
+use Rattle.demand.proofs.Handshake.{world, Fit, lockedBy, unlockedBy, fit-sound, locked-sound, unlocked-sound, locked-joins}
+use Rattle.demand.proofs.Requests.{Since, after-at, later, counted-as, begun, after-leaves, leaves-byte, kept-after, idle-settled, around, Joined, through}
 use Rattle.demand.proofs.Handshake as Handshake
 use Rattle.demand.proofs.Runs.{Steady, run-steady, run-ended, run-told}
 
@@ -56,7 +56,7 @@ stored-kept A0 offset value r m = record { a0 = refl; a2 = refl; made = refl }
 stored-kept A2 offset value r m = record { a0 = refl; a2 = refl; made = refl }
 
 -- the same with that byte set before and after
-pub wrote-after : {port : Port} {m n : CountedBench} {j w : ℕ} (page : Chosen) (offset value : ℕ) → After port m j n w → After port (wrote page offset value m) j (wrote page offset value n) w
+pub wrote-after : {l : Layout} {x : Bool} {m n : CountedBench} {j w : ℕ} (page : Chosen) (offset value : ℕ) → Since l x m j n w → Since l x (wrote page offset value m) j (wrote page offset value n) w
 unfolding written
 wrote-after A0 offset value h = record { idle = h .idle; a0 = ap (λ bytes. set bytes offset value) (h .a0); a2 = h .a2; made = h .made; rests = h .rests; sound = h .sound }
 wrote-after A2 offset value h = record { idle = h .idle; a0 = h .a0; a2 = ap (λ bytes. set bytes offset value) (h .a2); made = h .made; rests = h .rests; sound = h .sound }
@@ -96,6 +96,10 @@ module _ (page : Chosen) (offset value : ℕ) (small : offset < 256) (byte : val
         (write-byte a b (more m) (addressOf page) free (λ n idle kept. record { goes = λ ctl v rests. h n v idle kept rests }))
 
   module _ (q : Sequence) (port : Port) (lock : Bool) where
+    -- as `After`, but without the lock the mux is not switched
+    abbrev Written : CountedBench → ℕ → CountedBench → ℕ → Type 0
+    Written = Since (layoutOf (port .family)) (lock && hasMux port)
+
     -- what comes after an attempt, with so many left
     abbrev Judged : ℕ → (R Taken → BenchWorld → Type 0) → R Taken → BenchWorld → Type 0
     Judged left Q result v =
@@ -103,9 +107,9 @@ module _ (page : Chosen) (offset value : ℕ) (small : offset < 256) (byte : val
         (pick (failedI2c result) (writeTries port (WriteByte (addressOf page) offset value) (making lock q) left result) (ret result)) v Q
 
     -- with SDA free one attempt does
-    tries-write : (left w : ℕ) (m : CountedBench) (before : R Taken) (a b : Bool) (Q : R Taken → BenchWorld → Type 0) → Joined port m → (hasMux port ≡ true → Sound (m .esdp))
+    tries-write : (left w : ℕ) (m : CountedBench) (before : R Taken) (a b : Bool) (Q : R Taken → BenchWorld → Type 0) → Joined port m → ((lock && hasMux port) ≡ true → Sound (m .esdp))
         → Rests (layoutOf (port .family)) (drawn a b) w → direct .pulls m .sda ≡ false
-        → ((n : CountedBench) (v : ℕ) → After port (wrote page offset value m) 1 n v → n .esdp ≡ m .esdp → Q (Ok none) (world v n))
+        → ((n : CountedBench) (v : ℕ) → Written (wrote page offset value m) 1 n v → n .esdp ≡ m .esdp → Q (Ok none) (world v n))
         → Always (layoutOf (port .family)) (watched q port) (writeTries port (WriteByte (addressOf page) offset value) (making lock q) (suc left) before) (world w m) Q
     unfolding writeTries once deviceOf failedI2c pick Always
     tries-write left w m before a b Q on sound r free h =
@@ -115,9 +119,9 @@ module _ (page : Chosen) (offset value : ℕ) (small : offset < 256) (byte : val
         (λ n v idle kept rests s. h n v (kept-after (wrote page offset value m) n (m .esdp) (n .esdp) idle kept rests (λ e. rw s (sound e))) s)))
 
     -- where the sequence frees it, the first attempt clears and the second writes
-    tries-clear : (left w : ℕ) (m : CountedBench) (before : R Taken) (a b : Bool) (Q : R Taken → BenchWorld → Type 0) → Joined port m → (hasMux port ≡ true → Sound (m .esdp))
+    tries-clear : (left w : ℕ) (m : CountedBench) (before : R Taken) (a b : Bool) (Q : R Taken → BenchWorld → Type 0) → Joined port m → ((lock && hasMux port) ≡ true → Sound (m .esdp))
         → Rests (layoutOf (port .family)) (drawn a b) w → direct .pulls m .sda ≡ true → Frees q (m .bench .receiver)
-        → ((n : CountedBench) (v : ℕ) → After port (wrote page offset value m) 2 n v → n .esdp ≡ m .esdp → Q (Ok none) (world v n))
+        → ((n : CountedBench) (v : ℕ) → Written (wrote page offset value m) 2 n v → n .esdp ≡ m .esdp → Q (Ok none) (world v n))
         → Always (layoutOf (port .family)) (watched q port) (writeTries port (WriteByte (addressOf page) offset value) (making lock q) (suc (suc left)) before) (world w m) Q
     unfolding writeTries once body deviceOf failedI2c isI2c pick
     tries-clear left w m before a b Q on sound r held f h =
@@ -126,16 +130,16 @@ module _ (page : Chosen) (offset value : ℕ) (small : offset < 256) (byte : val
         (attempt-clears q (layoutOf (port .family)) (distinct (port .family)) (addressOf page) _ w m a b (λ r v. v .other .esdp ≡ m .esdp → Judged (suc left) Q r v) r held f
         (λ n u idle kept rests s. again n u s (kept-after m n (m .esdp) (n .esdp) idle kept rests (λ e. rw s (sound e))))))
       where
-        again : (n : CountedBench) (u : ℕ) → n .esdp ≡ m .esdp → After port m 1 n u
+        again : (n : CountedBench) (u : ℕ) → n .esdp ≡ m .esdp → Written m 1 n u
             → Always (layoutOf (port .family)) (watched q port) (writeTries port (WriteByte (addressOf page) offset value) (making lock q) (suc left) (Err (I2c (addressOf page)))) (world u n) Q
         again n u s k =
             tries-write left u n (Err (I2c (addressOf page))) false false Q (ap (joins (hasMux port)) s ∙ on) (k .sound) (k .rests) (idle-free (n .bench .receiver) n (k .idle))
             (λ o y g t. h o y (later (wrote-after page offset value k) g) (t ∙ s))
 
     -- the call; an attempt more where the module pulls SDA at its beginning
-    pub call-writes : (w : ℕ) (m : CountedBench) (a b : Bool) (Q : R ℕ → BenchWorld → Type 0) → Fit port w m → (lock ≡ false → Joined port m) → Rests (layoutOf (port .family)) (drawn a b) w
+    pub call-writes : (w : ℕ) (m : CountedBench) (a b : Bool) (Q : R ℕ → BenchWorld → Type 0) → (lock ≡ true → Fit port w m) → (lock ≡ false → Joined port m) → Rests (layoutOf (port .family)) (drawn a b) w
         → (direct .pulls m .sda ≡ true → Frees q (m .bench .receiver))
-        → ((n : CountedBench) (v : ℕ) → After port (wrote page offset value m) (1 + extra (m .bench)) n v → Q (Ok 0) (world v n))
+        → ((n : CountedBench) (v : ℕ) → Written (wrote page offset value m) (1 + extra (m .bench)) n v → Q (Ok 0) (world v n))
         → Always (layoutOf (port .family)) (watched q port) (transferred port (WriteByte (addressOf page) offset value) (making lock q) 2) (world w m) Q
     unfolding handshaken retried isWrite writes givenUp deviceOf valueOf read-off pick Always
     call-writes w m a b Q fit joined r frees h =
@@ -143,10 +147,10 @@ module _ (page : Chosen) (offset value : ℕ) (small : offset < 256) (byte : val
         (Handshake.lock-alone q port w m _ lock _ fit
         (always-bind _ _ (writeTries port (WriteByte (addressOf page) offset value) (making lock q) 2 _) _ (world w (lockedBy port lock m)) _ (by (pullsLow (m .bench)) refl)))
       where
-        over : (j : ℕ) → j ≡ 1 + extra (m .bench) → (n : CountedBench) (v : ℕ) → After port (wrote page offset value (lockedBy port lock m)) j n v → n .esdp ≡ lockedBy port lock m .esdp
+        over : (j : ℕ) → j ≡ 1 + extra (m .bench) → (n : CountedBench) (v : ℕ) → Written (wrote page offset value (lockedBy port lock m)) j n v → n .esdp ≡ lockedBy port lock m .esdp
             → Always (layoutOf (port .family)) (watched q port) (givenUp port lock (Ok none)) (world v n) (λ t u. Q (valueOf (WriteByte (addressOf page) offset value) t) u)
         over j e n v k s =
-            Handshake.unlock-alone q port v n _ lock _ (after-fit k) (λ _. idle-settled q n (k .idle))
+            Handshake.unlock-alone q port v n _ lock _ (λ e. record { released = λ _. k .rests .lines; sound = λ h. k .sound (rw e h) }) (λ _. idle-settled q n (k .idle))
             (h (unlockedBy port lock n) v
             (counted-as e (after-at (wrote page offset value m) n (lockedBy port lock m .esdp) (unlockedBy port lock n .esdp) k (unlocked-sound port lock n (k .sound)))))
 
@@ -154,15 +158,15 @@ module _ (page : Chosen) (offset value : ℕ) (small : offset < 256) (byte : val
             → Always (layoutOf (port .family)) (watched q port) (writeTries port (WriteByte (addressOf page) offset value) (making lock q) 2 (Err (I2c (addressOf page)))) (world w (lockedBy port lock m))
             (λ t v. Always (layoutOf (port .family)) (watched q port) (givenUp port lock t) v (λ t u. Q (valueOf (WriteByte (addressOf page) offset value) t) u))
         by false e =
-            tries-write 1 w (lockedBy port lock m) (Err (I2c (addressOf page))) a b _ (locked-joins port lock m joined) (locked-sound port lock m (fit .sound)) r e (over 1 (rw e))
+            tries-write 1 w (lockedBy port lock m) (Err (I2c (addressOf page))) a b _ (locked-joins port lock m joined) (locked-sound port lock m (fit-sound port lock w m fit)) r e (over 1 (rw e))
         by true e =
-            tries-clear 0 w (lockedBy port lock m) (Err (I2c (addressOf page))) a b _ (locked-joins port lock m joined) (locked-sound port lock m (fit .sound)) r e (frees e) (over 2 (rw e))
+            tries-clear 0 w (lockedBy port lock m) (Err (I2c (addressOf page))) a b _ (locked-joins port lock m joined) (locked-sound port lock m (fit-sound port lock w m fit)) r e (frees e) (over 2 (rw e))
 
   module _ (port : Port) (lock : Bool) (b : Bench) (start : Start) (answers : List Answer) (s : WriteStarts port lock start)
       (m : CallPremises port (writeCall port page offset value lock) b start answers) where
     started : Always (layoutOf (port .family)) (watched standard port) (writeCall port page offset value lock) (atStart start b) (WriteFacts (layoutOf (port .family)) b page offset value)
     started =
-        call-writes standard port lock (start .word) (begun start b) _ _ _ (allowed-fit b (s .allowed)) (s .joined) (rests (layoutOf (port .family)) (start .word) (s .allowed .fit)) (λ _. tt)
+        call-writes standard port lock (start .word) (begun start b) _ _ _ (λ e. record { released = λ h. s .mux e h .released; sound = λ h. s .mux e h .sound }) (s .joined) (rests (layoutOf (port .family)) (start .word) (s .fit)) (λ _. tt)
         (λ n v k. record { result = refl; leaves = after-leaves start (written page offset value b) k refl })
 
     -- A byte written with the bench module, whenever the call has come to its end

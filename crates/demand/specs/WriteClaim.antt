@@ -10,6 +10,7 @@ use Rattle.hardware.specs.declared.Port.{Port}
 use Rattle.hardware.specs.Prog.{Prog, R, Ok}
 use Rattle.bus.specs.declared.Layout.{Layout}
 use Rattle.bus.specs.Layout.{layoutOf}
+use Rattle.wire.specs.Lines.{ready}
 use Rattle.bench.specs.declared.Bench.{Bench}
 use Rattle.bench.specs.declared.Page.{Page}
 use Rattle.bench.specs.Mux.{hasMux, joins}
@@ -18,7 +19,7 @@ use Rattle.bench.specs.declared.receiver.Chosen.the-variants.{A0, A2}
 use Rattle.i2c.specs.declared.once.Request.the-variants.{WriteByte}
 use Rattle.i2c.specs.I2c.{standard, making, transferred}
 use Rattle.sfp.specs.Rate.{selected, softRateSelect}
-use Rattle.demand.specs.Claim.{BenchWorld, Start, Allowed, byteOf, Leaves, extra, CallComes}
+use Rattle.demand.specs.Claim.{BenchWorld, Start, Switchable, Allowed, byteOf, Leaves, extra, CallComes}
 
 -- the device of a page
 abbrev pub addressOf : Chosen → ℕ
@@ -49,9 +50,11 @@ pub record RateFacts (l : Layout) (b : Bench) (ten : Bool) (r : R Bool) (w : Ben
   pub result : r ≡ Ok true
   pub leaves : Leaves l (rated ten b) (4 + extra b) w
 
--- A write's start: the registers are as 01 and S-6 allow, and without the lock, which switches the mux, the mux is on
+-- A write's start: with the lock, which switches the mux, the registers are as `Allowed` says; without it, which leaves ESDP alone, I2CCTL
+-- is as 01 allows and the mux is on
 pub record WriteStarts (port : Port) (lock : Bool) (start : Start) : Type 0 where
-  pub allowed : Allowed port start
+  pub fit : ready (layoutOf (port .family)) (start .word) ≡ true
+  pub mux : lock ≡ true → hasMux port ≡ true → Switchable (layoutOf (port .family)) start
   pub joined : lock ≡ false → joins (hasMux port) (start .esdp) ≡ true
 
 -- A rate select's: what it reads are bytes, too

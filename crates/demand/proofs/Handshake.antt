@@ -4,6 +4,7 @@ use Prim.Native.Nat.{ℕ, suc, zero}
 use mathlib.Core.Path.{_≡_, refl, ap, _∙_, sym}
 use mathlib.Core.Bool.{Bool, true, false, _&&_, false≢true}
 use lib.Dec.{eqb}
+use borrow.Author.Tests.{eqb-true}
 use Rattle.hardware.specs.declared.Access.{Access}
 use Rattle.hardware.specs.declared.Access.the-variants.{Read, Write}
 use Rattle.hardware.specs.declared.Answer.{Answer}
@@ -13,12 +14,12 @@ use Rattle.hardware.specs.declared.Port.{Port}
 use Rattle.hardware.specs.declared.change.Bits.{Bits}
 use Rattle.hardware.specs.declared.change.Change.{Change}
 use Rattle.hardware.specs.Asked.{is}
-use Rattle.hardware.specs.Prog.{Prog, R, Ok, orErr, _>>=_, _>>?_, pick}
+use Rattle.hardware.specs.Prog.{Prog, ret, R, Ok, orErr, _>>=_, _>>?_, pick}
 use Rattle.hardware.specs.Registers.{ESDP, noneOf, checked, written, flushed, flush, delayMs}
 use Rattle.hardware.specs.Change.{changed, settled, stored, change}
-use Rattle.sync.specs.Regs.{I2C, mux, setMux}
+use Rattle.sync.specs.Regs.{I2C, TOKEN, mux, setMux}
 use Rattle.sync.specs.Resource.{muxed, unmuxed, releaseBits}
-use Rattle.hostif.specs.Acquire.{withBits, acquiredAll, acquire, giveBits, release}
+use Rattle.hostif.specs.Acquire.{hwOf, withBits, acquiredAll, acquire, giveBits, release}
 use Rattle.transfer.specs.declared.attempt.Sequence.{Sequence}
 use Rattle.bus.specs.declared.Taken.{Taken}
 use Rattle.bus.specs.Layout.{x550em, layoutOf}
@@ -28,11 +29,11 @@ use Rattle.wire.specs.Always.{nobody, Meets, Answered, Always}
 use Rattle.wire.proofs.Always.{always-map, always-bind}
 use Rattle.bench.specs.Mux.{hasMux, joins}
 use Rattle.i2c.specs.I2c.{mask, qsfp, askBus, giveBus, granting, granted, givenBus, onGrant, withBus, whenLock}
-use Rattle.i2c.proofs.Masks.{mask-plain, mask-bits, mask-some}
+use Rattle.i2c.proofs.Masks.{mask-plain, mask-bits}
 use Rattle.demand.specs.Fine.{Fine}
 use Rattle.demand.specs.Claim.{CountedBench, BenchWorld, Sound}
 use Rattle.demand.specs.Mux.{Settled, Switches, watched}
-use Rattle.demand.proofs.Fine.{Beside, fair-is, fine-map, fine-try, fine-pick, fine-ok, fine-ret, fine-lapsed, fine-read, fine-delay, fine-flush, fine-change, fine-alone, alone-then}
+use Rattle.demand.proofs.Fine.{Beside, fair-is, fine-map, fine-try, fine-pick, fine-ret, fine-lapsed, fine-read, fine-delay, fine-flush, fine-change, fine-alone, alone-then}
 use Rattle.demand.proofs.Locks.{aside, esdp-apart, machine-unmoved, acquire-bits-always, unmuxed-fine, stays}
 use Rattle.demand.proofs.Mux.{sound-set, sound-clear, sound-present, mux-set, joined-set, sees-nobody, switched-nobody}
 
@@ -46,6 +47,10 @@ at e m = record { bench = m .bench; esdp = e; meter = m .meter }
 -- the same with the mux switched, where the port has one
 abbrev pub switch : Port → Bool → CountedBench → CountedBench
 switch port on m = at (pick (hasMux port) (changed (setMux on .bits) (m .esdp)) (m .esdp)) m
+
+-- the same where bits of SW_FW_SYNC are taken or given back
+abbrev pub switchFor : Port → ℕ → Bool → CountedBench → CountedBench
+switchFor port bits on m = at (pick (mux port bits) (changed (setMux on .bits) (m .esdp)) (m .esdp)) m
 
 -- the same where a call takes its lock, or gives it back, if it has one
 abbrev pub lockedBy : Port → Bool → CountedBench → CountedBench
@@ -112,6 +117,33 @@ mux-there port h = by (is (port .family) X552) (eqb (port .lan) 1) refl refl h
     by true false d e k = absurd (false≢true k)
     by false b d e k = absurd (false≢true k)
 
+-- no other port switches it
+mux-has : (port : Port) (bits : ℕ) → mux port bits ≡ true → hasMux port ≡ true
+unfolding hasMux mux pick
+mux-has port bits h = by (is (port .family) X552) (eqb (port .lan) 1) h
+  where
+    by : (a b : Bool) → pick a (pick b (pick (noneOf bits I2C) false true) false) false ≡ true → (a && b) ≡ true
+    by true true h = refl
+    by true false h = h
+    by false b h = h
+
+mux-none : (port : Port) (bits : ℕ) → eqb bits 0 ≡ true → mux port bits ≡ false
+unfolding mux pick noneOf
+mux-none port bits e = rw (eqb-true bits 0 e) (by (is (port .family) X552) (eqb (port .lan) 1))
+  where
+    by : (a b : Bool) → pick a (pick b false false) false ≡ false
+    by true true = refl
+    by true false = refl
+    by false b = refl
+
+mask-mux : (port : Port) → mux port (mask port) ≡ hasMux port
+mask-mux port = by (hasMux port) (mux port (mask port)) (mux-there port) (mux-has port (mask port))
+  where
+    by : (a b : Bool) → (a ≡ true → b ≡ true) → (b ≡ true → a ≡ true) → b ≡ a
+    by true b f g = f refl
+    by false true f g = sym (g refl)
+    by false false f g = refl
+
 -- The handshake is the 82599's, which has no mux
 pub qsfp-plain : (port : Port) → qsfp port ≡ true → hasMux port ≡ false
 unfolding qsfp hasMux is pick
@@ -168,62 +200,64 @@ module _ (q : Sequence) (port : Port) where
   unfolding models
   esdp-beside e = record { other = rw (esdp-apart (port .family), e); present = λ v m. stays ESDP v refl m }
 
-  -- the mux is switched, or there is none
-  mux-fine : hasMux port ≡ false → (on : Bool) → Fine (layoutOf (port .family)) (watched q port) (muxed port (mask port) on) (λ r. r ≡ Ok tt)
-  unfolding muxed setMux
-  mux-fine e true = fine-map _ _ _ _ _ fair-is (fine-pick _ _ _ _ _ _ (fine-change _ _ (aside q port (port .family) .status) _ (esdp-beside e)) (fine-ok _ _ tt))
-  mux-fine e false = fine-map _ _ _ _ _ fair-is (fine-pick _ _ _ _ _ _ (fine-change _ _ (aside q port (port .family) .status) _ (esdp-beside e)) (fine-ok _ _ tt))
+  -- the mux is switched, or the port or the bits have none
+  module _ (bits w : ℕ) (m : CountedBench) (fit : mux port bits ≡ true → Fit port w m) where
+    mux-alone : (on : Bool) (Q : R (Unit {0}) → BenchWorld → Type 0) → (on ≡ false → mux port bits ≡ true → Settled q nobody m) → Q (Ok tt) (world w (switchFor port bits on m))
+        → Always (layoutOf (port .family)) (watched q port) (muxed port bits on) (world w m) Q
+    unfolding muxed setMux pick changed Always
+    mux-alone on Q left k = by on (mux port bits) refl left k
+      where
+        by : (on b : Bool) → mux port bits ≡ b → (on ≡ false → mux port bits ≡ true → Settled q nobody m)
+            → Q (Ok tt) (world w (at (pick b (changed (setMux on .bits) (m .esdp)) (m .esdp)) m))
+            → Always (layoutOf (port .family)) (watched q port) (pick b (change (setMux on)) (ret (Ok tt))) (world w m) Q
+        by true true e left k =
+            let h = mux-has port bits e in
+            change-esdp h _ w m Q (fit e .released h) (sound-present (m .esdp) (fit e .sound h)) (λ e. absurd (false≢true (sym (mux-set (m .esdp)) ∙ e))) k
+        by false true e left k = let h = mux-has port bits e in change-esdp h _ w m Q (fit e .released h) (sound-present (m .esdp) (fit e .sound h)) (λ _. left refl e) k
+        by on false e left k = k
 
-  mux-alone : (on : Bool) (w : ℕ) (m : CountedBench) (Q : R (Unit {0}) → BenchWorld → Type 0) → Fit port w m → (on ≡ false → hasMux port ≡ true → Settled q nobody m)
-      → Q (Ok tt) (world w (switch port on m)) → Always (layoutOf (port .family)) (watched q port) (muxed port (mask port) on) (world w m) Q
-  unfolding muxed setMux pick changed
-  mux-alone on w m Q f left k = by on (hasMux port) refl left k
-    where
-      by : (on b : Bool) → hasMux port ≡ b → (on ≡ false → hasMux port ≡ true → Settled q nobody m)
-          → Q (Ok tt) (world w (at (pick b (changed (setMux on .bits) (m .esdp)) (m .esdp)) m)) → Always (layoutOf (port .family)) (watched q port) (muxed port (mask port) on) (world w m) Q
-      by true true h left k =
-          rw (mux-there port h)
-          (change-esdp h _ w m Q (f .released h) (sound-present (m .esdp) (f .sound h)) (λ e. absurd (false≢true (sym (mux-set (m .esdp)) ∙ e))) k)
-      by false true h left k = rw (mux-there port h) (change-esdp h _ w m Q (f .released h) (sound-present (m .esdp) (f .sound h)) (λ _. left refl h) k)
-      by true false h left k = fine-alone _ _ (machine-unmoved q port) _ (world w m) Q (fine-map _ _ _ _ _ (λ r e. rw e k) (mux-fine h true))
-      by false false h left k = fine-alone _ _ (machine-unmoved q port) _ (world w m) Q (fine-map _ _ _ _ _ (λ r e. rw e k) (mux-fine h false))
+    -- without bits there is nothing to give back, and no mux
+    bits-alone : (Q : R (Unit {0}) → BenchWorld → Type 0) → (mux port bits ≡ true → Settled q nobody m) → Q (Ok tt) (world w (switchFor port bits false m))
+        → Always (layoutOf (port .family)) (watched q port) (withBits bits (releaseBits port bits)) (world w m) Q
+    unfolding withBits releaseBits Always pick orErr
+    bits-alone Q left k = by (eqb bits 0) refl
+      where
+        by : (b : Bool) → eqb bits 0 ≡ b → Always (layoutOf (port .family)) (watched q port) (pick b (ret (Ok tt)) (muxed port bits false >>? λ _. unmuxed port bits)) (world w m) Q
+        by true e = rw (mux-none port bits e) at k
+        by false e =
+            always-bind _ _ _ _ (world w m) Q
+            (mux-alone false _ (λ _. left)
+            (fine-alone _ _ (machine-unmoved q port) _ (world w (switchFor port bits false m)) Q
+            (fine-map _ _ _ _ _ (λ r g. rw (fair-is r g) k) (unmuxed-fine _ _ (machine-unmoved q port) port (aside q port (port .family)) bits))))
 
-  pub acquire-alone : (w : ℕ) (m : CountedBench) (Q : R (Unit {0}) → BenchWorld → Type 0) → Fit port w m → Q (Ok tt) (world w (switch port true m))
-      → Always (layoutOf (port .family)) (watched q port) (acquire port (mask port)) (world w m) Q
-  unfolding acquire acquiredAll Always pick orErr
-  acquire-alone w m Q f k =
-      rw (mask-plain port, mask-bits port)
-      (always-bind _ _ _ _ (world w m) Q
-      (acquire-bits-always _ _ (machine-unmoved q port) port (aside q port (port .family)) (mask port) (world w m) _ (mux-alone true w m _ f (λ e. absurd (false≢true (sym e))) k)))
+  -- any mask without TOKEN
+  module _ (bits : ℕ) (plain : noneOf bits TOKEN ≡ true) (w : ℕ) (m : CountedBench) (Q : R (Unit {0}) → BenchWorld → Type 0) (fit : mux port (hwOf bits) ≡ true → Fit port w m) where
+    pub acquire-alone : Q (Ok tt) (world w (switchFor port (hwOf bits) true m)) → Always (layoutOf (port .family)) (watched q port) (acquire port bits) (world w m) Q
+    unfolding acquire acquiredAll Always pick orErr
+    acquire-alone k =
+        rw plain
+        (always-bind _ _ _ _ (world w m) Q
+        (acquire-bits-always _ _ (machine-unmoved q port) port (aside q port (port .family)) (hwOf bits) (world w m) _
+        (mux-alone (hwOf bits) w m fit true _ (λ e. absurd (false≢true (sym e))) k)))
 
-  -- what a release does once the mux is switched
-  unmuxed-alone : (w : BenchWorld) (Q : R (Unit {0}) → BenchWorld → Type 0) → Q (Ok tt) w → Always (layoutOf (port .family)) (watched q port) (unmuxed port (mask port)) w Q
-  unmuxed-alone w Q k =
-      fine-alone _ _ (machine-unmoved q port) _ w Q
-      (fine-map _ _ _ _ _ (λ r g. rw (fair-is r g) k) (unmuxed-fine _ _ (machine-unmoved q port) port (aside q port (port .family)) (mask port)))
-
-  pub release-alone : (w : ℕ) (m : CountedBench) (Q : R (Unit {0}) → BenchWorld → Type 0) → Fit port w m → (hasMux port ≡ true → Settled q nobody m)
-      → Q (Ok tt) (world w (switch port false m)) → Always (layoutOf (port .family)) (watched q port) (release port (mask port)) (world w m) Q
-  unfolding release giveBits withBits releaseBits Always pick orErr
-  release-alone w m Q f left k =
-      rw (mask-plain port, mask-some port, mask-bits port)
-      (always-bind _ _ _ _ (world w m) Q
-      (always-bind _ _ _ _ (world w m) _
-      (mux-alone false w m _ f (λ _. left)
-      (unmuxed-alone (world w (switch port false m)) _ k))))
+    pub release-alone : (mux port (hwOf bits) ≡ true → Settled q nobody m) → Q (Ok tt) (world w (switchFor port (hwOf bits) false m))
+        → Always (layoutOf (port .family)) (watched q port) (release port bits) (world w m) Q
+    unfolding release giveBits Always pick orErr
+    release-alone left k = rw plain (always-bind _ _ _ _ (world w m) Q (bits-alone (hwOf bits) w m fit _ left k))
 
   module _ (w : ℕ) (m : CountedBench) (Q : R Taken → BenchWorld → Type 0) where
     pub lock-alone : (on : Bool) (k : Prog (R Taken)) → (on ≡ true → Fit port w m) → Always (layoutOf (port .family)) (watched q port) k (world w (lockedBy port on m)) Q
         → Always (layoutOf (port .family)) (watched q port) (whenLock on (acquire port (mask port)) k) (world w m) Q
     unfolding whenLock pick orErr
-    lock-alone true k f h = always-bind _ _ _ _ (world w m) Q (acquire-alone w m _ (f refl) h)
+    lock-alone true k f h = always-bind _ _ _ _ (world w m) Q (acquire-alone (mask port) (mask-plain port) w m _ (λ _. f refl) (rw (mask-bits port, mask-mux port) h))
     lock-alone false k f h = h
 
     pub unlock-alone : (on : Bool) (k : Prog (R Taken)) → (on ≡ true → Fit port w m) → (hasMux port ≡ true → Settled q nobody m)
         → Always (layoutOf (port .family)) (watched q port) k (world w (unlockedBy port on m)) Q
         → Always (layoutOf (port .family)) (watched q port) (whenLock on (release port (mask port)) k) (world w m) Q
     unfolding whenLock pick orErr
-    unlock-alone true k f left h = always-bind _ _ _ _ (world w m) Q (release-alone w m _ (f refl) left h)
+    unlock-alone true k f left h =
+        always-bind _ _ _ _ (world w m) Q (release-alone (mask port) (mask-plain port) w m _ (λ _. f refl) (λ e. left (mux-has port _ e)) (rw (mask-bits port, mask-mux port) h))
     unlock-alone false k f left h = h
 
     pub pause-alone : (ms : ℕ) (k : Unit {0} → Prog (R Taken)) → Always (layoutOf (port .family)) (watched q port) (k tt) (world w m) Q

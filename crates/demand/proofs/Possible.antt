@@ -169,22 +169,26 @@ master-free X550 = refl
 master-free X552 = refl
 master-free X553 = refl
 
--- so on every port there is a start that is allowed, here with the mux on
-abbrev pub freeStart : Start
-freeStart = record { word = 0xffffffff; esdp = 2 }
+-- so on every port there is a start that is allowed, with the mux on and with it off
+abbrev pub freeStart : Bool → Start
+freeStart on = record { word = 0xffffffff; esdp = pick on 2 0 }
 
-pub allowed-possible : (port : Port) → Allowed port freeStart
-unfolding noneOf
-allowed-possible port =
+pub allowed-possible : (port : Port) (on : Bool) → Allowed port (freeStart on)
+unfolding noneOf pick
+allowed-possible port on =
     record {
       fit = ready-free (port .family);
-      mux = λ _. record { released = master-free (port .family); sound = record { bit = 0; below = lit< tt; other = refl; clear = refl } };
+      mux = λ _. record { released = master-free (port .family); sound = record { bit = 0; below = lit< tt; other = refl; clear = clear on } };
     }
+  where
+    clear : (on : Bool) → noneOf (pick on 2 0) 1 ≡ true
+    clear true = refl
+    clear false = refl
 
 -- for a write too, with the lock and without
-pub write-starts-possible : (port : Port) (lock : Bool) → WriteStarts port lock freeStart
-unfolding joins noneOf
-write-starts-possible port lock = record { fit = allowed-possible port .fit; mux = λ _. allowed-possible port .mux; joined = λ _. on (hasMux port) }
+pub write-starts-possible : (port : Port) (lock : Bool) → WriteStarts port lock (freeStart true)
+unfolding joins noneOf pick
+write-starts-possible port lock = record { fit = ready-free (port .family); mux = λ _. allowed-possible port true .mux; joined = λ _. on (hasMux port) }
   where
     on : (b : Bool) → joins b 2 ≡ true
     on true = refl

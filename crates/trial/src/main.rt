@@ -1,7 +1,7 @@
 // Reads a byte of the bench module from every stage of its receiver, on both layouts of I2CCTL and on the X552's port 1, which
 // reaches the module through a mux, with four words there at the start and with both clearing sequences. A line is a state, and
 // says whether the module pulls SDA; for each word it has the byte or I2c, the transfers made, the receiver at the end, the lines
-// (free: nobody pulls either) and the bytes of both pages.
+// (free: nobody pulls either) and the bytes of both pages, where some changed with the offset of the page chosen.
 mod host;
 mod print;
 mod start;

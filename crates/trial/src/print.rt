@@ -3,6 +3,7 @@ use crate::host;
 use crate::host::Outcome;
 use crate::start;
 use crate::start::Row;
+use bench::Bench;
 use bench::receiver::Stage;
 use bench::register::BenchState;
 use hardware::Error;
@@ -83,6 +84,17 @@ fn result(r: Outcome) {
     }
 }
 
+// The bytes; where some changed, the offset of the page chosen.
+fn bytes(before: Bench, after: Bench) {
+    if bench::same(before, after) {
+        text(b" same");
+    } else {
+        let page = bench::current(after);
+        text(b" changed, at ");
+        io::print_hex(STDOUT, page.offset as u64, 2);
+    }
+}
+
 // The receiver at the end, the lines and the bytes.
 fn module(port: Port, before: BenchState, after: BenchState) {
     let family = port.family;
@@ -93,7 +105,7 @@ fn module(port: Port, before: BenchState, after: BenchState) {
     text(b" ");
     stage(s);
     either(bench::register::released(family, after), b" free", b" held");
-    either(bench::same(b, a), b" same", b" changed");
+    bytes(b, a);
 }
 
 fn run(number: u32, port: Port, q: Sequence, before: BenchState) {

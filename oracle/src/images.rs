@@ -85,41 +85,49 @@ fn put(folder: &str, name: &str, bytes: &[u8]) -> Result<(), String> {
     fs::write(&file, bytes).map_err(|e| format!("{}: {e}", file.display()))
 }
 
-/// An image for `monitor`: its kind of calibration, the temperature, the count
-/// of received light and the coefficients, Rx_PWR(4) first.
-type Light = (&'static str, u8, u16, u16, [f32; 5]);
+/// An image for `monitor`: its kind of calibration, what is measured
+/// (temperature, supply, bias, output power and the count of received light)
+/// and the coefficients, Rx_PWR(4) first.
+type Light = (&'static str, u8, [u16; 5], [f32; 5]);
 
 const LINE: [f32; 5] = [0.0, 0.0, 0.0, 1.0, 0.0];
 const BENT: [f32; 5] = [1e-16, -2e-11, 1.5e-6, 0.98, -12.5];
-const LIGHTS: [Light; 20] = [
-    ("internal", INTERNAL, 0x2380, 4000, LINE),
-    ("straight", EXTERNAL, 0x2380, 4000, LINE),
-    ("curved", EXTERNAL, 0x1f41, 4000, BENT),
-    ("negative", EXTERNAL, 0x1f41, 10, BENT),
-    ("raw", 0, 0x2380, 4000, LINE),
-    ("nan", EXTERNAL, 0x2380, 4000, [0.0, 0.0, f32::NAN, 1.0, 0.0]),
-    ("infinite", EXTERNAL, 0x2380, 4000, [0.0, 0.0, 0.0, 1.0, f32::NEG_INFINITY]),
-    ("overflow", EXTERNAL, 0x2380, 4000, [f32::MAX, 0.0, 0.0, 1.0, 0.0]),
-    ("large", EXTERNAL, 0x2380, 4000, [1e20, 0.0, 0.0, 1.0, 0.0]),
-    ("coldest", INTERNAL, 0x8000, 0, LINE),
-    ("below0", INTERNAL, 0xffff, 1, LINE),
-    ("hottest", INTERNAL, 0x7fff, 0xffff, LINE),
-    ("lower", EXTERNAL, 0x2380, 4000, [-1e20, 0.0, 0.0, 1.0, 0.0]),
-    ("minus0", EXTERNAL, 0x2380, 4000, [0.0, 0.0, 0.0, 0.0, -0.25]),
-    ("near0", INTERNAL, 0x2380, 9999, LINE),
-    ("faint", EXTERNAL, 0x2380, 4000, [0.0, 0.0, 0.0, 0.0, 0.5]),
-    ("bright", EXTERNAL, 0x2380, 0xffff, [0.0, 0.0, 0.0, 1.0, 1.0]),
-    ("zero", INTERNAL, 0, 10_000, LINE),
-    ("full", EXTERNAL, 0x2380, 0xffff, LINE),
-    ("strong", EXTERNAL, 0x2380, 4000, [0.0, 0.0, 0.0, 0.0, 1e9]),
+const LIGHTS: [Light; 22] = [
+    ("internal", INTERNAL, usual(0x2380, 4000), LINE),
+    ("straight", EXTERNAL, usual(0x2380, 4000), LINE),
+    ("curved", EXTERNAL, usual(0x1f41, 4000), BENT),
+    ("negative", EXTERNAL, usual(0x1f41, 10), BENT),
+    ("raw", 0, usual(0x2380, 4000), LINE),
+    ("nan", EXTERNAL, usual(0x2380, 4000), [0.0, 0.0, f32::NAN, 1.0, 0.0]),
+    ("infinite", EXTERNAL, usual(0x2380, 4000), [0.0, 0.0, 0.0, 1.0, f32::NEG_INFINITY]),
+    ("overflow", EXTERNAL, usual(0x2380, 4000), [f32::MAX, 0.0, 0.0, 1.0, 0.0]),
+    ("large", EXTERNAL, usual(0x2380, 4000), [1e20, 0.0, 0.0, 1.0, 0.0]),
+    ("coldest", INTERNAL, usual(0x8000, 0), LINE),
+    ("below0", INTERNAL, usual(0xffff, 1), LINE),
+    ("hottest", INTERNAL, usual(0x7fff, 0xffff), LINE),
+    ("lower", EXTERNAL, usual(0x2380, 4000), [-1e20, 0.0, 0.0, 1.0, 0.0]),
+    ("minus0", EXTERNAL, usual(0x2380, 4000), [0.0, 0.0, 0.0, 0.0, -0.25]),
+    ("near0", INTERNAL, usual(0x2380, 9999), LINE),
+    ("faint", EXTERNAL, usual(0x2380, 4000), [0.0, 0.0, 0.0, 0.0, 0.5]),
+    ("bright", EXTERNAL, usual(0x2380, 0xffff), [0.0, 0.0, 0.0, 1.0, 1.0]),
+    ("zero", INTERNAL, usual(0, 10_000), LINE),
+    ("full", EXTERNAL, usual(0x2380, 0xffff), LINE),
+    ("strong", EXTERNAL, usual(0x2380, 4000), [0.0, 0.0, 0.0, 0.0, 1e9]),
+    ("other", INTERNAL, [0x2380, 31874, 45678, 12347, 4000], LINE),
+    ("dark", EXTERNAL, [0x2380, 0xffff, 0, 0, 4000], [0.0, 0.0, 0.0, 0.0, 0.499_999_97]),
 ];
+
+/// What is measured, with the usual supply, bias and output power.
+const fn usual(temperature: u16, count: u16) -> [u16; 5] {
+    [temperature, 33001, 3001, 5000, count]
+}
 
 /// The images of `monitor`: those above in a 10GBASE-SR, and a cable, which has
 /// no monitoring.
 pub fn lights(folder: &str) -> Result<(), String> {
     let (cable, fibre) = (&PLANS[0], &PLANS[2]);
     put(folder, "absent", &[a0(cable, 101), a2(cable)].concat())?;
-    for (i, (name, kind, temperature, count, coefficients)) in LIGHTS.into_iter().enumerate() {
+    for (i, (name, kind, measured, coefficients)) in LIGHTS.into_iter().enumerate() {
         let (mut first, mut second) = (a0(fibre, i + 102), a2(fibre));
         first[92] = MONITORED | kind | 0x08;
         first[95] = sum(&first[64..95]);
@@ -127,7 +135,7 @@ pub fn lights(folder: &str) -> Result<(), String> {
             four.copy_from_slice(&c.to_be_bytes());
         }
         second[95] = sum(&second[..95]);
-        words(&mut second[96..106], &[temperature, 33001, 3001, 5000, count]);
+        words(&mut second[96..106], &measured);
         put(folder, name, &[first, second].concat())?;
     }
     Ok(())

@@ -9,7 +9,7 @@ use bench::receiver::Stage;
 use bench::register::BenchState;
 use hardware::Family;
 ghost use mathlib.Core.Path.{_≡_};
-ghost use mathlib.Core.Bool.{true};
+ghost use mathlib.Core.Bool.{true, false};
 ghost use Rattle.bus.specs.Layout.{layoutOf};
 ghost use Rattle.wire.specs.Lines.{ready};
 
@@ -126,6 +126,7 @@ fn state_offset(n: u8) -> u8 {
 // are a0, the page is A0, and data comes next.
 pub(crate) fn state(family: Family, n: u8, first: [u8; 256], second: [u8; 256]) -> BenchState
     ensures { λ r. ⌜ ready (layoutOf family) (r .word) ≡ true ⌝ }
+    ensures { λ r. ⌜ r .bench .receiver .first ≡ false ⌝ }
     ensures { λ r. ⌜ (r .bench .a0 .bytes ≡ first) × (r .bench .a2 .bytes ≡ second) ⌝ }
 {
     let receiver = Receiver {

@@ -69,7 +69,8 @@ fn as_claimed(start: &Start, end: &End) -> bool {
     let all = facts(start, end) == [true; 4];
     let stuck = start.sequence == Sequence::Pulses && start.module.receiver.stage == Stage::AckWrite;
     let switched = end.wired.moved == 0 && (start.sequence == Sequence::Pulses || end.wired.unsettled == 0);
-    all != stuck && (!stuck || absent(end)) && end.runs == end.transfers && end.wired.both == 0 && switched
+    let off = !end.wired.mux || end.wired.esdp & MUX_ON == 0;
+    all != stuck && (!stuck || absent(end)) && end.runs == end.transfers && end.wired.both == 0 && switched && off
 }
 
 type Counts = BTreeMap<String, u32>;

@@ -1,7 +1,8 @@
 //! Wraps the original files as inline modules of one generated file, each
 //! followed by its probe (functions that call the private ones). In the copy of
 //! `i2c`, `attempt` gets one line more, which counts its runs, and clears by
-//! the sequence that is chosen by name.
+//! the sequence that is chosen by name; and `send` notes the sample that it
+//! first read low.
 
 use std::{
     env, fs,
@@ -17,6 +18,11 @@ const COUNT: &str = "    probe_count();\n";
 /// The clearing in `attempt`, and what is put in its place.
 const CLEAR: &str = "match bus.clear() {";
 const NAMED: &str = "match bus.probe_clear() {";
+/// The samples in `send`, and what is put in their place.
+const SAMPLES: &str = "for _ in 0..10 {
+            if self.get()? & self.l.sda_in == 0 { acked";
+const NOTED: &str = "for sample in 1..=10 {
+            if self.get()? & self.l.sda_in == 0 { probe_heard(sample); acked";
 
 fn sources(manifest: &Path) -> PathBuf {
     match env::var_os("ORACLE_SRC") {
@@ -32,12 +38,13 @@ fn text(path: &Path) -> String {
 }
 
 fn replaced(source: &str, from: &str, to: &str) -> String {
-    assert_eq!(source.matches(from).count(), 1, "`attempt` has this once: {from}");
+    assert_eq!(source.matches(from).count(), 1, "`i2c.rs` has this once: {from}");
     source.replace(from, to)
 }
 
 fn probed(source: &str) -> String {
-    replaced(&replaced(source, HEAD, &format!("{COUNT}{HEAD}")), CLEAR, NAMED)
+    let counted = replaced(source, HEAD, &format!("{COUNT}{HEAD}"));
+    replaced(&replaced(&counted, CLEAR, NAMED), SAMPLES, NOTED)
 }
 
 fn main() {

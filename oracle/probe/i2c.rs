@@ -1,5 +1,6 @@
 // Appended to the original's `i2c` by build.rs: its private functions, the
-// count of transfers, the clearing sequences by name and the run of a script.
+// count of transfers, the slowest acknowledgement, the clearing sequences by
+// name and the run of a script.
 
 /// The clearing sequences: the original's `clear`, and that of S-2.
 #[derive(Clone, Copy, Debug, PartialEq, Eq)]
@@ -8,19 +9,43 @@ pub enum Sequence {
     Rounds,
 }
 
+/// The runs of `attempt`, and of the bytes acknowledged the greatest sample, 1
+/// to 10, that first read SDA low; 0 where there was none.
+#[derive(Clone, Copy, Debug, PartialEq, Eq)]
+pub struct Meter {
+    pub transfers: u32,
+    pub slowest: u32,
+}
+
+const BLANK: Meter = Meter { transfers: 0, slowest: 0 };
+
+impl Meter {
+    /// Both in one number.
+    pub fn word(self) -> u32 {
+        self.transfers + 65_536 * self.slowest
+    }
+}
+
 thread_local! {
-    static TRANSFERS: std::cell::Cell<u32> = const { std::cell::Cell::new(0) };
+    static METER: std::cell::Cell<Meter> = const { std::cell::Cell::new(BLANK) };
     static SEQUENCE: std::cell::Cell<Sequence> = const { std::cell::Cell::new(Sequence::Pulses) };
 }
 
 /// Called at the head of `attempt`, by the line that build.rs puts there.
 fn probe_count() {
-    TRANSFERS.set(TRANSFERS.get() + 1);
+    let m = METER.get();
+    METER.set(Meter { transfers: m.transfers + 1, ..m });
 }
 
-/// The runs of `attempt` since this was last asked.
-pub fn probe_transfers() -> u32 {
-    TRANSFERS.replace(0)
+/// Called in `send`, by the line that build.rs puts there.
+fn probe_heard(sample: u32) {
+    let m = METER.get();
+    METER.set(Meter { slowest: m.slowest.max(sample), ..m });
+}
+
+/// What was metered since this was last asked.
+pub fn probe_meter() -> Meter {
+    METER.replace(BLANK)
 }
 
 /// The call with this sequence; any other call has the original's.

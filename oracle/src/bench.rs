@@ -6,7 +6,7 @@ use std::collections::BTreeMap;
 use std::convert::Infallible;
 use std::fmt;
 
-use crate::driver::i2c::{self, Sequence};
+use crate::driver::i2c::{self, Meter, Sequence};
 use crate::driver::{sfp, Error, Port};
 use crate::fresh::Choice;
 use host::Host;
@@ -29,8 +29,8 @@ type Identified = Result<sfp::Module, Error<Infallible>>;
 struct End {
     result: Identified,
     wired: Wired,
-    /// The runs of `attempt`.
-    transfers: u32,
+    /// The runs of `attempt`, and the slowest acknowledgement.
+    meter: i2c::Meter,
     /// The same as the accesses show it: each attempt has its own lock, so
     /// that accesses to other registers part it from the next.
     runs: u32,
@@ -38,12 +38,13 @@ struct End {
 
 fn run(start: &Start) -> End {
     let mut host = Host::new(start);
-    i2c::probe_transfers();
+    i2c::probe_meter();
     let result = i2c::probe_with(start.sequence, || sfp::identify(&mut host, start.port));
-    End { result, transfers: i2c::probe_transfers(), runs: host.runs, wired: host.wired }
+    End { result, meter: i2c::probe_meter(), runs: host.runs, wired: host.wired }
 }
 
-/// The four facts: class, bytes, lines, transfers.
+/// The four facts: class, bytes, lines, transfers, each byte of which was
+/// acknowledged in the first sample.
 fn facts(start: &Start, end: &End) -> [bool; 4] {
     let a0 = &start.module.pages[0];
     let class = match &end.result {
@@ -56,12 +57,13 @@ fn facts(start: &Start, end: &End) -> [bool; 4] {
         class,
         module.pages == start.module.pages,
         idle && end.wired.released(),
-        end.transfers == words::requests(a0) + words::extra(&start.module),
+        end.meter == Meter { transfers: words::requests(a0) + words::extra(&start.module), slowest: 1 },
     ]
 }
 
 fn absent(end: &End) -> bool {
-    matches!(&end.result, Ok(m) if m.kind == sfp::Kind::NotPresent) && end.transfers == ABSENT
+    matches!(&end.result, Ok(m) if m.kind == sfp::Kind::NotPresent)
+        && end.meter == Meter { transfers: ABSENT, slowest: 0 }
 }
 
 /// The four facts from every start; with the original's sequence not from AckWrite.
@@ -70,7 +72,7 @@ fn as_claimed(start: &Start, end: &End) -> bool {
     let stuck = start.sequence == Sequence::Pulses && start.module.receiver.stage == Stage::AckWrite;
     let switched = end.wired.moved == 0 && (start.sequence == Sequence::Pulses || end.wired.unsettled == 0);
     let off = !end.wired.mux || end.wired.esdp & MUX_ON == 0;
-    all != stuck && (!stuck || absent(end)) && end.runs == end.transfers && end.wired.both == 0 && switched && off
+    all != stuck && (!stuck || absent(end)) && end.runs == end.meter.transfers && end.wired.both == 0 && switched && off
 }
 
 type Counts = BTreeMap<String, u32>;
@@ -137,7 +139,7 @@ impl Figures {
         add(&mut self.states, state);
         add(&mut self.ports, format!("{family:?} {lan}{qsfp}"));
         add(&mut self.results, result);
-        add(&mut self.transfers, format!("{:2}", end.transfers));
+        add(&mut self.transfers, format!("{:2}", end.meter.transfers));
     }
 }
 
@@ -153,10 +155,10 @@ impl Tally {
         self.disagree += 1;
         if self.disagree <= SHOWN {
             let Start { sequence, port, word, esdp, module, .. } = start;
-            let End { result, wired, transfers, runs } = end;
+            let End { result, wired, meter, runs } = end;
             let Wired { both, moved, unsettled, .. } = wired;
             eprintln!("{sequence:?}, {port:?}, I2CCTL {word:08x}, ESDP {esdp:08x}, {:?}:", module.receiver);
-            eprintln!("  {result:?}, {transfers} transfers ({runs} seen), {:?}", wired.module.receiver);
+            eprintln!("  {result:?}, {meter:?} ({runs} transfers seen), {:?}", wired.module.receiver);
             eprintln!("  class, bytes, lines, transfers: {:?}; {both} moved both", facts(start, end));
             eprintln!("  of ESDP {moved} moved a line, {unsettled} were unsettled");
         }

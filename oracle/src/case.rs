@@ -177,12 +177,12 @@ impl Case {
         result
     }
 
-    /// The third value is the count of transfers, failures included.
+    /// The third value is the meter's word, failures included.
     fn transfer(&self, io: &mut Player) -> [u32; 4] {
         let port = self.port();
         let [a1, a2, a3] = self.args;
         let (device, low, high, lock) = (a1 as u8, a2 as u16, (a2 >> 16) as u16, a3 == 1);
-        i2c::probe_transfers();
+        i2c::probe_meter();
         let mut result = match self.function {
             READ_BYTE => {
                 let byte = i2c::read_byte(io, port, device, low as u8, high.into(), lock);
@@ -198,28 +198,28 @@ impl Case {
             }
             _ => numbers(i2c::write_combined(io, port, device, low, high, lock), |()| [0; 3]),
         };
-        result[3] = i2c::probe_transfers();
+        result[3] = i2c::probe_meter().word();
         result
     }
 
     /// The second value is the sum over the bytes handed out, the third their
-    /// number times 256 and the count of transfers, failures included.
+    /// number times 256 and the meter's word, failures included.
     fn script(&self, io: &mut Player, seed: u32, shape: u32) -> [u32; 4] {
         let script = script(seed, shape).expect("a shape of a script");
         let mut bytes = Vec::new();
-        i2c::probe_transfers();
+        i2c::probe_meter();
         let done = i2c::probe_script(io, self.port(), &script, &mut bytes);
         let mut result = numbers(done, |()| [0; 3]);
         let words: Vec<u32> = bytes.into_iter().map(u32::from).collect();
         result[2] = Fnv::over(&words);
-        result[3] = 256 * words.len() as u32 + i2c::probe_transfers();
+        result[3] = 256 * words.len() as u32 + i2c::probe_meter().word();
         result
     }
 
-    /// The third value is the count of transfers, failures included.
+    /// The third value is the meter's word, failures included.
     fn module(&self, io: &mut Player) -> [u32; 4] {
         let port = self.port();
-        i2c::probe_transfers();
+        i2c::probe_meter();
         let mut result = match self.function {
             IDENTIFY => numbers(sfp::identify(io, port), record),
             IDENTIFY_QSFP => numbers(sfp::identify_qsfp(io, port), record),
@@ -228,15 +228,15 @@ impl Case {
                 numbers(both, |both| [both.into(), 0, 0])
             }
         };
-        result[3] = i2c::probe_transfers();
+        result[3] = i2c::probe_meter().word();
         result
     }
 
-    /// The second value is the sum over the buffer, the third the count of
-    /// transfers, failures included.
+    /// The second value is the sum over the buffer, the third the meter's word,
+    /// failures included.
     fn page(&self, io: &mut Player, first: u8) -> [u32; 4] {
         let mut buffer: Vec<u8> = (0..page::BUFFER).map(|i| 255 - i).collect();
-        i2c::probe_transfers();
+        i2c::probe_meter();
         let read = page::read(io, self.port(), first, self.args[0] as usize, &mut buffer);
         let mut result = match read {
             Ok(()) => [page::judged(&buffer), 0, 0, 0],
@@ -244,19 +244,19 @@ impl Case {
         };
         let words: Vec<u32> = buffer.into_iter().map(u32::from).collect();
         result[2] = Fnv::over(&words);
-        result[3] = i2c::probe_transfers();
+        result[3] = i2c::probe_meter().word();
         result
     }
 
-    /// The third value is the count of transfers, failures included.
+    /// The third value is the meter's word, failures included.
     fn light(&self, io: &mut Player) -> [u32; 4] {
-        i2c::probe_transfers();
+        i2c::probe_meter();
         let mut result = match light::read(io, self.port(), self.args[0] as usize) {
             Ok(Err(code)) => [code, 0, 0, 0],
             Ok(Ok(measures)) => numbers(Ok(measures), |m| m.values()),
             Err(failure) => numbers(Err::<(), _>(failure), |()| [0; 3]),
         };
-        result[3] = i2c::probe_transfers();
+        result[3] = i2c::probe_meter().word();
         result
     }
 

@@ -14,6 +14,7 @@ use crate::rules::*;
 mod light;
 mod pages;
 mod rounds;
+mod samples;
 mod sfp;
 mod transfers;
 
@@ -56,6 +57,7 @@ pub fn cases() -> Vec<Case> {
     rounds::add(&mut list);
     light::add(&mut list);
     levels(&mut list);
+    samples::add(&mut list);
     list.cases
 }
 

@@ -13,7 +13,7 @@ use Rattle.bus.specs.declared.command.Piece.the-variants.{Pulses, Probe,
 use Rattle.bus.specs.Bus.{Bus, fail, start, stop, send, inByte, inBits, inBit, outBit, outBits, releaseSda, pulses, sclHigh, sclLow, sample, wait, ackTries, shifted, pulled, rounds}
 use Rattle.bus.specs.Line.{called, sensed}
 use Rattle.bus.specs.Clear.{probed}
-use Rattle.bus.specs.Command.{pulseCall, outBitCall, senseCall, startCall, stopCall, endCall, sendCall, readCall, pulsesCall, probeCall, freeCall, callAt, stopCount, freeCount, callCount, freed, finished, callsLeft, commanded}
+use Rattle.bus.specs.Command.{pulseCall, outBitCall, senseCall, ackCall, startCall, stopCall, endCall, sendCall, readCall, pulsesCall, probeCall, freeCall, callAt, stopCount, freeCount, callCount, freed, finished, callsLeft, commanded}
 
 pub job-start : (l : Layout) (device : ℕ) (k : ℕ → Bus) → commanded l device Start k ≡ start l (k 0)
 unfolding commanded callCount callsLeft callAt startCall called finished start
@@ -31,14 +31,14 @@ pub job-read : (l : Layout) (device : ℕ) (high : Bool) (k : ℕ → Bus) → c
 unfolding commanded callCount callsLeft callAt readCall outBitCall pulseCall senseCall called sensed finished pick inByte inBits inBit outBit
 job-read l device high k = refl
 
-heard : (l : Layout) (device value : ℕ) (k : ℕ → Bus) (b : Bool) → sclLow l (wait 5 (finished device (Send value) k (shifted 0 b))) ≡ sclLow l (wait 5 (pick b (fail (I2c device)) (k 0)))
+sent : (l : Layout) (device value : ℕ) (k : ℕ → Bus) (b : Bool) → sclLow l (wait 5 (finished device (Send value) k (shifted 0 b))) ≡ sclLow l (wait 5 (pick b (fail (I2c device)) (k 0)))
 unfolding finished pick shifted
-heard l device value k true = refl
-heard l device value k false = refl
+sent l device value k true = refl
+sent l device value k false = refl
 
 pub job-send : (l : Layout) (device value : ℕ) (k : ℕ → Bus) → commanded l device (Send value) k ≡ send l device value (k 0)
-unfolding commanded callCount callsLeft callAt sendCall outBitCall pulseCall senseCall called sensed pick send outBits outBit
-job-send l device value k = ap (λ t. outBits l value 8 (releaseSda l (sclHigh l (wait 4 (ackTries l 10 t))))) (fun-ext (heard l device value k))
+unfolding commanded callCount callsLeft callAt sendCall outBitCall pulseCall ackCall called sensed pick send outBits outBit
+job-send l device value k = ap (λ t. outBits l value 8 (releaseSda l (sclHigh l (wait 4 (ackTries l 10 t))))) (fun-ext (sent l device value k))
 
 pub job-free : (l : Layout) (device : ℕ) (p : Piece) (k : ℕ → Bus) → commanded l device (Free p) k ≡ freed l p k
 unfolding commanded callCount freeCount callsLeft callAt freeCall pulsesCall pulseCall probeCall startCall called sensed finished pick pulses freed

@@ -10,11 +10,11 @@ use Rattle.hardware.specs.Failures.{Failure, I2c}
 use Rattle.hardware.specs.Prog.{R, Ok, Err, pick}
 use Rattle.hardware.specs.Registers.{raw, written, flushed}
 use Rattle.hardware.specs.Runs.{Ends}
-use Rattle.hardware.proofs.Ends.{ends-more, ends-bind, ends-pick, ret-ends, ask-ends}
+use Rattle.hardware.proofs.Ends.{ends-more, ends-bind, ends-pick, ends-heard, ret-ends, ask-ends}
 use Rattle.bus.specs.declared.Layout.{Layout}
 use Rattle.bus.specs.declared.Taken.{Taken}
 use Rattle.bus.specs.Layout.{L82599}
-use Rattle.bus.specs.Bus.{Bus, done, fail, none, orHeld, flushing, put, get, wait, sclSeen, sclTries, sclHigh, sclLow, sdaSeen, sdaFree, sda, releaseSda, look, lookSeen, start, close, stop, outBit, sample, sampleSeen, inBit, shifted, inBits, inByte, bitOf, outBits, ackSeen, ackTries, send, pulses, orQuiet, quieted, quiet, clear, clearFree, clearAgain, clearStop, pulled, rounds, clearRounds}
+use Rattle.bus.specs.Bus.{Bus, done, fail, none, orHeld, flushing, put, get, wait, sclSeen, sclTries, sclHigh, sclLow, sdaSeen, sdaFree, sda, releaseSda, look, lookSeen, start, close, stop, outBit, sample, sampleSeen, inBit, shifted, inBits, inByte, bitOf, outBits, heard, ackSeen, ackTries, send, pulses, orQuiet, quieted, quiet, clear, clearFree, clearAgain, clearStop, pulled, rounds, clearRounds}
 use Rattle.bus.specs.Steps.{PUT-STEPS, GET-STEPS, WAIT-STEPS, SCL-TRY-STEPS, SCL-HIGH-STEPS, SCL-LOW-STEPS, SDA-LOW-STEPS, SDA-STEPS, RELEASE-SDA-STEPS, START-STEPS, STOP-STEPS, PULSE-STEPS, OUT-BIT-STEPS, IN-BIT-STEPS, IN-BYTE-STEPS, ACK-STEPS, SEND-STEPS, FREE-STEPS, CLEAR-STEPS, ROUND-STEPS, FINISH-STEPS, CLEAR-ROUNDS-STEPS, CALL-STEPS}
 use Rattle.hardware.specs.declared.Answer.{Answer}
 use Rattle.bus.specs.declared.line.Call.{Call}
@@ -282,6 +282,9 @@ out-bits-ends l byte (suc count) k n e =
     (out-bit-ends l (bitOf byte count) _ (count * OUT-BIT-STEPS + n) (out-bits-ends l byte count k n e))
     (omega arith)
 
+heard-ends : (left : ℕ) (k : Bus) (n : ℕ) → EndsBus k n → EndsBus (heard left k) n
+heard-ends left k n e ctl = ends-heard left _ n (e ctl)
+
 pub ack-tries-ends : (l : Layout) (tries : ℕ) (k : Bool → Bus) (n : ℕ) → ((high : Bool) → EndsBus (k high) n)
     → EndsBus (ackTries l tries k) (tries * (GET-STEPS + WAIT-STEPS) + n)
 unfolding ackTries ackSeen
@@ -290,7 +293,7 @@ ack-tries-ends l (suc left) k n e =
     let m = left * (GET-STEPS + WAIT-STEPS) + n in
     bus-more _ (GET-STEPS + (WAIT-STEPS + m)) (suc left * (GET-STEPS + WAIT-STEPS) + n)
     (get-ends l _ (WAIT-STEPS + m)
-    (λ v. either-ends _ _ _ (WAIT-STEPS + m) (bus-more _ n (WAIT-STEPS + m) (e false) (omega arith)) (wait-ends 1 _ m (ack-tries-ends l left k n e))))
+    (λ v. either-ends _ _ _ (WAIT-STEPS + m) (heard-ends left _ _ (bus-more _ n (WAIT-STEPS + m) (e false) (omega arith))) (wait-ends 1 _ m (ack-tries-ends l left k n e))))
     (omega arith)
 
 pub send-ends : (l : Layout) (device byte : ℕ) (k : Bus) (n : ℕ) → EndsBus k n → EndsBus (send l device byte k) (SEND-STEPS + n)
@@ -411,7 +414,7 @@ reachAfter High = PUT-STEPS + GET-STEPS
 reachAfter Free = GET-STEPS
 reachAfter Low = 0
 reachAfter Released = 0
-reachAfter Lowered = 0
+reachAfter (Lowered left) = 0
 reachAfter (Raised left) = GET-STEPS + left * SCL-TRY-STEPS
 reachAfter Closed = 0
 
@@ -423,8 +426,8 @@ abbrev pub lineAfter : Line → ℕ
 lineAfter Looking = 0
 lineAfter (Pause us) = 0
 lineAfter Sampling = 0
-lineAfter (Listening left) = WAIT-STEPS + left * (GET-STEPS + WAIT-STEPS)
-lineAfter (Rest left) = left * (GET-STEPS + WAIT-STEPS)
+lineAfter (Listening left) = WAIT-STEPS + left * (GET-STEPS + WAIT-STEPS) + SCL-LOW-STEPS
+lineAfter (Rest left) = left * (GET-STEPS + WAIT-STEPS) + SCL-LOW-STEPS
 lineAfter (Writing g) = 1 + settleAfter g
 lineAfter (Flush g) = settleAfter g
 lineAfter (Settle g) = reachAfter g
@@ -453,7 +456,7 @@ reached-ends l High k n e = bus-more _ (PUT-STEPS + (GET-STEPS + n)) (reachAfter
 reached-ends l Free k n e = get-ends l _ n (sda-seen-ends l k n e)
 reached-ends l Low k n e = bus-more _ n (0 + n) e (omega arith)
 reached-ends l Released k n e = bus-more _ n (0 + n) e (omega arith)
-reached-ends l Lowered k n e = bus-more _ n (0 + n) e (omega arith)
+reached-ends l (Lowered left) k n e = bus-more _ n (0 + n) e (omega arith)
 reached-ends l (Raised left) k n e =
     bus-more _ (GET-STEPS + (left * SCL-TRY-STEPS + n)) (reachAfter (Raised left) + n)
     (get-ends l _ (left * SCL-TRY-STEPS + n) (λ v. either-ends _ _ _ _ (scl-tries-ends l left k n e) (bus-more k n (left * SCL-TRY-STEPS + n) e (omega arith))))
@@ -466,7 +469,7 @@ settled-ends l High k n e = bus-more _ (WAIT-STEPS + (reachAfter High + n)) (set
 settled-ends l Free k n e = bus-more _ (reachAfter Free + n) (settleAfter Free + n) (reached-ends l Free k n e) (omega arith)
 settled-ends l Low k n e = wait-ends 3 k n e
 settled-ends l Released k n e = wait-ends 1 k n e
-settled-ends l Lowered k n e = wait-ends 1 k n e
+settled-ends l (Lowered left) k n e = wait-ends 1 k n e
 settled-ends l (Raised left) k n e =
     bus-more _ (WAIT-STEPS + (reachAfter (Raised left) + n)) (settleAfter (Raised left) + n) (wait-ends 1 _ _ (reached-ends l (Raised left) k n e)) (omega arith)
 settled-ends l Closed k n e = bus-more _ n (settleAfter Closed + n) e (omega arith)
@@ -479,11 +482,15 @@ at-rest-ends l ctl bits Looking a k n e = ends-more _ n (0 + n) (held-ends _ n (
 at-rest-ends l ctl bits (Pause us) a k n e = ends-more _ n (0 + n) (e bits ctl) (omega arith)
 at-rest-ends l ctl bits Sampling a k n e = ends-more _ n (0 + n) (held-ends _ n (λ v. e _) ctl (raw a)) (omega arith)
 at-rest-ends l ctl bits (Listening left) a k n e =
-    let m : ℕ = left * (GET-STEPS + WAIT-STEPS) + n in
+    let m : ℕ = left * (GET-STEPS + WAIT-STEPS) + (SCL-LOW-STEPS + n) in
     ends-more _ (WAIT-STEPS + m) (lineAfter (Listening left) + n)
-    (held-ends _ (WAIT-STEPS + m) (λ v. either-ends _ _ _ (WAIT-STEPS + m) (bus-more _ n (WAIT-STEPS + m) (e _) (omega arith)) (wait-ends 1 _ m (ack-tries-ends l left _ n (λ high. e _)))) ctl (raw a))
+    (held-ends _ (WAIT-STEPS + m)
+    (λ v. either-ends _ _ _ (WAIT-STEPS + m) (heard-ends left _ _ (bus-more _ (SCL-LOW-STEPS + n) (WAIT-STEPS + m) (scl-low-ends l _ n (e _)) (omega arith)))
+    (wait-ends 1 _ m (ack-tries-ends l left _ (SCL-LOW-STEPS + n) (λ high. scl-low-ends l _ n (e _)))))
+    ctl (raw a))
     (omega arith)
-at-rest-ends l ctl bits (Rest left) a k n e = ack-tries-ends l left _ n (λ high. e _) ctl
+at-rest-ends l ctl bits (Rest left) a k n e =
+    ends-more _ (left * (GET-STEPS + WAIT-STEPS) + (SCL-LOW-STEPS + n)) (lineAfter (Rest left) + n) (ack-tries-ends l left _ (SCL-LOW-STEPS + n) (λ high. scl-low-ends l _ n (e _)) ctl) (omega arith)
 at-rest-ends l ctl bits (Writing g) a k n e =
     ends-more _ (suc (settleAfter g + n)) (lineAfter (Writing g) + n) (held-ends _ (suc (settleAfter g + n)) (λ _. flushing-ends _ _ (settled-ends l g (k bits) n (e bits))) ctl (written a)) (omega arith)
 at-rest-ends l ctl bits (Flush g) a k n e = held-ends _ (settleAfter g + n) (λ _. settled-ends l g (k bits) n (e bits)) ctl (flushed a)
@@ -501,7 +508,7 @@ called-ends l Up bits k n e = scl-high-ends l (k bits) n (e bits)
 called-ends l Down bits k n e = bus-more _ _ (CALL-STEPS + n) (scl-low-ends l (k bits) n (e bits)) (omega arith)
 called-ends l (Pausing us) bits k n e = bus-more _ _ (CALL-STEPS + n) (wait-ends us (k bits) n (e bits)) (omega arith)
 called-ends l Sample bits k n e = bus-more _ _ (CALL-STEPS + n) (sample-ends l _ n (λ b. e _)) (omega arith)
-called-ends l Ack bits k n e = bus-more _ _ (CALL-STEPS + n) (ack-tries-ends l 10 _ n (λ b. e _)) (omega arith)
+called-ends l Ack bits k n e = bus-more _ _ (CALL-STEPS + n) (ack-tries-ends l 10 _ (SCL-LOW-STEPS + n) (λ b. scl-low-ends l _ n (e _))) (omega arith)
 called-ends l Close bits k n e = bus-more _ _ (CALL-STEPS + n) (close-ends l (k bits) n (e bits)) (omega arith)
 
 finished-ends : (device : ℕ) (c : Command) (k : ℕ → Bus) (n : ℕ) → ((b : ℕ) → EndsBus (k b) n) → (bits : ℕ) → EndsBus (finished device c k bits) n

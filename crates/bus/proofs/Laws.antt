@@ -1,4 +1,5 @@
 -- Laws of the line calls that the proofs cite.
+use Rattle.hardware.specs.Marks.{acknowledged}
 use Prim.Native.Nat.{ℕ, _-_, _%_, _≤_, suc, zero}
 use mathlib.Core.Path.{_≡_, refl, ap, _∙_, sym, subst}
 use mathlib.Core.Bool.{Bool, true, false}
@@ -14,13 +15,13 @@ use Rattle.bus.specs.declared.line.Line.the-variants.{Ack, Write}
 use Rattle.bus.specs.declared.line.LineNext.the-variants.{Going}
 use Rattle.bus.specs.Bus.{Held, Bus, orHeld, put, get, sclTries, sclHigh, ackTries}
 use Rattle.bus.specs.declared.line.Call.{Call}
-use Rattle.bus.specs.declared.line.Call.the-variants.{Look, Sda, Release, Up as UpCall, Ack as AckCall, Sample}
+use Rattle.bus.specs.declared.line.Call.the-variants.{Look, Sda, Release, Up as UpCall}
 use Rattle.bus.specs.declared.command.Command.{Command}
 use Rattle.bus.specs.declared.command.Command.the-variants.{Start, Send, Read, Stop, Free}
 use Rattle.bus.specs.declared.command.Piece.{Piece}
 use Rattle.bus.specs.declared.command.Piece.the-variants.{Pulses, Probe, Lower, Pull}
-use Rattle.bus.specs.Command.{pulseCall, outBitCall, senseCall, startCall, stopCall, endCall, sendCall, readCall, pulsesCall, probeCall, freeCall, callAt, stopCount, freeCount, callCount, callsLeft}
-use Rattle.bus.specs.Line.{validCall, called, sensed, settled, accessLine, accessAt, restLine, restAt, lineNext}
+use Rattle.bus.specs.Command.{pulseCall, outBitCall, senseCall, ackCall, startCall, stopCall, endCall, sendCall, readCall, pulsesCall, probeCall, freeCall, callAt, stopCount, freeCount, callCount, callsLeft}
+use Rattle.bus.specs.Line.{validCall, called, ackDown, settled, accessLine, accessAt, restLine, restAt, lineNext, heardAt, heardGoal}
 
 -- what an answer was taken for is the Rust's reading of it
 pub fed-held : {A : Type 0} {q : Prog Held} {x y : R A} (k : A → Bus) (ctl : ℕ) → q ≡ erase (orHeld k ctl x) → x ≡ y → q ≡ erase (orHeld k ctl y)
@@ -28,19 +29,19 @@ fed-held k ctl e d = e ∙ ap (λ z. erase (orHeld k ctl z)) d
 
 -- with a sample left, I2CCTL is read
 pub ack-more : (l : Layout) (ctl bits left : ℕ) (k : ℕ → Bus) → (left ≡ 0 → ⊥)
-    → lineNext l (Going (record { ctl = ctl; bits = bits; line = Ack (left - 1) })) k ≡ erase (ackTries l left (sensed bits k) ctl)
-unfolding lineNext accessLine accessAt restLine restAt ackTries get erase
+    → lineNext l (Going (record { ctl = ctl; bits = bits; line = Ack (left - 1) })) k ≡ erase (ackTries l left (ackDown l bits k) ctl)
+unfolding lineNext acknowledged heardAt accessLine accessAt restLine restAt ackTries get erase
 ack-more l ctl bits zero k h = absurd (h refl)
 ack-more l ctl bits (suc n) k h = ap (λ m. lineNext l (Going (record { ctl = ctl; bits = bits; line = Ack m })) k) (sub-one (suc n))
 
 pub ack-open : (l : Layout) (ctl bits : ℕ) (k : ℕ → Bus)
-    → lineNext l (Going (record { ctl = ctl; bits = bits; line = Ack 9 })) k ≡ erase (ackTries l 10 (sensed bits k) ctl)
+    → lineNext l (Going (record { ctl = ctl; bits = bits; line = Ack 9 })) k ≡ erase (ackTries l 10 (ackDown l bits k) ctl)
 ack-open l ctl bits k = ack-more l ctl bits 10 k (λ e. omega (arith, e))
 
 -- with a try left, SCL is released
 pub scl-more : (l : Layout) (ctl bits left : ℕ) (k : ℕ → Bus) → (left ≡ 0 → ⊥)
     → lineNext l (Going (record { ctl = bitOr ctl (l .sclout); bits = bits; line = Write (Up (left - 1)) })) k ≡ erase (sclTries l left (k bits) ctl)
-unfolding lineNext accessLine accessAt restLine restAt sclTries put settled erase
+unfolding lineNext acknowledged heardAt heardGoal accessLine accessAt restLine restAt sclTries put settled erase
 scl-more l ctl bits zero k h = absurd (h refl)
 scl-more l ctl bits (suc n) k h =
     ap (λ m. lineNext l (Going (record { ctl = bitOr ctl (l .sclout); bits = bits; line = Write (Up m) })) k) (sub-one (suc n))
@@ -53,6 +54,9 @@ scl-open l ctl bits k = scl-more l (bitOr ctl (l .scloen)) bits 500 k (λ e. ome
 -- a counter within its limit stays so as it goes down
 pub fewer : (n m : ℕ) → ltb n m ≡ true → ltb (n - 1) m ≡ true
 fewer n m h = lt-ltb (n - 1) m (omega (arith, ltb-true n m h))
+
+pub ltb-leb : (n m : ℕ) → ltb n m ≡ true → leb n m ≡ true
+ltb-leb n m h = le-leb n m (omega (arith, ltb-true n m h))
 
 pub picked : (t v : Bool) → t ≡ true → v ≡ true → pick t v false ≡ true
 unfolding pick
@@ -79,14 +83,22 @@ pulse-first (suc zero) h = absurd (omega (arith, h))
 pulse-first (suc (suc zero)) h = absurd (omega (arith, h))
 pulse-first (suc (suc (suc n))) h = refl
 
-pub sense-first : (heard : Call) (n : ℕ) → 5 ≤ n → senseCall heard n ≡ Release
+pub sense-first : (n : ℕ) → 5 ≤ n → senseCall n ≡ Release
 unfolding senseCall
-sense-first heard zero h = absurd (omega (arith, h))
-sense-first heard (suc zero) h = absurd (omega (arith, h))
-sense-first heard (suc (suc zero)) h = absurd (omega (arith, h))
-sense-first heard (suc (suc (suc zero))) h = absurd (omega (arith, h))
-sense-first heard (suc (suc (suc (suc zero)))) h = absurd (omega (arith, h))
-sense-first heard (suc (suc (suc (suc (suc n))))) h = refl
+sense-first zero h = absurd (omega (arith, h))
+sense-first (suc zero) h = absurd (omega (arith, h))
+sense-first (suc (suc zero)) h = absurd (omega (arith, h))
+sense-first (suc (suc (suc zero))) h = absurd (omega (arith, h))
+sense-first (suc (suc (suc (suc zero)))) h = absurd (omega (arith, h))
+sense-first (suc (suc (suc (suc (suc n))))) h = refl
+
+pub ack-first : (n : ℕ) → 4 ≤ n → ackCall n ≡ Release
+unfolding ackCall
+ack-first zero h = absurd (omega (arith, h))
+ack-first (suc zero) h = absurd (omega (arith, h))
+ack-first (suc (suc zero)) h = absurd (omega (arith, h))
+ack-first (suc (suc (suc zero))) h = absurd (omega (arith, h))
+ack-first (suc (suc (suc (suc n)))) h = refl
 
 start-look : (n : ℕ) → 7 ≤ n → startCall n ≡ Look
 unfolding startCall
@@ -130,14 +142,22 @@ valid-pulse (suc zero) = refl
 valid-pulse (suc (suc zero)) = refl
 valid-pulse (suc (suc (suc n))) = refl
 
-valid-sense : (heard : Call) (n : ℕ) → validCall heard ≡ true → validCall (senseCall heard n) ≡ true
+valid-sense : (n : ℕ) → validCall (senseCall n) ≡ true
 unfolding senseCall validCall
-valid-sense heard zero h = refl
-valid-sense heard (suc zero) h = refl
-valid-sense heard (suc (suc zero)) h = h
-valid-sense heard (suc (suc (suc zero))) h = refl
-valid-sense heard (suc (suc (suc (suc zero)))) h = refl
-valid-sense heard (suc (suc (suc (suc (suc n))))) h = refl
+valid-sense zero = refl
+valid-sense (suc zero) = refl
+valid-sense (suc (suc zero)) = refl
+valid-sense (suc (suc (suc zero))) = refl
+valid-sense (suc (suc (suc (suc zero)))) = refl
+valid-sense (suc (suc (suc (suc (suc n))))) = refl
+
+valid-ack : (n : ℕ) → validCall (ackCall n) ≡ true
+unfolding ackCall validCall
+valid-ack zero = refl
+valid-ack (suc zero) = refl
+valid-ack (suc (suc zero)) = refl
+valid-ack (suc (suc (suc zero))) = refl
+valid-ack (suc (suc (suc (suc n)))) = refl
 
 valid-start : (n : ℕ) → validCall (startCall n) ≡ true
 unfolding startCall validCall
@@ -172,8 +192,8 @@ valid-probe (suc (suc (suc n))) = refl
 pub valid-calls : (l : Layout) (c : Command) (n : ℕ) → validCall (callAt l c n) ≡ true
 unfolding callAt endCall sendCall readCall freeCall pulsesCall validCall
 valid-calls l Start n = valid-start n
-valid-calls l (Send value) n = valid-either (ltb n 6) _ _ (valid-sense AckCall n refl) (valid-out _ _)
-valid-calls l (Read high) n = valid-either (ltb n 5) _ _ (valid-out high n) (valid-sense Sample _ refl)
+valid-calls l (Send value) n = valid-either (ltb n 5) _ _ (valid-ack n) (valid-out _ _)
+valid-calls l (Read high) n = valid-either (ltb n 5) _ _ (valid-out high n) (valid-sense _)
 valid-calls l Stop n = valid-either (eqb (l .bben) 0) _ _ (valid-stop n) (valid-either (eqb n 0) _ _ refl (valid-stop (n - 1)))
 valid-calls l (Free Pulses) n = valid-either (ltb n 36) _ _ (valid-pulse (n % 4)) refl
 valid-calls l (Free Probe) n = valid-probe n

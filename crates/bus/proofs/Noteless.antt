@@ -1,20 +1,28 @@
--- The line calls, the commands and the clearing sequences note nothing, so that no attempt begins in them.
+-- The line calls, the commands and the clearing sequences note nothing but acknowledgements, so that no attempt begins in them.
 use Prim.Native.Nat.{ℕ}
 use mathlib.Core.Path.{_≡_, refl}
 use mathlib.Core.Bool.{Bool, true, false}
 use mathlib.Core.List.{List, [], _∷_}
 use Rattle.hardware.specs.declared.Answer.{Answer}
-use Rattle.hardware.specs.Prog.{Prog, ret, ask, note, give, pick, _>>=_}
-use Rattle.hardware.specs.Runs.{transfersIn}
+use Rattle.hardware.specs.Prog.{Note, Attempt, Acquires, Acquired, Released, Lapsed, Acknowledged, Prog, ret, ask, note, give, pick, _>>=_}
+use Rattle.hardware.specs.Runs.{transfersIn, samplesIn, Sample, Samples}
 use Rattle.bus.specs.declared.Layout.{Layout}
 use Rattle.bus.specs.declared.Taken.{Taken}
 use Rattle.bus.specs.Bus.{Bus, done, clear, clearRounds}
 use Rattle.bus.proofs.Spreads.{Spreads, clear-holds, clear-rounds-holds}
 
+abbrev pub Heard : Note → Type 0
+Heard Attempt = ⊥
+Heard Acquires = ⊥
+Heard Acquired = ⊥
+Heard Released = ⊥
+Heard Lapsed = ⊥
+Heard (Acknowledged sample) = Sample sample
+
 unfoldable pub Noteless : {A : Type 0} → Prog A → Type 0
 Noteless (ret v) = Unit {0}
 Noteless (ask x f) = (a : Answer) → Noteless (f a)
-Noteless (note n p) = ⊥
+Noteless (note n p) = Heard n × Noteless p
 Noteless (give b p) = Noteless p
 
 abbrev pub NotelessBus : Bus → Type 0
@@ -25,8 +33,26 @@ unfolding Noteless transfersIn
 transfers-none (ret v) l e = refl
 transfers-none (ask x f) [] e = refl
 transfers-none (ask x f) (a ∷ l) e = transfers-none (f a) l (e a)
-transfers-none (note n p) l e = absurd e
+transfers-none (note Attempt p) l e = absurd (e .0)
+transfers-none (note Acquires p) l e = absurd (e .0)
+transfers-none (note Acquired p) l e = absurd (e .0)
+transfers-none (note Released p) l e = absurd (e .0)
+transfers-none (note Lapsed p) l e = absurd (e .0)
+transfers-none (note (Acknowledged sample) p) l e = transfers-none p l (e .1)
 transfers-none (give b p) l e = transfers-none p l e
+
+pub samples-noteless : {A : Type 0} (p : Prog A) (l : List Answer) → Noteless p → Samples (samplesIn p l)
+unfolding Noteless samplesIn Samples
+samples-noteless (ret v) l e = tt
+samples-noteless (ask x f) [] e = tt
+samples-noteless (ask x f) (a ∷ l) e = samples-noteless (f a) l (e a)
+samples-noteless (note Attempt p) l e = absurd (e .0)
+samples-noteless (note Acquires p) l e = absurd (e .0)
+samples-noteless (note Acquired p) l e = absurd (e .0)
+samples-noteless (note Released p) l e = absurd (e .0)
+samples-noteless (note Lapsed p) l e = absurd (e .0)
+samples-noteless (note (Acknowledged sample) p) l e = (e .0, samples-noteless p l (e .1))
+samples-noteless (give b p) l e = samples-noteless p l e
 
 pub ret-noteless : {A : Type 0} (v : A) → Noteless (ret v)
 unfolding Noteless
@@ -36,7 +62,7 @@ pub bind-noteless : {A B : Type 0} (p : Prog A) (k : A → Prog B) → Noteless 
 unfolding Noteless _>>=_
 bind-noteless (ret a) k e d = d a
 bind-noteless (ask x f) k e d = λ a. bind-noteless (f a) k (e a) d
-bind-noteless (note n p) k e d = absurd e
+bind-noteless (note n p) k e d = (e .0, bind-noteless p k (e .1) d)
 bind-noteless (give b p) k e d = bind-noteless p k e d
 
 pub pick-noteless : {A : Type 0} (b : Bool) (p q : Prog A) → Noteless p → Noteless q → Noteless (pick b p q)
@@ -46,7 +72,7 @@ pick-noteless false p q e d = d
 
 pub noteless-spreads : Spreads Noteless
 unfolding Noteless
-noteless-spreads = record { asked = λ x f e. e; failed = λ e ctl. tt }
+noteless-spreads = record { asked = λ x f e. e; failed = λ e ctl. tt; noted = λ sample p h e. (h, e) }
 
 pub done-noteless : (t : Taken) → NotelessBus (done t)
 done-noteless t ctl = ret-noteless _

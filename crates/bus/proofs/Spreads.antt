@@ -1,22 +1,29 @@
 -- What spreads holds of the line calls, the commands and the clearing sequences wherever it holds of what comes after them.
-use Prim.Native.Nat.{ℕ, suc, zero}
+use Prim.Native.Nat.{ℕ, _-_, suc, zero}
 use mathlib.Core.Bool.{Bool, true, false}
+use mathlib.Core.Path.{_≡_, refl}
+use native.Mathlib.Omega.{arith}
+use lib.Dec.{ltb}
+use borrow.Author.Tests.{ltb-true}
 use Rattle.hardware.specs.declared.Access.{Access}
 use Rattle.hardware.specs.declared.Answer.{Answer}
 use Rattle.hardware.specs.Failures.{Failure, I2c}
-use Rattle.hardware.specs.Prog.{Prog, ask, R, Ok, Err, pick, _>>=_}
+use Rattle.hardware.specs.Marks.{acknowledged}
+use Rattle.hardware.specs.Prog.{Prog, Acknowledged, ask, note, noteIf, R, Ok, Err, pick, _>>=_}
 use Rattle.hardware.specs.Registers.{raw, written, flushed}
+use Rattle.hardware.specs.Runs.{Sample}
 use Rattle.bus.specs.declared.Layout.{Layout}
 use Rattle.bus.specs.declared.Taken.{Taken}
 use Rattle.bus.specs.declared.command.Piece.{Piece}
 use Rattle.bus.specs.declared.command.Piece.the-variants.{Pulses, Probe, Lower, Pull}
 use Rattle.bus.specs.Command.{freed}
-use Rattle.bus.specs.Bus.{Held, Bus, done, fail, none, orHeld, flushing, put, get, wait, sclSeen, sclTries, sclHigh, sclLow, sdaSeen, sdaFree, sda, releaseSda, look, lookSeen, start, close, stop, outBit, sample, sampleSeen, inBit, shifted, inBits, inByte, bitOf, outBits, ackSeen, ackTries, send, pulses, orQuiet, quieted, quiet, clear, clearFree, clearAgain, clearStop, pulled, rounds, clearRounds}
+use Rattle.bus.specs.Bus.{Held, Bus, done, fail, none, orHeld, flushing, put, get, wait, sclSeen, sclTries, sclHigh, sclLow, sdaSeen, sdaFree, sda, releaseSda, look, lookSeen, start, close, stop, outBit, sample, sampleSeen, inBit, shifted, inBits, inByte, bitOf, outBits, heard, ackSeen, ackTries, send, pulses, orQuiet, quieted, quiet, clear, clearFree, clearAgain, clearStop, pulled, rounds, clearRounds}
 
--- P holds of a failure, and of an access wherever it holds after each answer
+-- P holds of a failure, of an access wherever it holds after each answer, and of an acknowledgement where it holds after it
 pub record Spreads (P : Prog Held → Type 0) : Type 0 where
   pub asked : (x : Access) (f : Answer → Prog Held) → ((a : Answer) → P (f a)) → P (ask x f)
   pub failed : (e : Failure) (ctl : ℕ) → P (fail e ctl)
+  pub noted : (sample : ℕ) (p : Prog Held) → Sample sample → P p → P (note (Acknowledged sample) p)
 
 -- whatever control word the driver holds
 abbrev pub Throughout : (Prog Held → Type 0) → Bus → Type 0
@@ -134,11 +141,19 @@ module _ (P : Prog Held → Type 0) (s : Spreads P) where
   out-bits-holds l byte zero k e = e
   out-bits-holds l byte (suc count) k e = out-bit-holds l (bitOf byte count) _ (out-bits-holds l byte count k e)
 
+  heard-holds : (left : ℕ) (k : Bus) → Throughout P k → Throughout P (heard left k)
+  unfolding acknowledged
+  heard-holds left k e ctl = by (ltb left 10) refl
+    where
+      by : (b : Bool) → ltb left 10 ≡ b → P (noteIf b (Acknowledged (10 - left)) (k ctl))
+      by true h = s .noted _ _ (record { first = omega (arith, ltb-true left 10 h); last = omega arith }) (e ctl)
+      by false h = e ctl
+
   ack-tries-holds : (l : Layout) (tries : ℕ) (k : Bool → Bus) → ((high : Bool) → Throughout P (k high)) → Throughout P (ackTries l tries k)
   unfolding ackTries ackSeen
   ack-tries-holds l zero k e = e true
   ack-tries-holds l (suc left) k e =
-      get-holds l _ (λ v. either-holds _ _ _ (e false) (wait-holds 1 _ (ack-tries-holds l left k e)))
+      get-holds l _ (λ v. either-holds _ _ _ (heard-holds left _ (e false)) (wait-holds 1 _ (ack-tries-holds l left k e)))
 
   pub send-holds : (l : Layout) (device byte : ℕ) (k : Bus) → Throughout P k → Throughout P (send l device byte k)
   unfolding send

@@ -6,6 +6,7 @@ use lib.Bits.{bitAnd, bitOr}
 use lib.Dec.{eqb}
 use Rattle.hardware.specs.declared.Access.the-variants.{Read, Write, Wait}
 use Rattle.hardware.specs.Failures.{Failure, I2c}
+use Rattle.hardware.specs.Marks.{acknowledged}
 use Rattle.hardware.specs.Prog.{Prog, ret, ask, R, Ok, Err, pick, _>>=_}
 use Rattle.hardware.specs.Registers.{STATUS, not32, noneOf, raw, written, flushed, micros}
 use Rattle.bus.specs.declared.Layout.{Layout}
@@ -133,14 +134,18 @@ unfoldable pub outBits : Layout → ℕ → ℕ → Bus → Bus
 outBits l byte zero k = k
 outBits l byte (suc n) k = outBit l (bitOf byte n) (outBits l byte n k)
 
+-- the byte is acknowledged, in the sample with so many after it
+abbrev pub heard : ℕ → Bus → Bus
+heard left k ctl = acknowledged left (k ctl)
+
 -- a sample: SDA low is the acknowledgement; else a wait, and again
-unfoldable pub ackSeen : Layout → Bus → (Bool → Bus) → ℕ → Bus
-ackSeen l again k v = pick (noneOf v (l .sdain)) (k false) (wait 1 again)
+unfoldable pub ackSeen : Layout → ℕ → Bus → (Bool → Bus) → ℕ → Bus
+ackSeen l left again k v = pick (noneOf v (l .sdain)) (heard left (k false)) (wait 1 again)
 
 -- whether SDA was high in every sample
 unfoldable pub ackTries : Layout → ℕ → (Bool → Bus) → Bus
 ackTries l zero k = k true
-ackTries l (suc left) k = get l (ackSeen l (ackTries l left k) k)
+ackTries l (suc left) k = get l (ackSeen l left (ackTries l left k) k)
 
 -- eight bits, SDA released, and the acknowledgement within ten samples
 unfoldable pub send : Layout → ℕ → ℕ → Bus → Bus

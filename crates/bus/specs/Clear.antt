@@ -6,6 +6,7 @@ use Rattle.hardware.specs.declared.Access.{Access}
 use Rattle.hardware.specs.declared.Answer.{Answer}
 use Rattle.hardware.specs.declared.Outcome.the-variants.{Ok as OutcomeOk, Err as OutcomeErr}
 use Rattle.hardware.specs.Failures.{failureOf}
+use Rattle.hardware.specs.Marks.{acknowledged}
 use Rattle.hardware.specs.Prog.{Prog, ask, erase, pick, _>>=_}
 use Rattle.bus.specs.declared.Layout.{Layout}
 use Rattle.bus.specs.declared.command.Command.{Command}
@@ -18,7 +19,7 @@ use Rattle.bus.specs.declared.clear.Clear.{Clear}
 use Rattle.bus.specs.declared.clear.ClearNext.{ClearNext}
 use Rattle.bus.specs.declared.clear.ClearNext.the-variants.{Going, End}
 use Rattle.bus.specs.Bus.{Held, Bus, done, fail, none, wait, sclLow, quieted, clearStop, clearAgain, clearFree, pulled, rounds}
-use Rattle.bus.specs.Command.{accessJob, restJob, validJob}
+use Rattle.bus.specs.Command.{accessJob, heardJob, restJob, validJob}
 
 unfoldable pub commandOf : Part → Command
 commandOf First = Start
@@ -31,6 +32,10 @@ commandOf Pulling = Free Pull
 
 unfoldable pub accessClear : Layout → Clear → Access
 accessClear l s = accessJob l (s .job)
+
+-- as of any command; no sequence sends a byte
+abbrev pub heardClear : Clear → ℕ
+heardClear s = heardJob (s .job)
 
 -- SDA was read in a round, the bit heard being 1 where it is high; so many rounds are left
 unfoldable pub probed : Layout → ℕ → ℕ → Bus
@@ -49,7 +54,7 @@ unfoldable pub restClear : Layout → Clear → Answer → Prog Held
 restClear l s a = restPart l (s .part) (s .job) a
 
 unfoldable pub clearNext : Layout → ClearNext → Prog Held
-clearNext l (Going s) = ask (accessClear l s) (λ a. erase (restClear l s a))
+clearNext l (Going s) = acknowledged (heardClear s) (ask (accessClear l s) (λ a. erase (restClear l s a)))
 clearNext l (End ctl OutcomeOk) = done none ctl
 clearNext l (End ctl (OutcomeErr e)) = fail (failureOf e) ctl
 

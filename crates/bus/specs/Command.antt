@@ -6,6 +6,7 @@ use lib.Dec.{eqb, ltb}
 use Rattle.hardware.specs.declared.Access.{Access}
 use Rattle.hardware.specs.declared.Answer.{Answer}
 use Rattle.hardware.specs.Failures.{I2c}
+use Rattle.hardware.specs.Marks.{acknowledged}
 use Rattle.hardware.specs.Prog.{Prog, ask, erase, pick}
 use Rattle.hardware.specs.Registers.{byte}
 use Rattle.bus.specs.declared.Layout.{Layout}
@@ -19,7 +20,7 @@ use Rattle.bus.specs.declared.job.Job.{Job}
 use Rattle.bus.specs.declared.job.JobNext.{JobNext}
 use Rattle.bus.specs.declared.job.JobNext.the-variants.{Going, End}
 use Rattle.bus.specs.Bus.{Held, Bus, orHeld, fail, bitOf, shifted, wait, sample, sclHigh, sclLow, sda, releaseSda, pulses}
-use Rattle.bus.specs.Line.{called, accessLine, restLine, validLine}
+use Rattle.bus.specs.Line.{called, accessLine, heardLine, restLine, validLine}
 
 -- how every bit ends: Up, a wait, Down, a wait
 unfoldable pub pulseCall : ℕ → Call
@@ -31,14 +32,22 @@ pulseCall (suc (suc (suc n))) = Up
 unfoldable pub outBitCall : Bool → ℕ → Call
 outBitCall high n = pick (ltb n 4) (pulseCall n) (Sda high)
 
--- SDA is released, and heard while SCL is high
-unfoldable pub senseCall : Call → ℕ → Call
-senseCall heard zero = Wait 5
-senseCall heard (suc zero) = Down
-senseCall heard (suc (suc zero)) = heard
-senseCall heard (suc (suc (suc zero))) = Wait 4
-senseCall heard (suc (suc (suc (suc zero)))) = Up
-senseCall heard (suc (suc (suc (suc (suc n))))) = Release
+-- SDA is released, and heard while SCL is high: a bit
+unfoldable pub senseCall : ℕ → Call
+senseCall zero = Wait 5
+senseCall (suc zero) = Down
+senseCall (suc (suc zero)) = Sample
+senseCall (suc (suc (suc zero))) = Wait 4
+senseCall (suc (suc (suc (suc zero)))) = Up
+senseCall (suc (suc (suc (suc (suc n))))) = Release
+
+-- or the acknowledgement, after which SCL goes low
+unfoldable pub ackCall : ℕ → Call
+ackCall zero = Wait 5
+ackCall (suc zero) = Ack
+ackCall (suc (suc zero)) = Wait 4
+ackCall (suc (suc (suc zero))) = Up
+ackCall (suc (suc (suc (suc n)))) = Release
 
 unfoldable pub startCall : ℕ → Call
 startCall zero = Wait 5
@@ -63,11 +72,11 @@ endCall l n = pick (eqb (l .bben) 0) (stopCall n) (pick (eqb n 0) Close (stopCal
 
 -- eight bits, the highest first, and the acknowledgement
 unfoldable pub sendCall : ℕ → ℕ → Call
-sendCall value n = pick (ltb n 6) (senseCall Ack n) (outBitCall (bitOf value ((n - 6) / 5)) ((n - 6) % 5))
+sendCall value n = pick (ltb n 5) (ackCall n) (outBitCall (bitOf value ((n - 5) / 5)) ((n - 5) % 5))
 
 -- eight bits, and the acknowledge bit
 unfoldable pub readCall : Bool → ℕ → Call
-readCall high n = pick (ltb n 5) (outBitCall high n) (senseCall Sample ((n - 5) % 6))
+readCall high n = pick (ltb n 5) (outBitCall high n) (senseCall ((n - 5) % 6))
 
 -- SDA released and nine pulses
 unfoldable pub pulsesCall : ℕ → Call
@@ -105,7 +114,7 @@ freeCount Pull = 4
 
 unfoldable pub callCount : Layout → Command → ℕ
 callCount l Start = 8
-callCount l (Send value) = 46
+callCount l (Send value) = 45
 callCount l (Read high) = 53
 callCount l Stop = stopCount l
 callCount l (Free p) = freeCount p
@@ -136,11 +145,14 @@ commanded l device c k = callsLeft l device c (callCount l c) k 0
 unfoldable pub accessJob : Layout → Job → Access
 accessJob l s = accessLine l (s .state)
 
+abbrev pub heardJob : Job → ℕ
+heardJob s = heardLine (s .state)
+
 unfoldable pub restJob : Layout → ℕ → Command → Job → Answer → (ℕ → Bus) → Prog Held
 restJob l device c s a k = restLine l (s .state) a (callsLeft l device c (s .left) k)
 
 unfoldable pub jobNext : Layout → ℕ → Command → JobNext → (ℕ → Bus) → Prog Held
-jobNext l device c (Going s) k = ask (accessJob l s) (λ a. erase (restJob l device c s a k))
+jobNext l device c (Going s) k = acknowledged (heardJob s) (ask (accessJob l s) (λ a. erase (restJob l device c s a k)))
 jobNext l device c (End ctl b) k = erase (orHeld k ctl (byte b))
 
 unfoldable pub validJob : Layout → Command → Job → Bool

@@ -1,10 +1,11 @@
 -- The line calls one access at a time: the access that is awaited, and what follows its answer.
 use Prim.Native.Nat.{ℕ}
 use mathlib.Core.Bool.{Bool, true}
-use lib.Dec.{ltb}
+use lib.Dec.{leb, ltb}
 use Rattle.hardware.specs.declared.Access.{Access}
 use Rattle.hardware.specs.declared.Access.the-variants.{Read, Write, Wait}
 use Rattle.hardware.specs.declared.Answer.{Answer}
+use Rattle.hardware.specs.Marks.{acknowledged}
 use Rattle.hardware.specs.Prog.{Prog, ask, erase}
 use Rattle.hardware.specs.Registers.{STATUS, raw, written, flushed, micros, outcome}
 use Rattle.bus.specs.declared.Layout.{Layout}
@@ -23,6 +24,10 @@ use Rattle.bus.specs.Bus.{Held, Bus, orHeld, flushing, get, wait, shifte
 unfoldable pub sensed : ℕ → (ℕ → Bus) → Bool → Bus
 sensed bits k bit = k (shifted bits bit)
 
+-- SCL goes low after the acknowledgement
+abbrev pub ackDown : Layout → ℕ → (ℕ → Bus) → Bool → Bus
+ackDown l bits k high = sclLow l (sensed bits k high)
+
 -- a line call as a command makes it; bits: those heard so far, the newest lowest
 unfoldable pub called : Layout → Call → ℕ → (ℕ → Bus) → Bus
 called l Look bits k = look l (k bits)
@@ -32,7 +37,7 @@ called l Up bits k = sclHigh l (k bits)
 called l Down bits k = sclLow l (k bits)
 called l (Pausing us) bits k = wait us (k bits)
 called l Sample bits k = sample l (sensed bits k)
-called l Ack bits k = ackTries l 10 (sensed bits k)
+called l Ack bits k = ackTries l 10 (ackDown l bits k)
 called l Close bits k = close l (k bits)
 
 -- the wait after a word is put, where there is one
@@ -41,7 +46,7 @@ settleUs High = 3
 settleUs Free = 1
 settleUs Low = 3
 settleUs Released = 1
-settleUs Lowered = 1
+settleUs (Lowered left) = 1
 settleUs (Raised left) = 1
 settleUs Closed = 1
 
@@ -51,7 +56,7 @@ reached l High k = sdaFree l k
 reached l Free k = get l (sdaSeen l k)
 reached l Low k = k
 reached l Released k = k
-reached l Lowered k = k
+reached l (Lowered left) k = k
 reached l (Raised left) k = get l (sclSeen l (sclTries l left k) k)
 reached l Closed k = k
 
@@ -61,7 +66,7 @@ settled l High k = wait 3 (sdaFree l k)
 settled l Free k = get l (sdaSeen l k)
 settled l Low k = wait 3 k
 settled l Released k = wait 1 k
-settled l Lowered k = wait 1 k
+settled l (Lowered left) k = wait 1 k
 settled l (Raised left) k = wait 1 (get l (sclSeen l (sclTries l left k) k))
 settled l Closed k = k
 
@@ -80,13 +85,38 @@ accessAt l ctl (Rise left) = Read (l .reg)
 unfoldable pub accessLine : Layout → LineState → Access
 accessLine l s = accessAt l (s .ctl) (s .line)
 
+-- the samples that were left when a byte was acknowledged just before the access; 10 where none was
+unfoldable pub heardGoal : Goal → ℕ
+heardGoal High = 10
+heardGoal Free = 10
+heardGoal Low = 10
+heardGoal Released = 10
+heardGoal (Lowered left) = left
+heardGoal (Raised left) = 10
+heardGoal Closed = 10
+
+unfoldable pub heardAt : Line → ℕ
+heardAt Looking = 10
+heardAt (Pause us) = 10
+heardAt Sampling = 10
+heardAt (Listening left) = 10
+heardAt (Rest left) = 10
+heardAt (Writing g) = heardGoal g
+heardAt (Flush g) = 10
+heardAt (Settle g) = 10
+heardAt Check = 10
+heardAt (Rise left) = 10
+
+abbrev pub heardLine : LineState → ℕ
+heardLine s = heardAt (s .line)
+
 unfoldable pub restAt : Layout → ℕ → ℕ → Line → Answer → (ℕ → Bus) → Prog Held
 restAt l ctl bits Looking a k = orHeld (lookSeen l (k bits)) ctl (raw a)
 restAt l ctl bits (Pause us) a k = k bits ctl
 restAt l ctl bits Sampling a k = orHeld (sampleSeen l (sensed bits k)) ctl (raw a)
 restAt l ctl bits (Listening left) a k =
-    orHeld (ackSeen l (ackTries l left (sensed bits k)) (sensed bits k)) ctl (raw a)
-restAt l ctl bits (Rest left) a k = ackTries l left (sensed bits k) ctl
+    orHeld (ackSeen l left (ackTries l left (ackDown l bits k)) (ackDown l bits k)) ctl (raw a)
+restAt l ctl bits (Rest left) a k = ackTries l left (ackDown l bits k) ctl
 restAt l ctl bits (Writing g) a k = orHeld (λ _. flushing (settled l g (k bits))) ctl (written a)
 restAt l ctl bits (Flush g) a k = orHeld (λ _. settled l g (k bits)) ctl (flushed a)
 restAt l ctl bits (Settle g) a k = reached l g (k bits) ctl
@@ -97,7 +127,7 @@ unfoldable pub restLine : Layout → LineState → Answer → (ℕ → Bus) → 
 restLine l s a k = restAt l (s .ctl) (s .bits) (s .line) a k
 
 unfoldable pub lineNext : Layout → LineNext → (ℕ → Bus) → Prog Held
-lineNext l (Going s) k = ask (accessLine l s) (λ a. erase (restLine l s a k))
+lineNext l (Going s) k = acknowledged (heardLine s) (ask (accessLine l s) (λ a. erase (restLine l s a k)))
 lineNext l (End ctl bits o) k = erase (orHeld (λ _. k bits) ctl (outcome o))
 
 -- the counters' limits: 500 tries, 10 samples, and no wait of a command is above 5 µs
@@ -106,7 +136,7 @@ validGoal High = true
 validGoal Free = true
 validGoal Low = true
 validGoal Released = true
-validGoal Lowered = true
+validGoal (Lowered left) = leb left 10
 validGoal (Raised left) = ltb left 500
 validGoal Closed = true
 

@@ -16,7 +16,7 @@ ghost use Rattle.bus.specs.declared.command.Command.the-variants.{Start 
 ghost use Rattle.bus.specs.declared.command.Piece.the-variants.{Pulses};
 ghost use Rattle.bus.specs.Bus.{done, none, quieted, clearStop, clearAgain, clearFree, clear};
 ghost use Rattle.bus.specs.Command.{jobNext, validJobNext};
-ghost use Rattle.bus.specs.Clear.{commandOf, accessClear, restClear, clearNext, validPart, validClear, validClearNext};
+ghost use Rattle.bus.specs.Clear.{commandOf, accessClear, heardClear, restClear, clearNext, validPart, validClear, validClearNext};
 
 // A sequence's parts: the first three are the Rust's, the last three the other's, and Stop is of both. Probe and Lower hold
 // the rounds after this one.
@@ -155,6 +155,13 @@ pub fn access(l: Layout, s: Clear) -> Access
 {
     let j = s.job;
     crate::job::access(l, j)
+}
+
+pub fn heard(s: Clear) -> u8
+    ensures { λ r. ⌜ r ≡ heardClear s ⌝ }
+{
+    let j = s.job;
+    crate::job::heard(j)
 }
 
 pub fn step(l: Layout, s: Clear, a: Answer) -> ClearNext

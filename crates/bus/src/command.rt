@@ -4,7 +4,7 @@ use crate::line::Call;
 ghost use Prim.Native.Nat.{_<_};
 ghost use mathlib.Core.Path.{_≡_};
 ghost use Rattle.bus.specs.Bus.{bitOf};
-ghost use Rattle.bus.specs.Command.{pulseCall, outBitCall, senseCall, startCall, stopCall, sendCall, readCall, pulsesCall, probeCall, freeCall, endCall, callAt, stopCount, freeCount, callCount};
+ghost use Rattle.bus.specs.Command.{pulseCall, outBitCall, senseCall, ackCall, startCall, stopCall, sendCall, readCall, pulsesCall, probeCall, freeCall, endCall, callAt, stopCount, freeCount, callCount};
 
 // A piece of a clearing sequence. Pulses: SDA released and nine pulses. Probe: SDA released, SCL raised and SDA read. Lower: SCL
 // lowered. Pull: SDA pulled before it.
@@ -51,15 +51,27 @@ fn out_bit(high: bool, n: u8) -> Call
     Call::Sda(high)
 }
 
-fn sense(call: Call, n: u8) -> Call
-    ensures { λ r. ⌜ r ≡ senseCall call n ⌝ }
+fn sense(n: u8) -> Call
+    ensures { λ r. ⌜ r ≡ senseCall n ⌝ }
 {
     match n {
         0 => Call::Wait(5),
         1 => Call::Down,
-        2 => call,
+        2 => Call::Sample,
         3 => Call::Wait(4),
         4 => Call::Up,
+        _ => Call::Release,
+    }
+}
+
+fn ack(n: u8) -> Call
+    ensures { λ r. ⌜ r ≡ ackCall n ⌝ }
+{
+    match n {
+        0 => Call::Wait(5),
+        1 => Call::Ack,
+        2 => Call::Wait(4),
+        3 => Call::Up,
         _ => Call::Release,
     }
 }
@@ -94,10 +106,10 @@ fn stop(n: u8) -> Call
 fn send(byte: u8, n: u8) -> Call
     ensures { λ r. ⌜ r ≡ sendCall byte n ⌝ }
 {
-    if n < 6 {
-        return sense(Call::Ack, n);
+    if n < 5 {
+        return ack(n);
     }
-    let m = n - 6;
+    let m = n - 5;
     out_bit(bit(byte, m / 5), m % 5)
 }
 
@@ -107,7 +119,7 @@ fn read(high: bool, n: u8) -> Call
     if n < 5 {
         return out_bit(high, n);
     }
-    sense(Call::Sample, (n - 5) % 6)
+    sense((n - 5) % 6)
 }
 
 fn pulses(n: u8) -> Call
@@ -191,7 +203,7 @@ pub fn count(l: Layout, c: Command) -> u8
 {
     match c {
         Command::Start => 8,
-        Command::Send(_) => 46,
+        Command::Send(_) => 45,
         Command::Read(_) => 53,
         Command::Stop => stop_count(l),
         Command::Free(p) => free_count(p),

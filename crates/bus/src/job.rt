@@ -17,7 +17,7 @@ ghost use Rattle.hardware.specs.Prog.{erase};
 ghost use Rattle.hardware.specs.Promise.{Bounds};
 ghost use Rattle.bus.specs.Bus.{Bus};
 ghost use Rattle.bus.specs.Line.{called, lineNext, validLineNext};
-ghost use Rattle.bus.specs.Command.{callAt, callCount, finished, callsLeft, commanded, accessJob, restJob, jobNext, validJob, validJobNext};
+ghost use Rattle.bus.specs.Command.{callAt, callCount, finished, callsLeft, commanded, accessJob, heardJob, restJob, jobNext, validJob, validJobNext};
 ghost use Rattle.bus.specs.Steps.{CALL-STEPS, JOB-STEPS};
 ghost use Rattle.bus.specs.Left.{lineLeft, jobLeft, jobNextLeft};
 
@@ -93,6 +93,14 @@ pub fn access(l: Layout, s: Job) -> Access
 {
     let state = s.state;
     crate::line::access(l, state)
+}
+
+pub fn heard(s: Job) -> u8
+    ensures { λ r. ⌜ r ≡ heardJob s ⌝ }
+{
+    let state = s.state;
+    let line = state.line;
+    crate::line::heard(line)
 }
 
 pub fn step(l: Layout, device: u8, c: Command, s: Job, a: Answer) -> JobNext

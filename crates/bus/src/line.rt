@@ -9,11 +9,11 @@ use hardware::Word;
 ghost use Prim.Native.Nat.{ℕ};
 ghost use mathlib.Core.Path.{_≡_};
 ghost use mathlib.Core.Bool.{true};
-ghost use lib.Dec.{ltb};
+ghost use lib.Dec.{leb, ltb};
 ghost use Rattle.hardware.specs.Prog.{erase};
 ghost use Rattle.hardware.specs.Registers.{word, outcome};
-ghost use Rattle.bus.specs.Bus.{Bus, orHeld, lookSeen, sampleSeen, sdaLevel, shifted, sclSeen, sclTries, sdaSeen, sdaFree, sda, ackSeen, ackTries, flushing};
-ghost use Rattle.bus.specs.Line.{settleUs, settled, reached, sensed, called, accessLine, restLine, lineNext, validGoal, validLine, validLineNext, validCall};
+ghost use Rattle.bus.specs.Bus.{Bus, orHeld, lookSeen, sampleSeen, sdaLevel, shifted, sclSeen, sclTries, sdaSeen, sdaFree, sda, sclLow, heard, ackSeen, ackTries, flushing};
+ghost use Rattle.bus.specs.Line.{settleUs, settled, reached, sensed, ackDown, called, heardGoal, heardAt, accessLine, restLine, lineNext, validGoal, validLine, validLineNext, validCall};
 
 pub enum Call {
     Look,
@@ -27,14 +27,15 @@ pub enum Call {
     Close,
 }
 
-// What a word is put to I2CCTL for: SDA high, its output enable off, SDA low, SDA released, SCL low, SCL high with
-// the tries left after this one, the end of a stop.
+// What a word is put to I2CCTL for: SDA high, its output enable off, SDA low, SDA released, SCL low with the samples that were
+// left when a byte was acknowledged just before it (10 where none was), SCL high with the tries left after this one, the end of
+// a stop.
 pub enum Goal {
     High,
     Free,
     Low,
     Release,
-    Down,
+    Down(u8),
     Up(u16),
     Close,
 }
@@ -73,7 +74,7 @@ fn settle_us(g: Goal) -> u32
         Goal::Free => 1,
         Goal::Low => 3,
         Goal::Release => 1,
-        Goal::Down => 1,
+        Goal::Down(_) => 1,
         Goal::Up(_) => 1,
         Goal::Close => 1,
     }
@@ -94,6 +95,38 @@ pub fn access(l: Layout, s: LineState) -> Access
         Line::Settle(g) => Access::Wait(Micros(settle_us(g))),
         Line::Check => Access::Read(l.reg),
         Line::Rise(_) => Access::Read(l.reg),
+    }
+}
+
+fn heard_goal(g: Goal) -> u8
+    ensures { λ r. ⌜ r ≡ heardGoal g ⌝ }
+{
+    match g {
+        Goal::High => 10,
+        Goal::Free => 10,
+        Goal::Low => 10,
+        Goal::Release => 10,
+        Goal::Down(left) => left,
+        Goal::Up(_) => 10,
+        Goal::Close => 10,
+    }
+}
+
+// The samples that were left when a byte was acknowledged just before the access; 10 where none was.
+pub fn heard(line: Line) -> u8
+    ensures { λ r. ⌜ r ≡ heardAt line ⌝ }
+{
+    match line {
+        Line::Look => 10,
+        Line::Pause(_) => 10,
+        Line::Sample => 10,
+        Line::Ack(_) => 10,
+        Line::Rest(_) => 10,
+        Line::Write(g) => heard_goal(g),
+        Line::Flush(_) => 10,
+        Line::Settle(_) => 10,
+        Line::Check => 10,
+        Line::Rise(_) => 10,
     }
 }
 
@@ -144,25 +177,37 @@ fn sample_seen(l: Layout, ctl: u32, bits: u8, w: Word) -> LineNext
     }
 }
 
+// SCL goes low, a byte having been acknowledged with so many samples left.
+fn down(l: Layout, ctl: u32, bits: u8, left: u8) -> LineState
+    ensures { λ r. ⌜ ((k : ℕ → Bus) → lineNext l (LineNext.Going r) k ≡ erase (heard left (sclLow l (k bits)) ctl)) ⌝ }
+    ensures { λ r. ⌜ (leb left 10 ≡ true → validLine (r .line) ≡ true) ⌝ }
+{
+    at(
+        ctl & !(l.sclout | l.scloen),
+        bits,
+        Line::Write(Goal::Down(left)),
+    )
+}
+
 // The samples that are left; without one, SDA stayed high.
 fn ack_tries(l: Layout, ctl: u32, bits: u8, left: u8) -> LineNext
-    ensures { λ r. ⌜ ((k : ℕ → Bus) → lineNext l r k ≡ erase (ackTries l left (sensed bits k) ctl)) ⌝ }
+    ensures { λ r. ⌜ ((k : ℕ → Bus) → lineNext l r k ≡ erase (ackTries l left (ackDown l bits k) ctl)) ⌝ }
     ensures { λ r. ⌜ (ltb left 10 ≡ true → validLineNext r ≡ true) ⌝ }
 {
     if left == 0 {
-        return LineNext::End(ctl, shift(bits, true), Outcome::Ok);
+        return LineNext::Going(down(l, ctl, shift(bits, true), 10));
     }
     LineNext::Going(at(ctl, bits, Line::Ack(left - 1)))
 }
 
 fn ack_seen(l: Layout, ctl: u32, bits: u8, left: u8, w: Word) -> LineNext
-    ensures { λ r. ⌜ ((k : ℕ → Bus) → lineNext l r k ≡ erase (orHeld (ackSeen l (ackTries l left (sensed bits k)) (sensed bits k)) ctl (word w))) ⌝ }
+    ensures { λ r. ⌜ ((k : ℕ → Bus) → lineNext l r k ≡ erase (orHeld (ackSeen l left (ackTries l left (ackDown l bits k)) (ackDown l bits k)) ctl (word w))) ⌝ }
     ensures { λ r. ⌜ (ltb left 10 ≡ true → validLineNext r ≡ true) ⌝ }
 {
     match w {
         Word::Ok(v) => {
             if hardware::none_of(v, l.sdain) {
-                return LineNext::End(ctl, shift(bits, false), Outcome::Ok);
+                return LineNext::Going(down(l, ctl, shift(bits, false), left));
             }
             LineNext::Going(at(ctl, bits, Line::Rest(left)))
         }
@@ -232,7 +277,7 @@ fn reach(l: Layout, ctl: u32, bits: u8, g: Goal) -> LineNext
         Goal::Free => LineNext::Going(at(ctl, bits, Line::Check)),
         Goal::Low => LineNext::End(ctl, bits, Outcome::Ok),
         Goal::Release => LineNext::End(ctl, bits, Outcome::Ok),
-        Goal::Down => LineNext::End(ctl, bits, Outcome::Ok),
+        Goal::Down(_) => LineNext::End(ctl, bits, Outcome::Ok),
         Goal::Up(left) => LineNext::Going(at(ctl, bits, Line::Rise(left))),
         Goal::Close => LineNext::End(ctl, bits, Outcome::Ok),
     }
@@ -249,7 +294,7 @@ fn settle(l: Layout, ctl: u32, bits: u8, g: Goal) -> LineNext
         Goal::High => LineNext::Going(at(ctl, bits, Line::Settle(g))),
         Goal::Low => LineNext::Going(at(ctl, bits, Line::Settle(g))),
         Goal::Release => LineNext::Going(at(ctl, bits, Line::Settle(g))),
-        Goal::Down => LineNext::Going(at(ctl, bits, Line::Settle(g))),
+        Goal::Down(_) => LineNext::Going(at(ctl, bits, Line::Settle(g))),
         Goal::Up(_) => LineNext::Going(at(ctl, bits, Line::Settle(g))),
     }
 }
@@ -316,7 +361,7 @@ pub fn open(l: Layout, call: Call, ctl: u32, bits: u8) -> LineState
             Line::Write(Goal::Release),
         ),
         Call::Up => at(ctl | l.scloen | l.sclout, bits, Line::Write(Goal::Up(499))),
-        Call::Down => at(ctl & !(l.sclout | l.scloen), bits, Line::Write(Goal::Down)),
+        Call::Down => down(l, ctl, bits, 10),
         Call::Wait(us) => at(ctl, bits, Line::Pause(us)),
         Call::Sample => at(ctl, bits, Line::Sample),
         Call::Ack => at(ctl, bits, Line::Ack(9)),
@@ -336,7 +381,7 @@ fn valid_goal(g: Goal) -> bool
         Goal::Free => true,
         Goal::Low => true,
         Goal::Release => true,
-        Goal::Down => true,
+        Goal::Down(left) => left <= 10,
         Goal::Up(left) => left < 500,
         Goal::Close => true,
     }

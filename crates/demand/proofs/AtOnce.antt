@@ -14,7 +14,7 @@ use Rattle.hardware.specs.declared.Answer.the-variants.{Value}
 use Rattle.hardware.specs.declared.change.Change.{Change}
 use Rattle.hardware.specs.declared.poll.Watch.{Watch}
 use Rattle.hardware.specs.Asked.{is, fits}
-use Rattle.hardware.specs.Prog.{Prog, ret, ask, note, give, Note, Attempt, Acquires, Acquired, Released, Lapsed, R, Ok, Err, orErr, _>>=_, _>>?_, pick}
+use Rattle.hardware.specs.Prog.{Prog, ret, ask, note, give, Note, Attempt, Acquires, Acquired, Released, Lapsed, Acknowledged, R, Ok, Err, orErr, _>>=_, _>>?_, pick}
 use Rattle.hardware.specs.Registers.{STATUS, ESDP, noneOf, checked, written, flushed, read, write, delay}
 use Rattle.hardware.specs.Change.{settled, stored, change}
 use Rattle.hardware.specs.Poll.{polled, poll}
@@ -45,6 +45,7 @@ unlapsed-map Acquires X Y f h = f h
 unlapsed-map Acquired X Y f h = f h
 unlapsed-map Released X Y f h = f h
 unlapsed-map Lapsed X Y f h = h
+unlapsed-map (Acknowledged sample) X Y f h = f h
 
 module _ (l : Layout) (o : Side) (answers : Access → Answer) where
   -- what follows from Q holds too
@@ -102,7 +103,12 @@ module _ (l : Layout) (o : Side) (answers : Access → Answer) where
   unfolding AtOnce Noteless
   noteless-at-once (ret a) Q h f = f a
   noteless-at-once (ask x k) Q h f = either-any (modelled l o x) _ (answers x) (λ a. noteless-at-once (k a) Q (h a) f)
-  noteless-at-once (note n p) Q h f = absurd h
+  noteless-at-once (note Attempt p) Q h f = absurd (h .0)
+  noteless-at-once (note Acquires p) Q h f = absurd (h .0)
+  noteless-at-once (note Acquired p) Q h f = absurd (h .0)
+  noteless-at-once (note Released p) Q h f = absurd (h .0)
+  noteless-at-once (note Lapsed p) Q h f = absurd (h .0)
+  noteless-at-once (note (Acknowledged sample) p) Q h f = noteless-at-once p Q (h .1) f
   noteless-at-once (give b p) Q h f = noteless-at-once p Q h f
 
 -- what a register reads is 2 or 0

@@ -1,5 +1,5 @@
 -- One attempt, by the module's state at its beginning. Where SDA is free it is a read.
-use Prim.Native.Nat.{ℕ, _<_, suc}
+use Prim.Native.Nat.{ℕ, _<_}
 use mathlib.Core.Path.{_≡_, refl}
 use mathlib.Core.Bool.{Bool, true, false, false≢true}
 use mathlib.Core.Logic.{_⊎_, inl, inr}
@@ -7,7 +7,7 @@ use native.Mathlib.Omega.{arith}
 use lib.Dec.{ltb}
 use borrow.Author.Tests.{eq-eqb}
 use Rattle.hardware.specs.Failures.{I2c}
-use Rattle.hardware.specs.Prog.{R, Ok, Err, orErr, _>>=_, pick}
+use Rattle.hardware.specs.Prog.{Attempt, R, Ok, Err, orErr, _>>=_, pick}
 use Rattle.hardware.specs.Registers.{raw}
 use Rattle.bus.specs.declared.Layout.{Layout}
 use Rattle.bus.specs.declared.Taken.{Taken}
@@ -32,13 +32,14 @@ use Rattle.demand.specs.Claim.{CountedBench, Harms}
 use Rattle.demand.proofs.Direct.{direct}
 use Rattle.demand.specs.WriteClaim.{addressOf}
 use Rattle.demand.proofs.Receiver.{Keeps}
+use Rattle.demand.proofs.Bytes.{heard}
 use Rattle.demand.proofs.ReadByte.{Kept, byteAt, read-byte}
 use Rattle.demand.proofs.Clearing.{Sends, Still, ack-pulls, clears, clears-not}
 use Rattle.demand.proofs.Rounds.{clears-by-rounds}
 
 -- one more transfer is begun
 abbrev pub more : CountedBench → CountedBench
-more m = record { bench = m .bench; esdp = m .esdp; meter = record { transfers = suc (m .meter .transfers) } }
+more m = direct .notes Attempt m
 
 -- the receiver sends, and its pull ends within the clearing
 pub record Stuck (r : Receiver) : Type 0 where
@@ -101,7 +102,7 @@ module _ (q : Sequence) (l : Layout) (g : Distinct l) where
   -- where SDA is free, the byte is read
   pub attempt-reads : (page : Chosen) (offset w : ℕ) (m : CountedBench) (a b : Bool) (Q : R Taken → World direct → Type 0) → Rests l (drawn a b) w → offset < 256
       → byteAt page (m .bench) offset < 256 → direct .pulls m .sda ≡ false
-      → ((n : CountedBench) (v : ℕ) → n .bench .receiver .stage ≡ Idle → Kept (more m) n → Rests l (drawn false false) v
+      → ((n : CountedBench) (v : ℕ) → n .bench .receiver .stage ≡ Idle → Kept (heard (more m)) n → Rests l (drawn false false) v
       → Q (Ok (took none (byteAt page (m .bench) offset))) (record { word = v; other = n }))
       → Always l direct (attempt q l (addressOf page) (body l (ReadByte (addressOf page) offset))) (record { word = w; other = m }) Q
   unfolding Always tried orTried body
@@ -139,19 +140,19 @@ module _ (q : Sequence) (l : Layout) (g : Distinct l) where
       (frees b (more m) held s (λ n idle kept. record { goes = λ ctl v rests. h n v idle kept rests }))
 
   harmed : (b : Bool) (m : CountedBench) {Q : Claim direct} → Harms q (m .bench)
-      → ((n : CountedBench) → Harms q (n .bench) → n .meter .transfers ≡ m .meter .transfers → From l direct false false n (done none) Q)
+      → ((n : CountedBench) → Harms q (n .bench) → n .meter ≡ m .meter → From l direct false false n (done none) Q)
       → From l direct false b m (clearing q l) Q
   unfolding clearing
   harmed b m {Q} e h = by q e h
     where
-      by : (q : Sequence) → Harms q (m .bench) → ((n : CountedBench) → Harms q (n .bench) → n .meter .transfers ≡ m .meter .transfers → From l direct false false n (done none) Q)
+      by : (q : Sequence) → Harms q (m .bench) → ((n : CountedBench) → Harms q (n .bench) → n .meter ≡ m .meter → From l direct false false n (done none) Q)
           → From l direct false b m (clearing q l) Q
       by Pulses e h = clears-not l g b m e h
       by Rounds e h = absurd e
 
   pub attempt-stays : (device : ℕ) (k : Bus) (w : ℕ) (m : CountedBench) (a b : Bool) (Q : R Taken → World direct → Type 0) → Rests l (drawn a b) w
       → Harms q (m .bench)
-      → ((n : CountedBench) (v : ℕ) → Harms q (n .bench) → n .meter .transfers ≡ suc (m .meter .transfers) → Rests l (drawn false false) v
+      → ((n : CountedBench) (v : ℕ) → Harms q (n .bench) → n .meter ≡ more m .meter → Rests l (drawn false false) v
       → Q (Err (I2c device)) (record { word = v; other = n }))
       → Always l direct (attempt q l device (start l k)) (record { word = w; other = m }) Q
   unfolding Always cleared orCleared

@@ -4,7 +4,7 @@ use mathlib.Core.Path.{_≡_, refl, ap, _∙_, subst⁻¹}
 use mathlib.Core.Bool.{Bool, true, false, not}
 use native.Mathlib.Omega.{arith}
 use Rattle.hardware.specs.Failures.{I2c}
-use Rattle.hardware.specs.Prog.{pick}
+use Rattle.hardware.specs.Prog.{Acknowledged, pick}
 use Rattle.bus.specs.declared.Layout.{Layout}
 use Rattle.bus.specs.Bus.{Bus, fail, wait, sclHigh, sclLow, releaseSda, ackTries, start, outBits, inBit, inBits, bitOf, shifted, send}
 use Rattle.wire.specs.Lines.{START, Fall, Bit, Distinct}
@@ -21,6 +21,10 @@ use Rattle.demand.specs.Claim.{CountedBench}
 use Rattle.demand.proofs.Direct.{direct}
 use Rattle.demand.proofs.Bits.{tookBits, shifted-taken}
 use Rattle.demand.proofs.Receiver.{with, stop-takes, rise-takes, rise-pulls, Taking, taking, taking-rises, taking-stays, taking-free, Acks, acks-pull, acks-rise, address-begun, stop-free, sending, listening, asked, send-bit, send-rise, send-next, send-last}
+
+-- a byte was acknowledged, in the first sample
+abbrev pub heard : CountedBench → CountedBench
+heard m = direct .notes (Acknowledged 1) m
 
 module _ (l : Layout) (g : Distinct l) where
   -- the same from an equal state
@@ -46,16 +50,16 @@ module _ (l : Layout) (g : Distinct l) where
 
   -- a byte is acknowledged: SDA is low at the first sample, and SCL's fall goes on
   acked : {a : Bool} (s : CountedBench) (device : ℕ) {k : Bus} {Q : Claim direct} → Acks (s .bench .receiver .stage)
-      → From l direct false true (direct .takes Fall s) k Q
+      → From l direct false true (direct .takes Fall (heard s)) k Q
       → From l direct a true s (releaseSda l (sclHigh l (wait 4 (ackTries l 10 (λ high. sclLow l (wait 5 (pick high (fail (I2c device)) k))))))) Q
   unfolding pick
   acked s device {k} {Q} e h =
-      Commands.ack l g direct (λ s. refl) 9 (λ high. pick high (fail (I2c device)) k) (rise-pulls _ s ∙ acks-pull s e) (from (ap (direct .takes Fall) (acks-rise _ s e)) h)
+      Commands.ack l g direct (λ s. refl) (λ high. pick high (fail (I2c device)) k) (rise-pulls _ s ∙ acks-pull s e) (from (ap (λ m. direct .takes Fall (heard m)) (acks-rise _ s e)) h)
 
   -- a byte sent to a receiver with no bits, which then acknowledges
   pub sent : (S : ℕ → Stage) → Taking S → (r : Receiver) (m s : CountedBench) (device byte : ℕ) {a : Bool} {k : Bus} {Q : Claim direct}
       → direct .takes Fall (with (taking S 8 (tookBits 8 byte 0) r) m) ≡ s → Acks (s .bench .receiver .stage)
-      → From l direct false true (direct .takes Fall s) k Q → From l direct a true (with (taking S 0 0 r) m) (send l device byte k) Q
+      → From l direct false true (direct .takes Fall (heard s)) k Q → From l direct a true (with (taking S 0 0 r) m) (send l device byte k) Q
   unfolding send
   sent S t r m s device byte e f h = out-bits S t r m 7 0 0 byte refl (λ z. from e (acked s device f h))
 

@@ -31,7 +31,7 @@ use Rattle.sfp.specs.Finds.{identityOf}
 use Rattle.sfp.proofs.Finds.{module-class}
 use Rattle.sfp.specs.Steps.{IDENTIFY-STEPS}
 use Rattle.sfp.proofs.Ends.{identify-ends}
-use Rattle.demand.specs.Claim.{CountedBench, benchRun, atStart, byteOf, Says, extra, Facts, Absent, Harms, Told, CallPremises, CallComes, Claimed, Holds, Claim, ClaimByDefault, Allowed, Starts, Premises, BenchWorld, Start}
+use Rattle.demand.specs.Claim.{CountedBench, benchRun, atStart, byteOf, Says, extra, Facts, Absent, Harms, unheard, Told, CallPremises, CallComes, Claimed, Holds, Claim, ClaimByDefault, Allowed, Starts, Premises, BenchWorld, Start}
 use Rattle.demand.specs.Mux.{watched}
 use Rattle.demand.proofs.Attempts.{harms-or-frees, harms-not-free, harms-pulls}
 use Rattle.demand.proofs.Handshake.{world, Fit}
@@ -73,7 +73,7 @@ module _ (q : Sequence) (port : Port) (b : Bench) (start : Start) (small : (n : 
   -- the end of the call, by the start
   pub record End (r : R Identity) (w : BenchWorld) : Type 0 where
     pub facts : (Harms q b → ⊥) → Facts (layoutOf (port .family)) b r w
-    pub no-module : Harms q b → Absent r × (w .other .meter .transfers ≡ 11)
+    pub no-module : Harms q b → Absent r × (w .other .meter ≡ unheard 11)
 
   well : (e j : ℕ) → extra b ≡ e → (n : CountedBench) (w : ℕ) → After port (begun start b) j n w → j ≡ requests (byteOf (b .a0)) + e
       → Facts (layoutOf (port .family)) b (Ok (identityOf (byteOf (b .a0)))) (world w n)
@@ -93,7 +93,7 @@ module _ (q : Sequence) (port : Port) (b : Bench) (start : Start) (small : (n : 
       held : pullsLow b ≡ true → Always (layoutOf (port .family)) (watched q port) (identify q port) (atStart start b) End
       held e =
           ⊎-elim
-          (λ i. Identify.identify-fails q port (begun start b) small End (start .word) x y f r i (λ n v made. record { facts = λ no. absurd (no i); no-module = λ _. (refl, omega (arith, made)) }))
+          (λ i. Identify.identify-fails q port (begun start b) small End (start .word) x y f r i (λ n v made. record { facts = λ no. absurd (no i); no-module = λ _. (refl, made) }))
           (λ s.
           Identify.identify-clears q port (begun start b) small End (start .word) x y f r e s
           (λ n w a. record { facts = λ _. well 1 _ (rw e) n w a refl; no-module = λ i. absurd (harms-not-free q (begun start b) s i) }))

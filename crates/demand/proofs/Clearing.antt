@@ -33,7 +33,7 @@ edge-receiver e m = ap (λ n. n .bench .receiver) (edge-takes e m)
 pub edge-kept : (e : Edge) (m : CountedBench) → Keeps (asksOn e (m .bench .receiver)) → Kept m (direct .takes e m)
 edge-kept e m h =
     let k = asked-kept (m .bench .receiver .page) _ m h in
-    record { a0 = ap (λ n. n .bench .a0 .bytes) (edge-takes e m) ∙ k .a0; a2 = ap (λ n. n .bench .a2 .bytes) (edge-takes e m) ∙ k .a2; made = refl }
+    record { a0 = ap (λ n. n .bench .a0 .bytes) (edge-takes e m) ∙ k .a0; a2 = ap (λ n. n .bench .a2 .bytes) (edge-takes e m) ∙ k .a2; meter = refl }
 
 -- SCL rises and falls with SDA released by the master
 abbrev pub pulsed : CountedBench → CountedBench
@@ -219,12 +219,12 @@ module _ (l : Layout) (g : Distinct l) where
   sends-pulses : (n : ℕ) (m : CountedBench) {k : Bus} {Q : Claim direct} → Sends n (m .bench .receiver .stage)
       → ((o : CountedBench) → Sends 0 (o .bench .receiver .stage) → Kept m o → From l direct false true o k Q) → From l direct false true m (pulses l n k) Q
   unfolding pulses
-  sends-pulses zero m e h = h m e (record { a0 = refl; a2 = refl; made = refl })
+  sends-pulses zero m e h = h m e (record { a0 = refl; a2 = refl; meter = refl })
   sends-pulses (suc n) m e h =
       Commands.pulse l g direct (λ s. refl) (sends-pulses n (pulsed m) (sends-pulsed n m e) (λ o f kept. h o f (kept-then (kept-pulsed n m e) kept)))
 
   writes-pulses : (n : ℕ) (m : CountedBench) {k : Bus} {Q : Claim direct} → Writes n (m .bench .receiver .stage)
-      → ((o : CountedBench) → Writes 0 (o .bench .receiver .stage) → o .meter .transfers ≡ m .meter .transfers → From l direct false true o k Q)
+      → ((o : CountedBench) → Writes 0 (o .bench .receiver .stage) → o .meter ≡ m .meter → From l direct false true o k Q)
       → From l direct false true m (pulses l n k) Q
   unfolding pulses
   writes-pulses zero m e h = h m e refl
@@ -238,7 +238,7 @@ module _ (l : Layout) (g : Distinct l) where
   stopped-at r m h =
       Commands.quieting l g direct (λ s. refl) (stop l (done none)) (done none)
       (stops l g (with (taking Address 0 0 r) m) (taking-free Address address-taking r m 0 0) (λ n idle kept.
-      record { goes = λ ctl w q. h n idle (record { a0 = kept .a0; a2 = kept .a2; made = kept .made }) .goes ctl w q }))
+      record { goes = λ ctl w q. h n idle (record { a0 = kept .a0; a2 = kept .a2; meter = kept .meter }) .goes ctl w q }))
 
   -- the start and the stop at the end
   freed : (m : CountedBench) {Q : Claim direct} → direct .pulls m .sda ≡ false
@@ -276,7 +276,7 @@ module _ (l : Layout) (g : Distinct l) where
 
   -- and AckWrite to AckWrite
   pub clears-not : (b : Bool) (m : CountedBench) {Q : Claim direct} → m .bench .receiver .stage ≡ AckWrite
-      → ((n : CountedBench) → n .bench .receiver .stage ≡ AckWrite → n .meter .transfers ≡ m .meter .transfers → From l direct false false n (done none) Q)
+      → ((n : CountedBench) → n .bench .receiver .stage ≡ AckWrite → n .meter ≡ m .meter → From l direct false false n (done none) Q)
       → From l direct false b m (clear l) Q
   unfolding edged clearAgain clearStop fall fallAt
   clears-not b m e h =
@@ -321,4 +321,4 @@ module _ (l : Layout) (g : Distinct l) where
       (ones r m 7 0 0 (clearAgain l) refl
       (Bytes.from l g (ap (λ v. direct .takes Fall (with (taking Address 8 v r) m)) (byte-taken 0xff (lit< tt)) ∙ not-addressed r m)
       (idle-pulse (taking Address 8 0xff r) m (clearAgain l) (freed (with (at Idle (taking Address 8 0xff r)) m) (idle-free (at Idle (taking Address 8 0xff r)) m refl) (λ n idle kept.
-      h n idle (record { a0 = kept .a0; a2 = kept .a2; made = kept .made })))))))))))
+      h n idle (record { a0 = kept .a0; a2 = kept .a2; meter = kept .meter })))))))))))

@@ -7,7 +7,7 @@ use Rattle.hardware.specs.declared.Access.the-variants.{Wait}
 use Rattle.hardware.specs.declared.Answer.{Answer}
 use Rattle.hardware.specs.declared.change.Change.{Change}
 use Rattle.hardware.specs.declared.poll.Watch.{Watch}
-use Rattle.hardware.specs.Prog.{Prog, ret, ask, note, give, Note, Attempt, Acquires, Acquired, Released, Lapsed, R, Ok, Err, orErr, _>>=_, _>>?_, pick}
+use Rattle.hardware.specs.Prog.{Prog, ret, ask, note, give, Note, Attempt, Acquires, Acquired, Released, Lapsed, Acknowledged, R, Ok, Err, orErr, _>>=_, _>>?_, pick}
 use Rattle.hardware.specs.Registers.{STATUS, checked, written, flushed, read, write, flush, delay, micros}
 use Rattle.hardware.specs.Change.{settled, stored, change}
 use Rattle.hardware.specs.Poll.{polled, poll}
@@ -42,6 +42,7 @@ apart-map Acquires X Y f h = f h
 apart-map Acquired X Y f h = f h
 apart-map Released X Y f h = f h
 apart-map Lapsed X Y f h = tt
+apart-map (Acknowledged sample) X Y f h = absurd h
 
 module _ (l : Layout) (o : Side) where
   -- what follows from Q holds too
@@ -151,6 +152,7 @@ module _ (l : Layout) (o : Side) (still : Unmoved o) where
   fine-alone (note Acquired p) w Q h = noted-alone Acquired p w Q (still .acquired) (fine-alone p w Q h)
   fine-alone (note Released p) w Q h = noted-alone Released p w Q (still .released) (fine-alone p w Q h)
   fine-alone (note Lapsed p) w Q h = tt
+  fine-alone (note (Acknowledged sample) p) w Q h = absurd h
   fine-alone (give b p) w Q h = fine-alone p w Q h
 
   -- and what comes after it begins where it began

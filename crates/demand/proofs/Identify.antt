@@ -22,7 +22,7 @@ use Rattle.demand.specs.Mux.{watched}
 use Rattle.demand.proofs.Direct.{direct}
 use Rattle.demand.proofs.Attempts.{Frees}
 use Rattle.demand.proofs.Handshake.{world, Fit}
-use Rattle.demand.proofs.Requests.{bytes, Continues, counts, request-read, request-clears, request-fails, request-next}
+use Rattle.demand.proofs.Requests.{bytes, Continues, counts, request-read, request-clears, request-fails, request-next, failedOf}
 
 module _ (q : Sequence) (port : Port) (m : CountedBench) (small : (i : ℕ) → bytes m i < 256) (Q : R Identity → BenchWorld → Type 0) where
   -- the call goes on over the module's bytes: so many transfers more, all of which go well
@@ -48,6 +48,6 @@ module _ (q : Sequence) (port : Port) (m : CountedBench) (small : (i : ℕ) → 
 
   -- Where the sequence harms it
   pub identify-fails : (w : ℕ) (a b : Bool) → Fit port w m → Rests (layoutOf (port .family)) (drawn a b) w → Harms q (m .bench)
-      → ((n : CountedBench) (v : ℕ) → n .meter .transfers ≡ 11 + m .meter .transfers → Q (Ok absent) (world v n)) → Always (layoutOf (port .family)) (watched q port) (identify q port) (world w m) Q
+      → ((n : CountedBench) (v : ℕ) → n .meter ≡ failedOf 11 (m .meter) → Q (Ok absent) (world v n)) → Always (layoutOf (port .family)) (watched q port) (identify q port) (world w m) Q
   unfolding identify identifierOf byte orAbsent isI2c pick Always
   identify-fails w a b f r e h = request-fails q port A0 0 (lit< tt) 11 w m a b _ Q f r e h

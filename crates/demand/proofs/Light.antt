@@ -5,6 +5,7 @@ use mathlib.Core.Path.{_≡_, refl, ap, _∙_, subst⁻¹}
 use mathlib.Core.Bool.{Bool, true, false}
 use mathlib.Core.List.{List, [], _∷_}
 use mathlib.Core.Logic.{⊎-elim}
+use native.Mathlib.Nat.{add-zero}
 use native.Mathlib.Omega.{arith}
 use lib.Dec.{lit<, lit≤}
 use lib.ListN.{length}
@@ -30,7 +31,7 @@ use Rattle.light.specs.Order.{lightRead, patternsAt, placed, read, reads, sense
 use Rattle.light.specs.Sensed.{EXTERNAL, MONITORED, measured, measuresOf, readingOf, taken}
 use Rattle.light.proofs.Order.{light-reads, values-placed, all-placed}
 use Rattle.light.proofs.Ends.{LIGHT-STEPS, light-ends}
-use Rattle.demand.specs.Claim.{CountedBench, benchRun, atStart, byteOf, extra, CallPremises, CallComes, Harms, BenchWorld, Start}
+use Rattle.demand.specs.Claim.{unheard, CountedBench, benchRun, atStart, byteOf, extra, CallPremises, CallComes, Harms, BenchWorld, Start}
 use Rattle.demand.specs.Mux.{watched}
 use Rattle.demand.specs.LightClaim.{moduleSensed, bytesRead, LightFacts, LightFails, LightStarts, LightClaim}
 use Rattle.demand.proofs.ReadByte.{byteAt}
@@ -116,7 +117,7 @@ module _ (q : Sequence) (port : Port) (tries : ℕ) (b : Bench) (start : Start) 
   unfolding lightRead read orErr Always
   always-dark i x y g r =
       subst⁻¹ (λ p. Always (layoutOf (port .family)) (watched q port) p (atStart start b) (LightFails tries)) (light-reads q port tries)
-      (request-fails q port A0 92 (lit< tt) tries (start .word) (begun start b) x y _ _ g r i (λ n v made. record { result = refl; transfers = omega (arith, made) }))
+      (request-fails q port A0 92 (lit< tt) tries (start .word) (begun start b) x y _ _ g r i (λ n v made. record { result = refl; meter = made ∙ ap unheard (add-zero tries) }))
 
   module _ (answers : List Answer) (m : CallPremises port (light q port tries) b start answers) where
     -- a module that the sequence does not harm, and attempts enough

@@ -12,7 +12,7 @@ use Rattle.hardware.specs.declared.Access.the-variants.{Read, Write, Wait}
 use Rattle.hardware.specs.declared.Answer.{Answer}
 use Rattle.hardware.specs.declared.Answer.the-variants.{Value, Done}
 use Rattle.hardware.specs.declared.Port.{Port}
-use Rattle.hardware.specs.Prog.{Prog, ret, ask, note, give, Attempt, Acquires, Acquired, Released, Lapsed, pick}
+use Rattle.hardware.specs.Prog.{Prog, ret, ask, note, give, Attempt, Acquires, Acquired, Released, Lapsed, Acknowledged, pick}
 use Rattle.hardware.specs.Registers.{ESDP, not32, noneOf}
 use Rattle.transfer.specs.declared.attempt.Sequence.{Sequence}
 use Rattle.bus.specs.declared.Layout.{Layout}
@@ -98,6 +98,7 @@ module _ (q : Sequence) (port : Port) (l : Layout) (e : ℕ) (on : joins (hasMux
     lifted (note Acquired p) w s k = lifted p (noted direct Acquired w) s k
     lifted (note Released p) w s k = lifted p (noted direct Released w) s k
     lifted (note Lapsed p) w s k = tt
+    lifted (note (Acknowledged sample) p) w s k = lifted p (noted direct (Acknowledged sample) w) s k
     lifted (give b p) w s k = lifted p w s k
 
 -- ---- ESDP: some bit besides bit 1 stays clear, so that it never reads FFFFFFFF

@@ -5,6 +5,7 @@ use mathlib.Core.Path.{_≡_, refl, ap, _∙_, sym}
 use mathlib.Core.Bool.{Bool, true, false}
 use mathlib.Core.List.{List, _++_}
 use mathlib.Core.Logic.{⊎-elim, _↔_}
+use native.Mathlib.Nat.{add-zero}
 use native.Mathlib.Omega.{arith}
 use lib.ListN.{length, getD, drop, List·getD-append}
 use lib.Seq.{sets, sets-eq}
@@ -31,13 +32,13 @@ use Rattle.page.specs.Spans.{BothCheck, Carries}
 use Rattle.page.proofs.Accepted.{sums-front}
 use Rattle.page.proofs.Ends.{PAGE-STEPS, page-ends}
 use Rattle.page.proofs.Spans.{sums-check}
-use Rattle.demand.specs.Claim.{CountedBench, benchRun, atStart, byteOf, extra, CallPremises, CallComes, Harms, Starts, BenchWorld, Start}
+use Rattle.demand.specs.Claim.{unheard, CountedBench, benchRun, atStart, byteOf, extra, CallPremises, CallComes, Harms, Starts, BenchWorld, Start}
 use Rattle.demand.specs.Mux.{watched}
 use Rattle.demand.proofs.Direct.{direct}
 use Rattle.demand.specs.PageClaim.{bytesFrom, modulePage, PageFacts, PageFails, pageCall, PageClaim}
 use Rattle.demand.proofs.Attempts.{Frees, harms-or-frees}
 use Rattle.demand.proofs.Handshake.{world, Fit}
-use Rattle.demand.proofs.Requests.{bytes, After, begun, allowed-fit, after-leaves, Continues, counts, request-read, request-clears, request-fails, request-next}
+use Rattle.demand.proofs.Requests.{failedOf, bytes, After, begun, allowed-fit, after-leaves, Continues, counts, request-read, request-clears, request-fails, request-next}
 use Rattle.demand.proofs.Runs.{Steady, run-steady, run-ended, run-told}
 
 -- every place's byte is one of the module's page A0
@@ -103,7 +104,7 @@ module _ (q : Sequence) (port : Port) (form : Form) (tries : ℕ) (m : CountedBe
 
   -- where the sequence harms it
   read-fails : (left : ℕ) (buffer : List ℕ) (w : ℕ) (a b : Bool) → Fit port w m → Rests (layoutOf (port .family)) (drawn a b) w → Harms q (m .bench)
-      → ((n : CountedBench) (v : ℕ) → n .meter .transfers ≡ tries + m .meter .transfers → Q (record { result = Err (I2c EEPROM); buffer = buffer }) (world v n))
+      → ((n : CountedBench) (v : ℕ) → n .meter ≡ failedOf tries (m .meter) → Q (record { result = Err (I2c EEPROM); buffer = buffer }) (world v n))
       → Always (layoutOf (port .family)) (watched q port) (pageFrom q port form tries (suc left) buffer) (world w m) Q
   unfolding pageFrom requestAt byteSeen Always
   read-fails left buffer w a b f r i h = request-fails q port A0 _ (offset-small form (placeOf left) (omega arith)) tries w m a b _ Q f r i h
@@ -163,7 +164,7 @@ module _ (q : Sequence) (port : Port) (form : Form) (tries : ℕ) (buffer : List
   unfolding page
   always-fails i x y f r =
       read-fails q port form tries (begun start b) small _ 95 buffer (start .word) x y f r i
-      (λ n v made. record { buffer = refl; result = refl; transfers = omega (arith, made) })
+      (λ n v made. record { buffer = refl; result = refl; meter = made ∙ ap unheard (add-zero tries) })
 
 module _ (q : Sequence) (port : Port) (form : Form) (tries : ℕ) (buffer : List ℕ) (b : Bench) (start : Start) (answers : List Answer) (s : Starts port b start)
     (m : CallPremises port (pageCall q port form tries buffer) b start answers) where

@@ -12,7 +12,7 @@ use Rattle.hardware.specs.declared.Access.the-variants.{Read, Write, Wait}
 use Rattle.hardware.specs.declared.Answer.{Answer}
 use Rattle.hardware.specs.declared.Answer.the-variants.{Done}
 use Rattle.hardware.specs.declared.Port.{Port}
-use Rattle.hardware.specs.Prog.{Prog, ret, ask, note, give, Attempt, Acquires, Acquired, Released, Lapsed, R, pick}
+use Rattle.hardware.specs.Prog.{Prog, ret, ask, note, give, Attempt, Acquires, Acquired, Released, Lapsed, Acknowledged, R, pick}
 use Rattle.bus.specs.declared.Layout.{Layout}
 use Rattle.bus.specs.Layout.{x550em, layoutOf}
 use Rattle.hardware.specs.declared.Family.{Family}
@@ -67,6 +67,7 @@ module _ (l : Layout) (o : Side) {A : Type 0} (Q : A → Type 0) where
   at-once-premises (note Acquired p) w answers k = (tt, at-once-premises p (noted o Acquired w) answers k)
   at-once-premises (note Released p) w answers k = (tt, at-once-premises p (noted o Released w) answers k)
   at-once-premises (note Lapsed p) w answers k = absurd k
+  at-once-premises (note (Acknowledged sample) p) w answers k = (tt, at-once-premises p (noted o (Acknowledged sample) w) answers k)
   at-once-premises (give b p) w answers k = at-once-premises p w answers k
 
 -- so many more answers, which no run looks at

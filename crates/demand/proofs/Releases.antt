@@ -13,7 +13,7 @@ use Rattle.hardware.specs.declared.Answer.the-variants.{Value, Done, Failed}
 use Rattle.hardware.specs.declared.Port.{Port}
 use Rattle.hardware.specs.Change.{changed, stored, change}
 use Rattle.hardware.specs.Failures.{Removed}
-use Rattle.hardware.specs.Prog.{Prog, ret, ask, note, give, Note, Attempt, Acquires, Acquired, Released, Lapsed, R, Ok, Err, orErr, _>>=_, _>>?_, pick}
+use Rattle.hardware.specs.Prog.{Prog, ret, ask, note, give, Note, Attempt, Acquires, Acquired, Released, Lapsed, Acknowledged, R, Ok, Err, orErr, _>>=_, _>>?_, pick}
 use Rattle.hardware.specs.Registers.{ESDP, noneOf, checked}
 use Rattle.sync.specs.Regs.{setMux}
 use Rattle.sync.specs.Resource.{muxed, releaseBits}
@@ -71,6 +71,7 @@ release-map Acquires f x = tt
 release-map Acquired f x = tt
 release-map Released f x = f x
 release-map Lapsed f x = tt
+release-map (Acknowledged sample) f x = tt
 
 -- one call after another
 clearing-bind : {A B : Type 0} (p : Prog A) (k : A → Prog B) (D : A → Type 0) (E : B → Type 0) → Clearing p D → ((a : A) → D a → Clearing (k a) E) → Clearing (p >>= k) E
@@ -99,6 +100,7 @@ quiet-clears (note Acquires p) E h = absurd h
 quiet-clears (note Acquired p) E h = absurd h
 quiet-clears (note Released p) E h = absurd h
 quiet-clears (note Lapsed p) E h = (tt, quiet-clears p E h)
+quiet-clears (note (Acknowledged sample) p) E h = (tt, quiet-clears p E (h .1))
 quiet-clears (give b p) E h = quiet-clears p E h
 
 -- a failure that is not taken for an absent module

@@ -84,7 +84,7 @@ unfolding pullsLow pulls
 rounded k m p h = round k _ _ _ _ _ (m .bench .receiver .stage) p h
 
 kept-all : (m : CountedBench) → Kept m m
-kept-all m = record { a0 = refl; a2 = refl; made = refl }
+kept-all m = record { a0 = refl; a2 = refl; meter = refl }
 
 module _ (l : Layout) (g : Distinct l) where
   -- SDA is read high while SCL is high

@@ -12,7 +12,7 @@ use Rattle.hardware.specs.declared.Answer.{Answer}
 use Rattle.hardware.specs.declared.Answer.the-variants.{Value, Done, Failed}
 use Rattle.hardware.specs.declared.Port.{Port}
 use Rattle.hardware.specs.Asked.{fits}
-use Rattle.hardware.specs.Prog.{Prog, ret, ask, note, give, Note, Attempt, Acquires, Acquired, Released, Lapsed, pick, Counted, metered, tally, blank}
+use Rattle.hardware.specs.Prog.{Prog, ret, ask, note, give, Note, Attempt, Acquires, Acquired, Released, Lapsed, Acknowledged, pick, Counted, metered, tally, blank}
 use Rattle.hardware.specs.Runs.{Ends}
 use Rattle.bus.specs.declared.Layout.{Layout}
 use Rattle.bus.specs.Layout.{layoutOf}
@@ -97,6 +97,7 @@ module _ (q : Sequence) (port : Port) (s : Source) {A : Type 0} (Q : A → Bench
   always-run (note Acquired p) w answers k m = after-note Acquired _ (always-run p (noted (watched q port) Acquired w) answers k (m .1))
   always-run (note Released p) w answers k m = after-note Released _ (always-run p (noted (watched q port) Released w) answers k (m .1))
   always-run (note Lapsed p) w answers k m = absurd (m .0)
+  always-run (note (Acknowledged sample) p) w answers k m = after-note (Acknowledged sample) _ (always-run p (noted (watched q port) (Acknowledged sample) w) answers k (m .1))
   always-run (give b p) w answers k m = always-run p w answers k m
 
 -- as many answers as a call has accesses bring its run to the end

@@ -38,7 +38,8 @@ use Rattle.demand.specs.Mux.{watched}
 use Rattle.demand.proofs.Direct.{direct}
 use Rattle.demand.specs.WriteClaim.{addressOf, written, WriteStarts, WriteFacts, writeCall, WriteClaim}
 use Rattle.demand.proofs.Receiver.{with, asked, receive-taking, taking-free, idle-free, expecting}
-use Rattle.demand.proofs.ReadByte.{Kept, kept-then, byteAt, stops, byte-sent, offset-sent}
+use Rattle.demand.proofs.Bytes.{heard}
+use Rattle.demand.proofs.ReadByte.{Kept, kept-then, kept-heard, byteAt, stops, byte-sent, offset-sent}
 use Rattle.demand.proofs.Attempts.{more, Frees, begins, attempt-clears}
 use Rattle.demand.proofs.Handshake.{world, Fit, lockedBy, unlockedBy, fit-sound, locked-sound, unlocked-sound, locked-joins}
 use Rattle.demand.proofs.Requests.{Since, after-at, later, counted-as, begun, after-leaves, leaves-byte, kept-after, idle-settled, around, Joined, through}
@@ -52,14 +53,14 @@ wrote page offset value m = record { bench = written page offset value (m .bench
 -- an offset and a byte behind it set that byte, and leave every other
 stored-kept : (page : Chosen) (offset value : ℕ) (r : Receiver) (m : CountedBench) → Kept (wrote page offset value m) (with r (asked page (Store value) (asked page (Offset offset) m)))
 unfolding written acted
-stored-kept A0 offset value r m = record { a0 = refl; a2 = refl; made = refl }
-stored-kept A2 offset value r m = record { a0 = refl; a2 = refl; made = refl }
+stored-kept A0 offset value r m = record { a0 = refl; a2 = refl; meter = refl }
+stored-kept A2 offset value r m = record { a0 = refl; a2 = refl; meter = refl }
 
 -- the same with that byte set before and after
-pub wrote-after : {l : Layout} {x : Bool} {m n : CountedBench} {j w : ℕ} (page : Chosen) (offset value : ℕ) → Since l x m j n w → Since l x (wrote page offset value m) j (wrote page offset value n) w
+pub wrote-after : {any : Bool} {l : Layout} {x : Bool} {m n : CountedBench} {j w : ℕ} (page : Chosen) (offset value : ℕ) → Since any l x m j n w → Since any l x (wrote page offset value m) j (wrote page offset value n) w
 unfolding written
-wrote-after A0 offset value h = record { idle = h .idle; a0 = ap (λ bytes. set bytes offset value) (h .a0); a2 = h .a2; made = h .made; rests = h .rests; sound = h .sound }
-wrote-after A2 offset value h = record { idle = h .idle; a0 = h .a0; a2 = ap (λ bytes. set bytes offset value) (h .a2); made = h .made; rests = h .rests; sound = h .sound }
+wrote-after A0 offset value h = record { idle = h .idle; a0 = ap (λ bytes. set bytes offset value) (h .a0); a2 = h .a2; made = h .made; slowest = h .slowest; rests = h .rests; sound = h .sound }
+wrote-after A2 offset value h = record { idle = h .idle; a0 = h .a0; a2 = ap (λ bytes. set bytes offset value) (h .a2); made = h .made; slowest = h .slowest; rests = h .rests; sound = h .sound }
 
 -- every other byte of either page is as it was
 pub written-other : (page which : Chosen) (offset value i : ℕ) (b : Bench) → ((which ≡ page) × (i ≡ offset) → ⊥) → byteAt which (written page offset value b) i ≡ byteAt which b i
@@ -78,17 +79,18 @@ module _ (page : Chosen) (offset value : ℕ) (small : offset < 256) (byte : val
   module _ (l : Layout) (g : Distinct l) where
     -- `write_byte`'s commands: the byte is stored, the receiver is idle and both lines are released
     pub write-byte : (a b : Bool) (m : CountedBench) (device : ℕ) {k : Bus} {Q : Claim direct} → direct .pulls m .sda ≡ false
-        → ((n : CountedBench) → n .bench .receiver .stage ≡ Idle → Kept (wrote page offset value m) n → FromRest l direct false false n k Q)
+        → ((n : CountedBench) → n .bench .receiver .stage ≡ Idle → Kept (heard (wrote page offset value m)) n → FromRest l direct false false n k Q)
         → FromRest l direct a b m (start l (send l device (addressOf page) (send l device offset (send l device value (stop l k))))) Q
     unfolding pick
     write-byte a b m device free h =
         offset-sent l g page a b m device offset small free (λ r.
-        byte-sent l g page false r (asked page (Offset offset) m) device value byte
-        (stops l g _ (taking-free Receive receive-taking (expecting page false r) (asked page (Store value) (asked page (Offset offset) m)) 0 0) (λ n idle kept. h n idle (kept-then (stored-kept page offset value _ m) kept))))
+        byte-sent l g page false r (asked page (Offset offset) (heard (heard m))) device value byte
+        (stops l g _ (taking-free Receive receive-taking (expecting page false r) (heard (asked page (Store value) (asked page (Offset offset) (heard (heard m))))) 0 0)
+        (λ n idle kept. h n idle (kept-heard (wrote page offset value m) (kept-heard (heard (wrote page offset value m)) (kept-then (stored-kept page offset value _ (heard (heard (heard m)))) kept))))))
 
     -- an attempt, where SDA is free
     attempt-writes : (q : Sequence) (w : ℕ) (m : CountedBench) (a b : Bool) (Q : R Taken → BenchWorld → Type 0) → Rests l (drawn a b) w → direct .pulls m .sda ≡ false
-        → ((n : CountedBench) (v : ℕ) → n .bench .receiver .stage ≡ Idle → Kept (more (wrote page offset value m)) n → Rests l (drawn false false) v → Q (Ok none) (world v n))
+        → ((n : CountedBench) (v : ℕ) → n .bench .receiver .stage ≡ Idle → Kept (heard (more (wrote page offset value m))) n → Rests l (drawn false false) v → Q (Ok none) (world v n))
         → Always l direct (attempt q l (addressOf page) (body l (WriteByte (addressOf page) offset value))) (world w m) Q
     unfolding Always tried orTried body
     attempt-writes q w m a b Q r free h =
@@ -98,7 +100,7 @@ module _ (page : Chosen) (offset value : ℕ) (small : offset < 256) (byte : val
   module _ (q : Sequence) (port : Port) (lock : Bool) where
     -- as `After`, but without the lock the mux is not switched
     abbrev Written : CountedBench → ℕ → CountedBench → ℕ → Type 0
-    Written = Since (layoutOf (port .family)) (lock && hasMux port)
+    Written = Since true (layoutOf (port .family)) (lock && hasMux port)
 
     -- what comes after an attempt, with so many left
     abbrev Judged : ℕ → (R Taken → BenchWorld → Type 0) → R Taken → BenchWorld → Type 0
@@ -116,7 +118,7 @@ module _ (page : Chosen) (offset value : ℕ) (small : offset < 256) (byte : val
         always-bind _ _ (once port (WriteByte (addressOf page) offset value) (making lock q)) _ (world w m) Q
         (through q port w m on (Judged left Q) (once port (WriteByte (addressOf page) offset value) (making lock q))
         (attempt-writes (layoutOf (port .family)) (distinct (port .family)) q w m a b (λ r v. v .other .esdp ≡ m .esdp → Judged left Q r v) r free
-        (λ n v idle kept rests s. h n v (kept-after (wrote page offset value m) n (m .esdp) (n .esdp) idle kept rests (λ e. rw s (sound e))) s)))
+        (λ n v idle kept rests s. h n v (kept-after true (wrote page offset value m) n (m .esdp) (n .esdp) idle kept rests (λ e. rw s (sound e))) s)))
 
     -- where the sequence frees it, the first attempt clears and the second writes
     tries-clear : (left w : ℕ) (m : CountedBench) (before : R Taken) (a b : Bool) (Q : R Taken → BenchWorld → Type 0) → Joined port m → ((lock && hasMux port) ≡ true → Sound (m .esdp))
@@ -128,9 +130,9 @@ module _ (page : Chosen) (offset value : ℕ) (small : offset < 256) (byte : val
         always-bind _ _ (once port (WriteByte (addressOf page) offset value) (making lock q)) _ (world w m) Q
         (through q port w m on (Judged (suc left) Q) (once port (WriteByte (addressOf page) offset value) (making lock q))
         (attempt-clears q (layoutOf (port .family)) (distinct (port .family)) (addressOf page) _ w m a b (λ r v. v .other .esdp ≡ m .esdp → Judged (suc left) Q r v) r held f
-        (λ n u idle kept rests s. again n u s (kept-after m n (m .esdp) (n .esdp) idle kept rests (λ e. rw s (sound e))))))
+        (λ n u idle kept rests s. again n u s (kept-after false m n (m .esdp) (n .esdp) idle kept rests (λ e. rw s (sound e))))))
       where
-        again : (n : CountedBench) (u : ℕ) → n .esdp ≡ m .esdp → Written m 1 n u
+        again : (n : CountedBench) (u : ℕ) → n .esdp ≡ m .esdp → Since false (layoutOf (port .family)) (lock && hasMux port) m 1 n u
             → Always (layoutOf (port .family)) (watched q port) (writeTries port (WriteByte (addressOf page) offset value) (making lock q) (suc left) (Err (I2c (addressOf page)))) (world u n) Q
         again n u s k =
             tries-write left u n (Err (I2c (addressOf page))) false false Q (ap (joins (hasMux port)) s ∙ on) (k .sound) (k .rests) (idle-free (n .bench .receiver) n (k .idle))

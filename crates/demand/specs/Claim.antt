@@ -15,7 +15,7 @@ use Rattle.hardware.specs.declared.Answer.{Answer}
 use Rattle.hardware.specs.declared.Answer.the-variants.{Value, Done, Failed}
 use Rattle.hardware.specs.declared.Meter.{Meter}
 use Rattle.hardware.specs.declared.Port.{Port}
-use Rattle.hardware.specs.Prog.{Prog, Note, Attempt, Acquires, Acquired, Released, Lapsed, R, Ok, Err, pick, Counted, metered, tally, blank}
+use Rattle.hardware.specs.Prog.{Prog, Note, Attempt, Acquires, Acquired, Released, Lapsed, Acknowledged, R, Ok, Err, pick, Counted, metered, tally, blank}
 use Rattle.hardware.specs.Registers.{STATUS, noneOf}
 use Rattle.bus.specs.declared.Layout.{Layout}
 use Rattle.bus.specs.Layout.{layoutOf}
@@ -32,7 +32,7 @@ use Rattle.sfp.specs.declared.Identity.{Identity}
 use Rattle.sfp.specs.Classes.{Bytes, Class, classOf, requests}
 use Rattle.sfp.specs.Identify.{absent, identify}
 
--- the module, ESDP as last written, and the transfers begun so far
+-- the module, ESDP as last written, and the meter of what the call noted so far
 pub record CountedBench : Type 0 where
   pub bench : Bench
   pub esdp : ℕ
@@ -61,7 +61,7 @@ caged mux meets =
 abbrev pub machine : Port → Side
 machine port = caged (hasMux port) (λ x p m. Unit {0})
 
--- I2CCTL, and the module with ESDP and the count
+-- I2CCTL, and the module with ESDP and the meter
 abbrev pub BenchWorld : Type 0
 BenchWorld = At CountedBench
 
@@ -84,6 +84,7 @@ Comes Acquires = Unit {0}
 Comes Acquired = Unit {0}
 Comes Released = Unit {0}
 Comes Lapsed = ⊥
+Comes (Acknowledged sample) = Unit {0}
 
 unfoldable pub Premise : {W : Type 0} → Event W → Type 0
 Premise (atMachine x w) = Unit {0}
@@ -126,7 +127,8 @@ module _ {A : Type 0} (port : Port) (p : Prog A) (b : Bench) (start : Start) (an
 abbrev pub byteOf : Page → Bytes
 byteOf p n = getD (p .bytes) n 0
 
--- what a call leaves, with so many transfers made: the module's bytes as they were, its receiver idle, both lines released
+-- what a call leaves, with so many transfers made: the module's bytes as they were, its receiver idle, both lines released, and the
+-- slowest acknowledgement in the first sample
 pub record Leaves (l : Layout) (b : Bench) (made : ℕ) (w : BenchWorld) : Type 0 where
   pub a0 : w .other .bench .a0 .bytes ≡ b .a0 .bytes
   pub a2 : w .other .bench .a2 .bytes ≡ b .a2 .bytes
@@ -134,6 +136,7 @@ pub record Leaves (l : Layout) (b : Bench) (made : ℕ) (w : BenchWorld) : Type 
   pub master-released : master l (w .word) ≡ nobody
   pub module-released : benchPulls (w .other .bench) ≡ nobody
   pub transfers : w .other .meter .transfers ≡ made
+  pub slowest : w .other .meter .slowest ≡ 1
 
 -- the four facts, of the module at the start, the result, and I2CCTL and the module at the end
 unfoldable pub Says : R Identity → Class → Type 0
@@ -156,18 +159,23 @@ Absent (Err e) = ⊥
 abbrev pub InAckWrite : Bench → Type 0
 InAckWrite b = b .receiver .stage ≡ AckWrite
 
+-- so many transfers made, and no byte acknowledged
+abbrev pub unheard : ℕ → Meter
+unheard made = record { transfers = made; slowest = 0 }
+
 -- The starts from which a clearing sequence harms the module: the Rust's where it is in AckWrite, the other none
 abbrev pub Harms : Sequence → Bench → Type 0
 Harms Pulses b = InAckWrite b
 Harms Rounds b = ⊥
 
 -- The claim, of the end of the call: its result carries the number of transfers made; the four facts hold together exactly
--- where the sequence did not harm the module; where it did, the result is the record of no module after 11 transfers
+-- where the sequence did not harm the module; where it did, the result is the record of no module after 11 transfers, in which
+-- no byte was acknowledged
 pub record Claimed (q : Sequence) (l : Layout) (b : Bench) (c : Counted (R Identity)) (w : BenchWorld) : Type 0 where
   pub count : c .meter ≡ w .other .meter
   pub facts : (Harms q b → ⊥) → Facts l b (c .result) w
   pub only : Facts l b (c .result) w → Harms q b → ⊥
-  pub no-module : Harms q b → Absent (c .result) × (w .other .meter .transfers ≡ 11)
+  pub no-module : Harms q b → Absent (c .result) × (w .other .meter ≡ unheard 11)
 
 -- the call that the claim is about
 abbrev pub call : Sequence → Port → Prog (R Identity)

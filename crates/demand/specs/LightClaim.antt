@@ -18,7 +18,7 @@ use Rattle.light.specs.declared.sensed.Sensed.{Sensed}
 use Rattle.light.specs.Light.{light}
 use Rattle.light.specs.Order.{patternsAt, placed}
 use Rattle.light.specs.Sensed.{EXTERNAL, MONITORED, measured}
-use Rattle.demand.specs.Claim.{BenchWorld, Start, Allowed, byteOf, Leaves, extra, CallComes}
+use Rattle.demand.specs.Claim.{BenchWorld, Start, Allowed, byteOf, Leaves, unheard, extra, CallComes}
 
 -- the module's own bytes, each at its place
 abbrev pub moduleSensed : Bench → Sensed
@@ -37,7 +37,7 @@ pub record LightFacts (l : Layout) (b : Bench) (r : R Measures) (w : BenchWorld)
 -- where the sequence harms the module, no attempt reads the first byte
 pub record LightFails (tries : ℕ) (r : R Measures) (w : BenchWorld) : Type 0 where
   pub result : r ≡ Err (I2c EEPROM)
-  pub transfers : w .other .meter .transfers ≡ tries
+  pub meter : w .other .meter ≡ unheard tries
 
 -- the start: what is read are bytes, and the registers are as 01 and S-6 allow
 unfoldable pub LightStarts : Port → Bench → Start → Type 0

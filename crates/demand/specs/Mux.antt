@@ -9,7 +9,7 @@ use Rattle.hardware.specs.declared.Access.{Access}
 use Rattle.hardware.specs.declared.Access.the-variants.{Read, Write, Wait}
 use Rattle.hardware.specs.declared.Answer.{Answer}
 use Rattle.hardware.specs.declared.Port.{Port}
-use Rattle.hardware.specs.Prog.{Prog, ret, ask, note, give, Note, Attempt, Acquires, Acquired, Released, Lapsed}
+use Rattle.hardware.specs.Prog.{Prog, ret, ask, note, give, Note, Attempt, Acquires, Acquired, Released, Lapsed, Acknowledged}
 use Rattle.hardware.specs.Registers.{ESDP, noneOf}
 use Rattle.transfer.specs.declared.attempt.Sequence.{Sequence}
 use Rattle.transfer.specs.declared.attempt.Sequence.the-variants.{Pulses, Rounds}
@@ -84,6 +84,7 @@ AtRelease Acquires X = Unit {0}
 AtRelease Acquired X = Unit {0}
 AtRelease Released X = X
 AtRelease Lapsed X = Unit {0}
+AtRelease (Acknowledged sample) X = Unit {0}
 
 -- in a run on a port with a mux: so behind the beginning of each release
 unfoldable pub Releases : Sequence → Port → List (Event BenchWorld) → Type 0

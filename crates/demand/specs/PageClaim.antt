@@ -16,7 +16,7 @@ use Rattle.sfp.specs.Classes.{Bytes}
 use Rattle.sfp.specs.Identify.{EEPROM}
 use Rattle.page.specs.declared.walk.Form.{Form}
 use Rattle.page.specs.Page.{offsetOf, sumsOf, Filled, page}
-use Rattle.demand.specs.Claim.{BenchWorld, Start, byteOf, Leaves, extra, CallComes}
+use Rattle.demand.specs.Claim.{BenchWorld, Start, byteOf, Leaves, unheard, extra, CallComes}
 
 -- so many bytes, from a place of the page on
 unfoldable pub bytesFrom : Form → Bytes → ℕ → ℕ → List ℕ
@@ -38,7 +38,7 @@ pub record PageFacts (l : Layout) (b : Bench) (form : Form) (before : List ℕ) 
 pub record PageFails (tries : ℕ) (before : List ℕ) (f : Filled) (w : BenchWorld) : Type 0 where
   pub buffer : f .buffer ≡ before
   pub result : f .result ≡ Err (I2c EEPROM)
-  pub transfers : w .other .meter .transfers ≡ tries
+  pub meter : w .other .meter ≡ unheard tries
 
 module _ (q : Sequence) (port : Port) (form : Form) (tries : ℕ) (buffer : List ℕ) where
   -- the call that the claim is about

@@ -1,12 +1,13 @@
 -- How many answers bring a call to its end: the laws of `Ends`, the bounds of the calls on one register, and what
 -- `Ends` says of a run.
+use Rattle.hardware.specs.Marks.{acknowledged}
 use Prim.Native.Nat.{ℕ, _+_, _*_, _≤_, suc, zero}
 use mathlib.Core.Path.{_≡_, refl, ap}
 use mathlib.Core.Bool.{Bool, true, false}
 use mathlib.Core.List.{List, [], _∷_, _++_}
 use native.Mathlib.Nat.{suc-add}
 use native.Mathlib.Omega.{arith}
-use lib.Dec.{T}
+use lib.Dec.{T, ltb}
 use lib.ListN.{length}
 use Rattle.hardware.specs.declared.Access.{Access}
 use Rattle.hardware.specs.declared.Access.the-variants.{Read, Write, Wait}
@@ -16,7 +17,7 @@ use Rattle.hardware.specs.declared.Meter.{Meter}
 use Rattle.hardware.specs.declared.change.Change.{Change}
 use Rattle.hardware.specs.declared.poll.Watch.{Watch}
 use Rattle.hardware.specs.Asked.{fits}
-use Rattle.hardware.specs.Prog.{Note, isTold, noteIf, Prog, ret, ask, note, give, stays, erase, metered, tally, R, Ok, Err, orErr, _>>=_, _>>?_, pick}
+use Rattle.hardware.specs.Prog.{Note, isTold, noteIf, Prog, ret, ask, note, give, erase, metered, tally, R, Ok, Err, orErr, _>>=_, _>>?_, pick}
 use Rattle.hardware.specs.Registers.{read, readRaw, write, flush, delay}
 use Rattle.hardware.specs.Change.{settled, stored, change, restUpdate}
 use Rattle.hardware.specs.Poll.{polled, poll, restPoll}
@@ -60,20 +61,21 @@ ends-pick true p q n e d = e
 ends-pick false p q n e d = d
 
 -- the notes take no answers
-pub ends-stays : {A : Type 0} (k : Note) (p : Prog A) (n : ℕ) → Ends p n → Ends (stays k p) n
+ends-noted : {A : Type 0} (b : Bool) (k : Note) (p : Prog A) (n : ℕ) → Ends p n → Ends (noteIf b k p) n
 unfolding Ends
-ends-stays k p n e = by (isTold k)
-  where
-    by : (b : Bool) → Ends (noteIf b k p) n
-    by true = e
-    by false = e
+ends-noted true k p n e = e
+ends-noted false k p n e = e
+
+pub ends-heard : {A : Type 0} (left : ℕ) (p : Prog A) (n : ℕ) → Ends p n → Ends (acknowledged left p) n
+unfolding acknowledged
+ends-heard left p n e = ends-noted (ltb left 10) _ p n e
 
 pub ends-erase : {A : Type 0} (p : Prog A) (n : ℕ) → Ends p n → Ends (erase p) n
 unfolding Ends erase
 ends-erase (ret v) n e = tt
 ends-erase (ask x f) zero e = absurd e
 ends-erase (ask x f) (suc n) e = λ a t. ends-erase (f a) n (e a t)
-ends-erase (note k p) n e = ends-stays k (erase p) n (ends-erase p n e)
+ends-erase (note k p) n e = ends-noted (isTold k) k (erase p) n (ends-erase p n e)
 ends-erase (give b p) n e = ends-erase p n e
 
 -- nor does the meter

@@ -1,26 +1,28 @@
 -- Laws of the register programs that the proofs cite.
-use Prim.Native.Nat.{ℕ, _+_, _-_, _<_, _≤_, suc, zero}
+use Prim.Native.Nat.{ℕ, _+_, _-_, _<_, _≤_, suc, zero, max}
 use mathlib.Core.Path.{_≡_, refl, ap, sym, _∙_, subst}
 use mathlib.Core.Bool.{Bool, true, false}
 use mathlib.Core.List.{List, [], _∷_}
-use lib.Dec.{T, ltb}
+use lib.Dec.{T, leb, ltb}
 use lib.ListN.{getD}
-use native.Mathlib.Nat.{add-zero, zero-add}
+use native.Mathlib.Nat.{add-zero, zero-add, zero-max, max-zero, max-le, le-max-left, le-max-right}
 use native.Mathlib.Numerals.{sub-one}
 use native.Mathlib.Omega.{arith}
-use borrow.Author.Tests.{ltb-true}
-use Rattle.hardware.specs.Prog.{Note, Attempt, Acquires, Acquired, Released, Lapsed, Prog, ret, ask, note, give, erase, _>>=_, pick, attemptsAfter, metered, blank, tally}
+use borrow.Author.Tests.{leb-true, le-leb, ltb-true}
+use Rattle.hardware.specs.Prog.{Note, Attempt, Acquires, Acquired, Released, Lapsed, Acknowledged, Prog, ret, ask, note, give, erase, _>>=_, pick, attemptsAfter, slowestAfter, metered, Counted, blank, tally}
 use Rattle.hardware.specs.Asked.{Asked, no, yes, andThen, question, openFamily, openLan, openPort, portOpened, validPort, fits, admitting, Admits, InType}
-use Rattle.hardware.specs.Runs.{run, onAnswer, runAsked, given, answered, transfersIn, meterIn, countedStatus, counted, Awaited, AwaitedIn, leftAfter, leftAskedAfter, Exchange, answersOf, AllKept, led, driven, Refuses, Asks, IfYes}
+use Rattle.hardware.specs.Runs.{run, onAnswer, runAsked, given, answered, transfersIn, sampled, samplesIn, greatestOf, Samples, Heard, Status, ended, waiting, meterIn, countedStatus, counted, Awaited, AwaitedIn, leftAfter, leftAskedAfter, Exchange, answersOf, AllKept, led, driven, Refuses, Asks, IfYes}
 use Rattle.hardware.specs.declared.Access.{Access}
 use Rattle.hardware.specs.declared.Admitted.{Admitted}
 use Rattle.hardware.specs.declared.Admitted.the-variants.{Yes, No}
 use Rattle.hardware.specs.declared.Answer.{Answer}
 use Rattle.hardware.specs.declared.Family.{Family}
+use Rattle.hardware.specs.declared.Marks.{Marks}
 use Rattle.hardware.specs.declared.Meter.{Meter}
 use Rattle.hardware.specs.declared.Port.{Port}
 use Rattle.hardware.specs.declared.Refusal.{Refusal}
 use Rattle.hardware.specs.Numbers.{refusalNumber}
+use Rattle.hardware.specs.Marks.{meterOn, validHeld}
 use Rattle.hardware.specs.declared.Opening.{Opening}
 use Rattle.hardware.specs.declared.Opening.the-variants.{Port as Opened}
 use Rattle.hardware.specs.Poll.{poll, pollNext, accessPoll, restPoll}
@@ -116,6 +118,20 @@ pub opened-valid : (family device lan : ℕ) {o : Opening} {p : Port} → o ≡ 
 unfolding openPort portOpened
 opened-valid family device lan {p = p} e h = family-valid device lan p (openFamily family) (rw e at h)
 
+-- what every call's state holds: at its opening, and with what the marks tell
+pub held-blank : (port : Port) → validPort port ≡ true → validHeld port blank ≡ true
+unfolding validHeld pick
+held-blank port h = rw (h)
+
+pub held-on : (k : Marks) (port : Port) (m : Meter) → validHeld port m ≡ true → validHeld port (meterOn k m) ≡ true
+unfolding validHeld meterOn pick
+held-on k port m h =
+    let v = both-true (validPort port) (leb (m .slowest) 10) h in
+    rw (v .0) (le-leb _ _ (max-le (leb-true (m .slowest) 10 (v .1)) (sample (k .left))))
+  where
+    sample : (left : ℕ) → 10 - left ≤ 10
+    sample left = omega arith
+
 -- the count of a meter is that of the transfers that the run begins
 attempts-after-more : (k : Note) (n m : ℕ) → attemptsAfter k n + m ≡ n + attemptsAfter k m
 attempts-after-more Attempt n m = omega arith
@@ -123,6 +139,7 @@ attempts-after-more Acquires n m = refl
 attempts-after-more Acquired n m = refl
 attempts-after-more Released n m = refl
 attempts-after-more Lapsed n m = refl
+attempts-after-more (Acknowledged sample) n m = refl
 
 pub meter-counts : {A : Type 0} (m : Meter) (p : Prog A) (l : List Answer) → meterIn m p l .transfers ≡ m .transfers + transfersIn p l
 unfolding meterIn transfersIn
@@ -132,9 +149,54 @@ meter-counts m (ask x f) (a ∷ l) = meter-counts m (f a) l
 meter-counts m (note k p) l = meter-counts (metered k m) p l ∙ attempts-after-more k (m .transfers) (transfersIn p l)
 meter-counts m (give b p) l = meter-counts m p l
 
+-- the sample of a meter is the greatest of those that the run's notes tell
+max-then : (n m k : ℕ) → max (max n m) k ≡ max n (max m k)
+max-then n m k =
+    omega (
+      arith,
+      max-le (max-le (le-max-left n (max m k)) (upto (le-max-left m k) rest)) (upto (le-max-right m k) rest),
+      max-le (upto (le-max-left n m) first) (max-le (upto (le-max-right n m) first) (le-max-right (max n m) k)),
+    )
+  where
+    upto : {a b c : ℕ} → a ≤ b → b ≤ c → a ≤ c
+    upto h g = omega (arith, h, g)
+
+    rest : max m k ≤ max n (max m k)
+    rest = le-max-right n (max m k)
+
+    first : max n m ≤ max (max n m) k
+    first = le-max-left (max n m) k
+
+slowest-then : (k : Note) (n : ℕ) (l : List ℕ) → max (slowestAfter k n) (greatestOf l) ≡ max n (greatestOf (sampled k l))
+unfolding greatestOf
+slowest-then Attempt n l = refl
+slowest-then Acquires n l = refl
+slowest-then Acquired n l = refl
+slowest-then Released n l = refl
+slowest-then Lapsed n l = refl
+slowest-then (Acknowledged sample) n l = max-then n sample (greatestOf l)
+
+pub meter-slowest : {A : Type 0} (m : Meter) (p : Prog A) (l : List Answer) → meterIn m p l .slowest ≡ max (m .slowest) (greatestOf (samplesIn p l))
+unfolding meterIn samplesIn greatestOf
+meter-slowest m (ret v) l = sym (max-zero (m .slowest))
+meter-slowest m (ask x f) [] = sym (max-zero (m .slowest))
+meter-slowest m (ask x f) (a ∷ l) = meter-slowest m (f a) l
+meter-slowest m (note k p) l = meter-slowest (metered k m) p l ∙ slowest-then k (m .slowest) (samplesIn p l)
+meter-slowest m (give b p) l = meter-slowest m p l
+
+-- no sample, or one of ten
+pub greatest-sample : (l : List ℕ) → Samples l → greatestOf l ≤ 10
+unfolding greatestOf Samples
+greatest-sample [] h = omega arith
+greatest-sample (n ∷ l) h = max-le (h .0 .last) (greatest-sample l (h .1))
+
 -- from the beginning: what a result tells is how many attempts its run began
 pub meter-begun : {A : Type 0} (p : Prog A) (l : List Answer) → meterIn blank p l .transfers ≡ transfersIn p l
 meter-begun p l = meter-counts blank p l ∙ zero-add (transfersIn p l)
+
+-- and the slowest acknowledgement in it
+pub meter-heard : {A : Type 0} (p : Prog A) (l : List Answer) → meterIn blank p l .slowest ≡ greatestOf (samplesIn p l)
+meter-heard p l = meter-slowest blank p l ∙ zero-max (greatestOf (samplesIn p l))
 
 -- a run ends with the meter of what it notes
 pub run-tally : {A : Type 0} (m : Meter) (p : Prog A) (l : List Answer) → run (tally m p) l ≡ counted (meterIn m p l) (run p l)
@@ -144,6 +206,19 @@ run-tally m (ask x f) [] = refl
 run-tally m (ask x f) (a ∷ l) = ap (answered x) (run-tally m (f a) l)
 run-tally m (note k p) l = run-tally (metered k m) p l
 run-tally m (give b p) l = ap (given b) (run-tally m p l)
+
+-- and its result tells the slowest acknowledgement in it
+ended-meter : {A : Type 0} (m : Meter) (s : Status A) (c : Counted A) → countedStatus m s ≡ ended c → m ≡ c .meter
+unfolding countedStatus
+ended-meter m (ended v) c e = cc
+ended-meter m (waiting x) c e = cc
+
+pub samples-heard : {A : Type 0} (p : Prog A) (l : List Answer) → Samples (samplesIn p l) → Heard p l
+samples-heard p l h =
+    record {
+      samples = h;
+      told = λ c e. ap (λ m. m .slowest) (sym (ended-meter (meterIn blank p l) ((run p l) .status) c (sym (ap (λ r. r .status) (run-tally blank p l)) ∙ e))) ∙ meter-heard p l;
+    }
 
 -- the questions about a port and then the run
 pub asked-runs : {A : Type 0} (o : Asked Port) (p : Port → Prog A) (l : List Answer)

@@ -1,11 +1,12 @@
 -- The number of what is left of a call falls at every accepted step, and is at most what `Ends` has.
+use Rattle.hardware.specs.Marks.{acknowledged}
 use Prim.Native.Nat.{ℕ, _-_, _^_, _<_, _≤_, suc, zero, max}
 use mathlib.Core.Path.{_≡_, refl, ap, _∙_, subst, subst⁻¹}
 use mathlib.Core.Bool.{Bool, true, false}
 use mathlib.Core.List.{List, [], _∷_}
 use native.Mathlib.Nat.{le-max-left, le-max-right, max-le}
 use native.Mathlib.Omega.{arith}
-use lib.Dec.{T, eqb}
+use lib.Dec.{T, eqb, ltb}
 use borrow.Author.Tests.{eqb-true, eqb-false}
 use Rattle.hardware.specs.declared.Access.{Access}
 use Rattle.hardware.specs.declared.Access.the-variants.{Read, Write, Wait}
@@ -13,7 +14,7 @@ use Rattle.hardware.specs.declared.Answer.{Answer}
 use Rattle.hardware.specs.declared.Answer.the-variants.{Value, Done, Failed}
 use Rattle.hardware.specs.declared.Meter.{Meter}
 use Rattle.hardware.specs.Asked.{Asked, no, yes, fits, InType}
-use Rattle.hardware.specs.Prog.{Note, isTold, noteIf, stays, Prog, ret, ask, note, give, erase, metered, tally, _>>=_}
+use Rattle.hardware.specs.Prog.{Note, isTold, noteIf, Prog, ret, ask, note, give, erase, metered, tally, _>>=_}
 use Rattle.hardware.specs.Runs.{Ends, Asks, IfYes, Awaited, AwaitedIn, leftAfter, leftAskedAfter, Exchange, AllKept, Lasts, lastTold, Unrefused}
 use Rattle.hardware.specs.Longest.{greatest, overAnswers, longest, lasting}
 use Rattle.hardware.proofs.Ends.{ends-erase}
@@ -70,19 +71,20 @@ pub longest-opened : {A : Type 0} {q : Prog A} (p : Prog A) (n : ℕ) → q ≡ 
 longest-opened p n e d = subst⁻¹ (λ q. longest q ≤ n) e (longest-few _ n (ends-erase p n d))
 
 -- notes are no accesses
-longest-stays : {A : Type 0} (n : Note) (p : Prog A) → longest (stays n p) ≡ longest p
+longest-noted : {A : Type 0} (b : Bool) (n : Note) (p : Prog A) → longest (noteIf b n p) ≡ longest p
 unfolding longest
-longest-stays n p = by (isTold n)
-  where
-    by : (b : Bool) → longest (noteIf b n p) ≡ longest p
-    by true = refl
-    by false = refl
+longest-noted true n p = refl
+longest-noted false n p = refl
+
+pub longest-heard : {A : Type 0} (left : ℕ) (p : Prog A) → longest (acknowledged left p) ≡ longest p
+unfolding acknowledged
+longest-heard left p = longest-noted (ltb left 10) _ p
 
 pub longest-erase : {A : Type 0} (p : Prog A) → longest (erase p) ≡ longest p
 unfolding longest erase
 longest-erase (ret v) = refl
 longest-erase (ask x f) = λ i. suc (overAnswers x (λ a. longest-erase (f a) i))
-longest-erase (note n p) = longest-stays n (erase p) ∙ longest-erase p
+longest-erase (note n p) = longest-noted (isTold n) n (erase p) ∙ longest-erase p
 longest-erase (give b p) = longest-erase p
 
 -- the meter is no access either

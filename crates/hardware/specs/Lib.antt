@@ -10,3 +10,4 @@ pub mod Registers
 pub mod Runs
 pub mod Poll
 pub mod Change
+pub mod Erased

@@ -1,6 +1,6 @@
 -- A call on the host's registers as a value: it has ended, it asks for one access and goes on with the answer, it
 -- notes something that no register sees, or it gives a byte out.
-use Prim.Native.Nat.{ℕ, suc}
+use Prim.Native.Nat.{ℕ, suc, max}
 use mathlib.Core.Bool.{Bool, true, false}
 use Rattle.hardware.specs.declared.Access.{Access}
 use Rattle.hardware.specs.declared.Answer.{Answer}
@@ -8,9 +8,10 @@ use Rattle.hardware.specs.declared.Meter.{Meter}
 use Rattle.hardware.specs.Failures.{Failure}
 
 -- Attempt: a transfer begins. Acquires: `acquire` is called. Acquired: it succeeded. Released: `release` is called.
--- Lapsed: a bounded wait for a lock or a grant ran out.
+-- Lapsed: a bounded wait for a lock or a grant ran out. Acknowledged: a byte was, in the sample with this number, 1 to 10.
 pub data Note : Type 0 where
   Attempt Acquires Acquired Released Lapsed : Note
+  Acknowledged : ℕ → Note
 
 pub data Prog (A : Type 0) : Type 0 where
   ret : A → Prog A
@@ -32,6 +33,7 @@ isTold Acquires = false
 isTold Acquired = false
 isTold Released = false
 isTold Lapsed = false
+isTold (Acknowledged sample) = true
 
 abbrev pub noteIf : {A : Type 0} → Bool → Note → Prog A → Prog A
 noteIf true n p = note n p
@@ -81,14 +83,24 @@ attemptsAfter Acquires n = n
 attemptsAfter Acquired n = n
 attemptsAfter Released n = n
 attemptsAfter Lapsed n = n
+attemptsAfter (Acknowledged sample) n = n
+
+-- the greatest sample
+abbrev pub slowestAfter : Note → ℕ → ℕ
+slowestAfter Attempt n = n
+slowestAfter Acquires n = n
+slowestAfter Acquired n = n
+slowestAfter Released n = n
+slowestAfter Lapsed n = n
+slowestAfter (Acknowledged sample) n = max n sample
 
 -- the meter after a note
 abbrev pub metered : Note → Meter → Meter
-metered k m = record { transfers = attemptsAfter k (m .transfers) }
+metered k m = record { transfers = attemptsAfter k (m .transfers); slowest = slowestAfter k (m .slowest) }
 
 -- before the first note
 abbrev pub blank : Meter
-blank = record { transfers = 0 }
+blank = record { transfers = 0; slowest = 0 }
 
 -- the end carries the meter after all that was noted on the way
 unfoldable pub tally : {A : Type 0} → Meter → Prog A → Prog (Counted A)

@@ -1,12 +1,12 @@
 -- A call run over a list of answers.
-use Prim.Native.Nat.{ℕ, suc, zero, _≤_}
+use Prim.Native.Nat.{ℕ, suc, zero, max, _≤_}
 use mathlib.Core.List.{List, [], _∷_}
 use lib.Dec.{T}
 use Rattle.hardware.specs.declared.Access.{Access}
 use Rattle.hardware.specs.declared.Answer.{Answer}
 use Rattle.hardware.specs.declared.Meter.{Meter}
 use Rattle.hardware.specs.Asked.{Asked, no, yes, andThen, fits}
-use Rattle.hardware.specs.Prog.{Prog, ret, ask, note, give, Counted, attemptsAfter, metered}
+use Rattle.hardware.specs.Prog.{Note, Attempt, Acquires, Acquired, Released, Lapsed, Acknowledged, Prog, ret, ask, note, give, Counted, attemptsAfter, metered, blank, tally}
 use lib.ListN.{length}
 use mathlib.Core.Path.{_≡_}
 
@@ -71,6 +71,36 @@ transfersIn (ask x f) (a ∷ l) = transfersIn (f a) l
 transfersIn (note n p) l = attemptsAfter n (transfersIn p l)
 transfersIn (give b p) l = transfersIn p l
 
+-- the samples in which the bytes of a run were acknowledged
+abbrev pub sampled : Note → List ℕ → List ℕ
+sampled Attempt l = l
+sampled Acquires l = l
+sampled Acquired l = l
+sampled Released l = l
+sampled Lapsed l = l
+sampled (Acknowledged sample) l = sample ∷ l
+
+unfoldable pub samplesIn : {A : Type 0} → Prog A → List Answer → List ℕ
+samplesIn (ret v) l = []
+samplesIn (ask x f) [] = []
+samplesIn (ask x f) (a ∷ l) = samplesIn (f a) l
+samplesIn (note n p) l = sampled n (samplesIn p l)
+samplesIn (give b p) l = samplesIn p l
+
+-- the greatest of them, 0 where there is none
+unfoldable pub greatestOf : List ℕ → ℕ
+greatestOf [] = 0
+greatestOf (n ∷ l) = max n (greatestOf l)
+
+-- a sample by its number
+pub record Sample (n : ℕ) : Type 0 where
+  pub first : 1 ≤ n
+  pub last : n ≤ 10
+
+unfoldable pub Samples : List ℕ → Type 0
+Samples [] = Unit {0}
+Samples (n ∷ l) = Sample n × Samples l
+
 -- the meter after all that a run notes
 unfoldable pub meterIn : {A : Type 0} → Meter → Prog A → List Answer → Meter
 meterIn m (ret v) l = m
@@ -86,6 +116,11 @@ countedStatus m (waiting x) = waiting x
 
 abbrev pub counted : {A : Type 0} → Meter → Run A → Run (Counted A)
 counted m r = record { accesses = r .accesses; bytes = r .bytes; status = countedStatus m (r .status) }
+
+-- every acknowledgement of a run is in one of ten samples, and its result tells the greatest of them
+pub record Heard {A : Type 0} (p : Prog A) (l : List Answer) : Type 0 where
+  pub samples : Samples (samplesIn p l)
+  pub told : (c : Counted A) → (run (tally blank p) l) .status ≡ ended c → c .meter .slowest ≡ greatestOf (samplesIn p l)
 
 -- what is left after the answer to the first access
 unfoldable pub leftAfter : {A : Type 0} → Prog A → Answer → Prog A

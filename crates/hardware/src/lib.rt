@@ -1,9 +1,9 @@
 // The host's registers and a port of the card. The host makes each access that a call names and hands back the answer.
 ghost use mathlib.Core.Path.{_≡_};
-ghost use Prim.Native.Nat.{_*_};
+ghost use Prim.Native.Nat.{_*_, _-_, max};
 ghost use mathlib.Core.List.{[], _∷_};
 ghost use lib.ListN.{getD};
-ghost use Rattle.hardware.specs.Marks.{countOf, meterOn};
+ghost use Rattle.hardware.specs.Marks.{countOf, hears, meterOn, validHeld};
 ghost use Rattle.hardware.specs.Numbers.{refusalNumber, errorNumber, errorValues};
 ghost use Rattle.hardware.specs.Asked.{familyNumber, is, openFamily, familyOpened, openPort, openLan, portOpened, validPort, fits, Admits};
 ghost use Rattle.hardware.specs.Registers.{noneOf, checked, raw, written, flushed, word, outcome};
@@ -74,24 +74,40 @@ pub enum Refusal {
     Kind,
 }
 
-// What a machine says with the access that it awaits. attempt: an attempt begins with it.
+// What a machine says with the access that it awaits. attempt: an attempt begins with it. left: a byte was acknowledged just
+// before it, with so many of the ten samples left; 10 where none was.
 pub struct Marks {
     pub attempt: bool,
+    pub left: u8,
 }
 
-pub const UNMARKED: Marks = Marks { attempt: false };
+pub const UNMARKED: Marks = Marks {
+    attempt: false,
+    left: 10,
+};
 
-pub const ATTEMPT_BEGINS: Marks = Marks { attempt: true };
+pub const ATTEMPT_BEGINS: Marks = Marks {
+    attempt: true,
+    left: 10,
+};
 
-// What a result tells of the way to it: the transfers made.
+// What a result tells of the way to it: the transfers made, and the slowest acknowledgement, by the sample, 1 to 10, in which SDA
+// first read low; 0 where no byte was acknowledged.
 pub struct Meter {
     pub transfers: u32,
+    pub slowest: u8,
 }
 
-pub const BLANK: Meter = Meter { transfers: 0 };
+pub const BLANK: Meter = Meter {
+    transfers: 0,
+    slowest: 0,
+};
 
 // One attempt has begun.
-pub const BEGUN: Meter = Meter { transfers: 1 };
+pub const BEGUN: Meter = Meter {
+    transfers: 1,
+    slowest: 0,
+};
 
 // The Rust's `R<u32>`.
 pub enum Word {
@@ -145,6 +161,16 @@ pub enum Opening {
     Refused(Refusal),
 }
 
+// A byte was acknowledged, with so many samples left.
+pub fn hears(left: u8) -> Marks
+    ensures { λ k. ⌜ k ≡ hears left ⌝ }
+{
+    Marks {
+        attempt: false,
+        left,
+    }
+}
+
 // A count that goes up by one where begins says so; at the top of its type it stays.
 fn count(begins: bool, n: u32) -> u32
     ensures { λ r. ⌜ r ≡ countOf begins n ⌝ }
@@ -157,12 +183,25 @@ fn count(begins: bool, n: u32) -> u32
     n
 }
 
+// The greater of a sample and the one that was acknowledged with so many left.
+fn slower(left: u8, n: u8) -> u8
+    ensures { λ r. ⌜ r ≡ max n (10 - left) ⌝ }
+{
+    if left < 10 {
+        if n < 10 - left {
+            return 10 - left;
+        }
+    }
+    n
+}
+
 // The meter after the marks.
 pub fn meter_on(k: Marks, m: Meter) -> Meter
     ensures { λ r. ⌜ r ≡ meterOn k m ⌝ }
 {
     Meter {
         transfers: count(k.attempt, m.transfers),
+        slowest: slower(k.left, m.slowest),
     }
 }
 
@@ -286,6 +325,16 @@ pub fn valid_port(p: Port) -> bool
     ensures { λ r. ⌜ r ≡ validPort p ⌝ }
 {
     p.lan < 2
+}
+
+// What every call's state holds: a port that an opening gives, and a meter whose sample is one of ten, or none.
+pub fn valid_held(port: Port, m: Meter) -> bool
+    ensures { λ r. ⌜ r ≡ validHeld port m ⌝ }
+{
+    if valid_port(port) {
+        return m.slowest <= 10;
+    }
+    false
 }
 
 // Question 12: a read is answered by a value or a failure, a write by done or a failure, a wait by done.

@@ -8,7 +8,7 @@ use native.Mathlib.Omega.{arith}
 use Rattle.hardware.specs.declared.Answer.{Answer}
 use Rattle.hardware.specs.declared.Port.{Port}
 use Rattle.hardware.specs.Failures.{I2c}
-use Rattle.hardware.specs.Prog.{Attempt, Acquires, Acquired, Released, Lapsed, Prog, ret, ask, note, give, R, Ok, Err, orErr, _>>=_, _>>?_, pick}
+use Rattle.hardware.specs.Prog.{Attempt, Acquires, Acquired, Released, Lapsed, Acknowledged, Prog, ret, ask, note, give, R, Ok, Err, orErr, _>>=_, _>>?_, pick}
 use Rattle.hardware.specs.Runs.{transfersIn}
 use Rattle.hostif.specs.Acquire.{hwOf, withBits, acquiredAll, acquire, giveBits, release}
 use Rattle.bus.specs.declared.Taken.{Taken}
@@ -32,6 +32,7 @@ AtMost n (note Acquires p) = AtMost n p
 AtMost n (note Acquired p) = AtMost n p
 AtMost n (note Released p) = AtMost n p
 AtMost n (note Lapsed p) = AtMost n p
+AtMost n (note (Acknowledged sample) p) = AtMost n p
 AtMost n (give b p) = AtMost n p
 
 pub most-more : {A : Type 0} (p : Prog A) (n m : ℕ) → AtMost n p → n ≤ m → AtMost m p
@@ -45,6 +46,7 @@ most-more (note Acquires p) n m e h = most-more p n m e h
 most-more (note Acquired p) n m e h = most-more p n m e h
 most-more (note Released p) n m e h = most-more p n m e h
 most-more (note Lapsed p) n m e h = most-more p n m e h
+most-more (note (Acknowledged sample) p) n m e h = most-more p n m e h
 most-more (give b p) n m e h = most-more p n m e h
 
 pub most-bind : {A B : Type 0} (p : Prog A) (k : A → Prog B) (n m : ℕ) → AtMost n p → ((a : A) → AtMost m (k a)) → AtMost (n + m) (p >>= k)
@@ -57,6 +59,7 @@ most-bind (note Acquires p) k n m e d = most-bind p k n m e d
 most-bind (note Acquired p) k n m e d = most-bind p k n m e d
 most-bind (note Released p) k n m e d = most-bind p k n m e d
 most-bind (note Lapsed p) k n m e d = most-bind p k n m e d
+most-bind (note (Acknowledged sample) p) k n m e d = most-bind p k n m e d
 most-bind (give b p) k n m e d = most-bind p k n m e d
 
 -- the first begins none
@@ -89,6 +92,7 @@ most-quiet (note Acquires p) e = absurd e
 most-quiet (note Acquired p) e = absurd e
 most-quiet (note Released p) e = absurd e
 most-quiet (note Lapsed p) e = most-quiet p e
+most-quiet (note (Acknowledged sample) p) e = most-quiet p (e .1)
 most-quiet (give b p) e = most-quiet p e
 
 pub most-counts : {A : Type 0} (n : ℕ) (p : Prog A) (l : List Answer) → AtMost n p → transfersIn p l ≤ n
@@ -102,6 +106,7 @@ most-counts n (note Acquires p) l e = most-counts n p l e
 most-counts n (note Acquired p) l e = most-counts n p l e
 most-counts n (note Released p) l e = most-counts n p l e
 most-counts n (note Lapsed p) l e = most-counts n p l e
+most-counts n (note (Acknowledged sample) p) l e = most-counts n p l e
 most-counts n (give b p) l e = most-counts n p l e
 
 once-most : (port : Port) (r : Request) (how : How) → AtMost 1 (once port r how)

@@ -6,7 +6,7 @@ use lib.Dec.{T, leb}
 use borrow.Author.Tests.{leb-true, le-leb, lt-ltb}
 use native.Mathlib.Numerals.{sub-one}
 use native.Mathlib.Omega.{arith}
-use Rattle.hardware.specs.Marks.{FULL, attemptBegins, countOf, marked, meterOn, more, unmarked}
+use Rattle.hardware.specs.Marks.{FULL, acknowledged, attemptBegins, countOf, marked, meterOn, more, unmarked, validHeld}
 use Rattle.hardware.specs.declared.Access.the-variants.{Read}
 use Rattle.hardware.specs.declared.Marks.{Marks}
 use Rattle.hardware.specs.declared.Meter.{Meter}
@@ -34,12 +34,13 @@ use Rattle.i2c.specs.declared.retry.RetryNext.the-variants.{Going}
 use Rattle.i2c.specs.I2c.{mask, attempts, deviceOf, scriptOf, isWrite, body, failedI2c, once, whenLock, readTries, writeTries, givenUp, writes, retried, qsfp, askBus, granted, givenBus, onGrant, withBus, handshaken}
 use Rattle.hardware.specs.declared.Update.the-variants.{Reading}
 use Rattle.hardware.specs.Change.{change, accessUpdate, restUpdate}
+use Rattle.hardware.proofs.Laws.{held-on}
 use Rattle.hardware.proofs.Prog.{bind-assoc, bind-ret}
 use Rattle.i2c.specs.declared.handshake.Handshake.{Handshake}
 use Rattle.i2c.specs.declared.handshake.Handshake.the-variants.{Asking, Granting}
 use Rattle.i2c.specs.declared.handshake.HandshakeNext.the-variants.{Going as HandshakeGoing}
 use Rattle.i2c.specs.Handshake.{hasHandshake, closing, entered, onGranted, awaitingGrant, lookedAt, accessHandshake, restHandshake, handshakeNext, dueHandshake, allows, validHandshake, validRequest}
-use Rattle.i2c.specs.Calls.{limitOf, triesOf}
+use Rattle.i2c.specs.Calls.{limitOf, triesOf, validOperands}
 use Rattle.i2c.specs.Retry.{wanted, backThen, afterRelease, afterRead, afterWrite, afterTry, tryNow, lockedTry, triesLeft, accessRetry, accessStage, restRetry, restStage, retryNext}
 
 -- a call's script does what the Rust's closure does
@@ -61,7 +62,7 @@ on-start (WriteCombined d reg v) = refl
 -- an attempt begins, and is noted
 pub begins : (port : Port) (r : Request) (how : How) (left : ℕ)
     → retryNext port r how (Going attemptBegins (record { left = left; stage = Trying New })) ≡ erase (tryNow port r how left)
-unfolding retryNext marked accessRetry accessStage accessAttempt restRetry restStage restAttempt tryNow once attempt attempting erase _>>=_
+unfolding retryNext marked acknowledged accessRetry accessStage accessAttempt restRetry restStage restAttempt tryNow once attempt attempting erase _>>=_
 begins port r how left =
     ap (λ f. note Attempt (ask (Read (layoutOf (port .family) .reg)) (λ a. erase (orErr (begun (how .sequence) (layoutOf (port .family)) (deviceOf r) f) (raw a) >>= afterTry port r how left))))
     (body-is (layoutOf (port .family)) r)
@@ -146,7 +147,7 @@ read-open port r how tries w = rw (w)
 -- with a look left, ESDP is read
 pub granted-more : (port : Port) (r : Request) (how : How) (tries left : ℕ) → (left ≡ 0 → ⊥)
     → handshakeNext port r how (HandshakeGoing unmarked (Granting tries (left - 1))) ≡ erase (awaitingGrant port r how tries left)
-unfolding handshakeNext marked accessHandshake restHandshake lookedAt awaitingGrant granted erase _>>=_
+unfolding handshakeNext marked acknowledged accessHandshake restHandshake lookedAt awaitingGrant granted erase _>>=_
 granted-more port r how tries zero h = absurd (h refl)
 granted-more port r how tries (suc n) h =
     ap (λ m. handshakeNext port r how (HandshakeGoing unmarked (Granting tries m))) (sub-one (suc n))
@@ -161,7 +162,7 @@ closing-ends port r h = fun-ext (λ result. rw (h))
 
 asks : (port : Port) (r : Request) (how : How) (tries : ℕ)
     → handshakeNext port r how (HandshakeGoing unmarked (Asking tries Reading)) ≡ erase (change askBus >>? λ _. awaitingGrant port r how tries 200)
-unfolding handshakeNext marked accessHandshake restHandshake accessUpdate restUpdate change erase _>>=_
+unfolding handshakeNext marked acknowledged accessHandshake restHandshake accessUpdate restUpdate change erase _>>=_
 asks port r how tries = refl
 
 with-bus : (port : Port) (device : ℕ) (f : Prog (R Taken)) → qsfp port ≡ true → (change askBus >>? λ _. granted 200 >>? onGrant device f) ≡ withBus port device f
@@ -242,6 +243,11 @@ limit-most (WriteCombined d reg v) = omega arith
 -- what an opening may begin fits its limit
 pub limit-room : (r : Request) (tries attempts due : ℕ) → tries ≡ triesOf r attempts → attempts ≤ 255 → due ≤ wanted r tries → 0 + due ≤ limitOf r
 limit-room r tries attempts due e h d = omega (arith, subst (λ n. due ≤ wanted r n) e d, limit-fits r attempts h)
+
+-- a state's operands, with what its marks tell
+pub operands-on : (k : Marks) (port : Port) (r : Request) (m : Meter) → validOperands port r m ≡ true → validOperands port r (meterOn k m) ≡ true
+unfolding validOperands
+operands-on k port r m h = picked _ _ (held-on k port m (picked-first (validHeld port m) _ h)) (picked-second (validHeld port m) _ h)
 
 -- what a request within its limits says
 pub record Fits (port : Port) (r : Request) (tries cap : ℕ) (m : Meter) (s : Handshake) : Type 0 where

@@ -8,7 +8,8 @@ use mathlib.Core.List.{List}
 use Rattle.hardware.specs.declared.Answer.{Answer}
 use Rattle.hardware.specs.declared.Port.{Port}
 use Rattle.hardware.specs.Prog.{Prog, R, Ok, Err, orErr, _>>?_, pick}
-use Rattle.hardware.specs.Runs.{run, ended}
+use Rattle.hardware.specs.Runs.{run, ended, Heard}
+use Rattle.hardware.proofs.Laws.{samples-heard}
 use Rattle.sync.specs.Regs.{SW-MNG}
 use Rattle.hostif.specs.Hostif.{Left, closed, released, requested, acquired, command, tokenBlock, tokened, token}
 use Rattle.hostif.specs.Acquire.{TOKEN-TRIES, hwOf, withBits, acquiredAll, notGranted, givenBack, tokenSeen, acquireToken, acquire, giveBits, tokenGiven, release}
@@ -22,7 +23,7 @@ use Rattle.i2c.specs.I2c.{mask, givesValue, once, whenLock, readJudged, 
 use Rattle.i2c.specs.Paired.{free, held, holdAfter, notesIn, Paired}
 use Rattle.i2c.proofs.Noteless.{once-noteless}
 use Rattle.i2c.proofs.Quiet.{granted-quiet, Quiet, quiet-noteless, quiet-pick, quiet-ret, delay-quiet, change-quiet, acquire-bits-quiet, release-bits-quiet, request-quiet, respond-quiet}
-use Rattle.i2c.proofs.Pairs.{Pairs, holdOf, pairs-holds, pairs-bind, pairs-then, pairs-or, pairs-try, pairs-pick, pairs-ret, pairs-attempt, pairs-acquires, pairs-acquired, pairs-released, pairs-quiet, pairs-paired}
+use Rattle.i2c.proofs.Pairs.{Pairs, holdOf, pairs-holds, pairs-bind, pairs-then, pairs-or, pairs-try, pairs-pick, pairs-ret, pairs-attempt, pairs-acquires, pairs-acquired, pairs-released, pairs-quiet, pairs-paired, pairs-samples}
 
 -- a firmware command takes its own lock and gives it back
 
@@ -212,3 +213,7 @@ transferred-pairs port r how n =
 -- the rule, of every run
 pub transfer-paired : (port : Port) (r : Request) (how : How) (n : ℕ) (l : List Answer) → Paired (transferred port r how n) l
 transfer-paired port r how n l = pairs-paired _ l (transferred-pairs port r how n)
+
+-- every acknowledgement in a run is in one of ten samples, and its result tells the greatest
+pub transfer-heard : (port : Port) (r : Request) (how : How) (n : ℕ) (l : List Answer) → Heard (transferred port r how n) l
+transfer-heard port r how n l = samples-heard _ l (pairs-samples false _ _ l (transferred-pairs port r how n))

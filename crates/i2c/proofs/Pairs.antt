@@ -1,4 +1,4 @@
--- Acquires and releases in pairs along a call, and what that says of its runs.
+-- Acquires and releases in pairs along a call, each acknowledgement in one of ten samples, and what that says of its runs.
 use Prim.Native.Nat.{ℕ}
 use mathlib.Core.Path.{_≡_, refl, ap, _∙_}
 use mathlib.Core.Bool.{Bool, true, false}
@@ -6,8 +6,8 @@ use mathlib.Core.List.{List, [], _∷_}
 use native.Mathlib.Omega.{arith}
 use Rattle.hardware.specs.declared.Access.{Access}
 use Rattle.hardware.specs.declared.Answer.{Answer}
-use Rattle.hardware.specs.Prog.{Attempt, Acquires, Acquired, Released, Lapsed, Prog, ret, ask, note, give, R, Ok, Err, orErr, _>>=_, _>>?_, pick}
-use Rattle.hardware.specs.Runs.{ended, run, onAnswer}
+use Rattle.hardware.specs.Prog.{Attempt, Acquires, Acquired, Released, Lapsed, Acknowledged, Prog, ret, ask, note, give, R, Ok, Err, orErr, _>>=_, _>>?_, pick}
+use Rattle.hardware.specs.Runs.{ended, run, onAnswer, samplesIn, Sample, Samples}
 use Rattle.i2c.specs.Paired.{Hold, free, held, broken, noted, holdAfter, notesIn, Paired}
 use Rattle.i2c.proofs.Quiet.{Quiet}
 
@@ -21,6 +21,7 @@ Pairs h (note Acquires p) after = (h ≡ false) × Pairs false p after
 Pairs h (note Acquired p) after = (h ≡ false) × Pairs true p after
 Pairs h (note Released p) after = (h ≡ true) × Pairs false p after
 Pairs h (note Lapsed p) after = Pairs h p after
+Pairs h (note (Acknowledged sample) p) after = Sample sample × Pairs h p after
 Pairs h (give b p) after = Pairs h p after
 
 -- one call after another
@@ -34,6 +35,7 @@ pairs-bind h (note Acquires p) k mid after e d = (e .0, pairs-bind false p k mid
 pairs-bind h (note Acquired p) k mid after e d = (e .0, pairs-bind true p k mid after (e .1) d)
 pairs-bind h (note Released p) k mid after e d = (e .0, pairs-bind false p k mid after (e .1) d)
 pairs-bind h (note Lapsed p) k mid after e d = pairs-bind h p k mid after e d
+pairs-bind h (note (Acknowledged sample) p) k mid after e d = (e .0, pairs-bind h p k mid after (e .1) d)
 pairs-bind h (give b p) k mid after e d = pairs-bind h p k mid after e d
 
 -- the same where the first leaves the lock as it was
@@ -91,6 +93,7 @@ pairs-quiet h (note Acquires p) e = absurd e
 pairs-quiet h (note Acquired p) e = absurd e
 pairs-quiet h (note Released p) e = absurd e
 pairs-quiet h (note Lapsed p) e = pairs-quiet h p e
+pairs-quiet h (note (Acknowledged sample) p) e = (e .0, pairs-quiet h p (e .1))
 pairs-quiet h (give b p) e = pairs-quiet h p e
 
 abbrev pub holdOf : Bool → Hold
@@ -113,8 +116,23 @@ pairs-holds h (note Acquires p) after l e = rw (e .0) (pairs-holds false p after
 pairs-holds h (note Acquired p) after l e = rw (e .0) (pairs-holds true p after l (e .1))
 pairs-holds h (note Released p) after l e = rw (e .0) (pairs-holds false p after l (e .1))
 pairs-holds h (note Lapsed p) after l e = pairs-holds h p after l e
+pairs-holds h (note (Acknowledged sample) p) after l e = pairs-holds h p after l (e .1)
 pairs-holds h (give b p) after l e = pairs-holds h p after l e
 
 pub pairs-paired : {A : Type 0} (p : Prog A) (l : List Answer) → Pairs false p (λ _. false) → Paired p l
 unfolding Paired
 pairs-paired p l e = pairs-holds false p (λ _. false) l e
+
+-- and every acknowledgement in it is in one of ten samples
+pub pairs-samples : {A : Type 0} (h : Bool) (p : Prog A) (after : A → Bool) (l : List Answer) → Pairs h p after → Samples (samplesIn p l)
+unfolding Pairs samplesIn Samples
+pairs-samples h (ret v) after l e = tt
+pairs-samples h (ask x f) after [] e = tt
+pairs-samples h (ask x f) after (a ∷ l) e = pairs-samples h (f a) after l (e a)
+pairs-samples h (note Attempt p) after l e = pairs-samples h p after l e
+pairs-samples h (note Acquires p) after l e = pairs-samples false p after l (e .1)
+pairs-samples h (note Acquired p) after l e = pairs-samples true p after l (e .1)
+pairs-samples h (note Released p) after l e = pairs-samples false p after l (e .1)
+pairs-samples h (note Lapsed p) after l e = pairs-samples h p after l e
+pairs-samples h (note (Acknowledged sample) p) after l e = (e .0, pairs-samples h p after l (e .1))
+pairs-samples h (give b p) after l e = pairs-samples h p after l e

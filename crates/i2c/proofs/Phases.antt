@@ -1,22 +1,23 @@
 -- An attempt shows itself: what the accesses of the line calls, the commands and the clearing sequences tell.
-use Prim.Native.Nat.{ℕ, suc, zero}
+use Prim.Native.Nat.{ℕ, _-_, suc, zero}
 use mathlib.Core.Path.{_≡_, refl, _∙_, sym}
 use mathlib.Core.Bool.{Bool, true, false, false≢true}
 use mathlib.Core.List.{List, [], _∷_}
-use lib.Dec.{eqb}
+use lib.Dec.{eqb, ltb}
 use borrow.Author.Tests.{eq-eqb}
 use Rattle.hardware.specs.declared.Access.the-variants.{Read, Write}
 use Rattle.hardware.specs.declared.Answer.{Answer}
 use Rattle.hardware.specs.declared.Answer.the-variants.{Value, Done, Failed}
 use Rattle.hardware.specs.Failures.{Failure, Io, I2c}
-use Rattle.hardware.specs.Prog.{Attempt as Begins, Acquires, Acquired, Released, Lapsed, Prog, ret, ask, note, give, R, Ok, Err, orErr, _>>=_, pick}
+use Rattle.hardware.specs.Prog.{Attempt as Begins, Acquires, Acquired, Released, Lapsed, Acknowledged, Prog, ret, ask, note, noteIf, give, R, Ok, Err, orErr, _>>=_, pick}
+use Rattle.hardware.specs.Marks.{acknowledged}
 use Rattle.hardware.specs.Registers.{STATUS, noneOf, raw, written, flushed}
 use Rattle.bus.specs.declared.Layout.{Layout}
 use Rattle.bus.specs.declared.Taken.{Taken}
 use Rattle.bus.specs.declared.command.Command.{Command}
 use Rattle.bus.specs.declared.command.Command.the-variants.{Start, Send, Read as ReadCommand, Stop, Free}
 use Rattle.bus.specs.declared.command.Piece.{Piece}
-use Rattle.bus.specs.Bus.{Held, Bus, done, fail, none, orHeld, flushing, put, get, wait, sclSeen, sclTries, sclHigh, sclLow, sdaSeen, sdaFree, sda, releaseSda, look, lookSeen, start, close, stop, outBit, sample, sampleSeen, inBit, shifted, inBits, inByte, bitOf, outBits, ackSeen, ackTries, send, pulses, isI2c, orQuiet, quieted, quiet, clear, clearFree, clearAgain, clearStop, pulled, rounds, clearRounds}
+use Rattle.bus.specs.Bus.{Held, Bus, done, fail, none, orHeld, flushing, put, get, wait, sclSeen, sclTries, sclHigh, sclLow, sdaSeen, sdaFree, sda, releaseSda, look, lookSeen, start, close, stop, outBit, sample, sampleSeen, inBit, shifted, inBits, inByte, bitOf, outBits, heard as heardIn, ackSeen, ackTries, send, pulses, isI2c, orQuiet, quieted, quiet, clear, clearFree, clearAgain, clearStop, pulled, rounds, clearRounds}
 use Rattle.script.proofs.Laws.{Unfreed}
 use Rattle.transfer.specs.declared.attempt.Sequence.{Sequence}
 use Rattle.transfer.specs.declared.attempt.Sequence.the-variants.{Pulses, Rounds}
@@ -101,6 +102,7 @@ tells-shows q l handing b due s (note Acquires p) Q e = tells-shows q l handing 
 tells-shows q l handing b due s (note Acquired p) Q e = tells-shows q l handing b due s p Q e
 tells-shows q l handing b due s (note Released p) Q e = tells-shows q l handing b due s p Q e
 tells-shows q l handing b due s (note Lapsed p) Q e = tells-shows q l handing b due s p Q e
+tells-shows q l handing b due s (note (Acknowledged sample) p) Q e = tells-shows q l handing b due s p Q e
 tells-shows q l handing b due s (give d p) Q e = e
 
 -- the phase at success and at a failure of the module bus; behind another failure no attempt follows on this one
@@ -323,10 +325,18 @@ module _ (q : Sequence) (l : Layout) (apart : eqb STATUS (l .reg) ≡ false) whe
     in-bits zero byte k e = e byte
     in-bits (suc n) byte k e = in-bit _ (λ bit. in-bits n (shifted byte bit) k e)
 
+    from-heard : (left : ℕ) (s : Phase) (k : Bus) → From s k → From s (heardIn left k)
+    unfolding acknowledged Shows
+    from-heard left s k e ctl = by (ltb left 10)
+      where
+        by : (b : Bool) → Shows q l false s (noteIf b (Acknowledged (10 - left)) (k ctl)) Q
+        by true = e ctl
+        by false = e ctl
+
     -- the samples of an acknowledgement; from the second on the one before and its wait stand before each
     ack-once : (s : Phase) (n : ℕ) (k : Bool → Bus) → Reads s looked → From looked (k false) → From sampled (ackTries l n k) → From s (ackTries l (suc n) k)
     unfolding ackTries ackSeen pick
-    ack-once s n k h e d = from-get s _ _ h (λ v. from-pick _ (noneOf v (l .sdain)) _ _ e (from-wait 1 _ _ _ refl d))
+    ack-once s n k h e d = from-get s _ _ h (λ v. from-pick _ (noneOf v (l .sdain)) _ _ (from-heard n _ _ e) (from-wait 1 _ _ _ refl d))
 
     ack-tries : (n : ℕ) (k : Bool → Bus) → From looked (k false) → From sampled (k true) → From sampled (ackTries l n k)
     unfolding ackTries

@@ -7,7 +7,8 @@ use Rattle.hardware.specs.declared.Answer.{Answer}
 use Rattle.hardware.specs.declared.Family.{Family}
 use Rattle.hardware.specs.declared.Port.{Port}
 use Rattle.hardware.specs.declared.change.Change.{Change}
-use Rattle.hardware.specs.Prog.{Attempt, Acquires, Acquired, Released, Lapsed, Prog, ret, ask, note, give, R, _>>=_, _>>?_, pick}
+use Rattle.hardware.specs.Prog.{Attempt, Acquires, Acquired, Released, Lapsed, Acknowledged, Prog, ret, ask, note, give, R, _>>=_, _>>?_, pick}
+use Rattle.hardware.specs.Runs.{Sample}
 use Rattle.hardware.specs.Registers.{delay}
 use Rattle.hardware.specs.Change.{change}
 use Rattle.sync.specs.Resource.{acquireBits, releaseBits}
@@ -27,6 +28,7 @@ Quiet (note Acquires p) = ⊥
 Quiet (note Acquired p) = ⊥
 Quiet (note Released p) = ⊥
 Quiet (note Lapsed p) = Quiet p
+Quiet (note (Acknowledged sample) p) = Sample sample × Quiet p
 Quiet (give b p) = Quiet p
 
 pub quiet-bind : {A B : Type 0} (p : Prog A) (k : A → Prog B) → Quiet p → ((a : A) → Quiet (k a)) → Quiet (p >>= k)
@@ -38,6 +40,7 @@ quiet-bind (note Acquires p) k e d = absurd e
 quiet-bind (note Acquired p) k e d = absurd e
 quiet-bind (note Released p) k e d = absurd e
 quiet-bind (note Lapsed p) k e d = quiet-bind p k e d
+quiet-bind (note (Acknowledged sample) p) k e d = (e .0, quiet-bind p k (e .1) d)
 quiet-bind (give b p) k e d = quiet-bind p k e d
 
 -- what notes nothing is quiet
@@ -45,7 +48,12 @@ pub quiet-noteless : {A : Type 0} (p : Prog A) → Noteless p → Quiet p
 unfolding Quiet Noteless
 quiet-noteless (ret v) e = tt
 quiet-noteless (ask x f) e = λ a. quiet-noteless (f a) (e a)
-quiet-noteless (note n p) e = absurd e
+quiet-noteless (note Attempt p) e = absurd (e .0)
+quiet-noteless (note Acquires p) e = absurd (e .0)
+quiet-noteless (note Acquired p) e = absurd (e .0)
+quiet-noteless (note Released p) e = absurd (e .0)
+quiet-noteless (note Lapsed p) e = absurd (e .0)
+quiet-noteless (note (Acknowledged sample) p) e = (e .0, quiet-noteless p (e .1))
 quiet-noteless (give b p) e = quiet-noteless p e
 
 -- whatever access is made

@@ -12,7 +12,7 @@ use Rattle.hardware.specs.declared.Family.{Family}
 use Rattle.hardware.specs.declared.Family.the-variants.{F82599, X540, X550, X552, X553}
 use Rattle.hardware.specs.declared.Port.{Port}
 use Rattle.hardware.specs.declared.change.Change.{Change}
-use Rattle.hardware.specs.Prog.{Attempt, Acquires, Acquired, Released, Lapsed, Prog, ret, ask, note, give, R, Ok, Err, orErr, _>>=_, _>>?_, pick}
+use Rattle.hardware.specs.Prog.{Attempt, Acquires, Acquired, Released, Lapsed, Acknowledged, Prog, ret, ask, note, give, R, Ok, Err, orErr, _>>=_, _>>?_, pick}
 use Rattle.hardware.specs.Registers.{ESDP, STATUS, delayMs}
 use Rattle.hardware.specs.Asked.{is}
 use Rattle.hardware.specs.Change.{change}
@@ -88,6 +88,7 @@ leaves-shows q l due s (note Acquires p) Q h e = leaves-shows q l due s p Q h e
 leaves-shows q l due s (note Acquired p) Q h e = leaves-shows q l due s p Q h e
 leaves-shows q l due s (note Released p) Q h e = leaves-shows q l due s p Q h e
 leaves-shows q l due s (note Lapsed p) Q h e = leaves-shows q l due s p Q h e
+leaves-shows q l due s (note (Acknowledged sample) p) Q h e = leaves-shows q l due s p Q h e
 leaves-shows q l due s (give b p) Q h e = leaves-shows q l due s p Q h e
 
 -- the registers of the locks and of the handshake are neither I2CCTL nor STATUS, which a flush reads

@@ -10,7 +10,7 @@ use Rattle.hardware.specs.declared.Answer.{Answer}
 use Rattle.hardware.specs.declared.Meter.{Meter}
 use Rattle.hardware.specs.Failures.{Failure}
 use Rattle.hardware.specs.Marks.{more}
-use Rattle.hardware.specs.Prog.{Attempt, Acquires, Acquired, Released, Lapsed, Prog, ret, ask, note, give, R, Ok, Err, orErr, _>>=_, _>>?_, pick, Counted, blank, tally}
+use Rattle.hardware.specs.Prog.{Attempt, Acquires, Acquired, Released, Lapsed, Acknowledged, Prog, ret, ask, note, give, R, Ok, Err, orErr, _>>=_, _>>?_, pick, Counted, blank, tally}
 use Rattle.hardware.specs.Runs.{Status, ended, waiting, run, onAnswer, transfersIn, meterIn, countedStatus}
 use Rattle.hardware.proofs.Laws.{meter-begun, run-tally}
 use Rattle.bus.specs.declared.Layout.{Layout}
@@ -26,6 +26,7 @@ Shows q l due s (note Acquires p) Q = Shows q l due s p Q
 Shows q l due s (note Acquired p) Q = Shows q l due s p Q
 Shows q l due s (note Released p) Q = Shows q l due s p Q
 Shows q l due s (note Lapsed p) Q = Shows q l due s p Q
+Shows q l due s (note (Acknowledged sample) p) Q = Shows q l due s p Q
 Shows q l due s (give b p) Q = Shows q l due s p Q
 
 -- wherever it ends
@@ -43,6 +44,7 @@ shows-bind q l due s (note Acquires p) k Q Z e d = shows-bind q l due s p k Q Z 
 shows-bind q l due s (note Acquired p) k Q Z e d = shows-bind q l due s p k Q Z e d
 shows-bind q l due s (note Released p) k Q Z e d = shows-bind q l due s p k Q Z e d
 shows-bind q l due s (note Lapsed p) k Q Z e d = shows-bind q l due s p k Q Z e d
+shows-bind q l due s (note (Acknowledged sample) p) k Q Z e d = shows-bind q l due s p k Q Z e d
 shows-bind q l due s (give b p) k Q Z e d = shows-bind q l due s p k Q Z e d
 
 -- and another after it where it succeeds
@@ -75,6 +77,7 @@ shows-run q l due s (note Acquires p) Q answers e = shows-run q l due s p Q answ
 shows-run q l due s (note Acquired p) Q answers e = shows-run q l due s p Q answers e
 shows-run q l due s (note Released p) Q answers e = shows-run q l due s p Q answers e
 shows-run q l due s (note Lapsed p) Q answers e = shows-run q l due s p Q answers e
+shows-run q l due s (note (Acknowledged sample) p) Q answers e = shows-run q l due s p Q answers e
 shows-run q l due s (give b p) Q answers e = shows-run q l due s p Q answers e
 
 -- where a run has ended, nothing is awaited

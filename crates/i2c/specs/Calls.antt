@@ -7,7 +7,8 @@ use lib.Dec.{eqb, leb}
 use Rattle.hardware.specs.declared.Answer.{Answer}
 use Rattle.hardware.specs.declared.Meter.{Meter}
 use Rattle.hardware.specs.declared.Port.{Port}
-use Rattle.hardware.specs.Asked.{Asked, yes, no, question, andThen, openPort, validPort, admitting}
+use Rattle.hardware.specs.Asked.{Asked, yes, no, question, andThen, openPort, admitting}
+use Rattle.hardware.specs.Marks.{validHeld}
 use Rattle.hardware.specs.Numbers.{refusalNumber}
 use Rattle.hardware.specs.Prog.{Prog, ret, ask, erase, R, Counted, blank, tally, pick, _>>=_}
 use Rattle.hardware.specs.Registers.{word, outcome}
@@ -55,12 +56,12 @@ openTransfer family device lan r attempts how =
 unfoldable pub restCall : Port → Request → How → Handshake → Answer → Prog (R ℕ)
 restCall port r how s a = restHandshake port r how s a >>= givesValue r
 
--- the port and the device are such as an opening gives
-unfoldable pub validOperands : Port → Request → Bool
-validOperands port r = pick (validPort port) (evenDevice r) false
+-- the port and the device are such as an opening gives, and the meter's sample is one of ten
+unfoldable pub validOperands : Port → Request → Meter → Bool
+validOperands port r m = pick (validHeld port m) (evenDevice r) false
 
 unfoldable pub validCall : Port → Request → Meter → Handshake → Bool
-validCall port r m s = pick (validOperands port r) (validRequest port r (limitOf r) (limitOf r) m s) false
+validCall port r m s = pick (validOperands port r m) (validRequest port r (limitOf r) (limitOf r) m s) false
 
 -- a step: 10, 11, 12
 unfoldable pub stepTransfer : TransferCall → Answer → Asked (Prog (Counted (R ℕ)))

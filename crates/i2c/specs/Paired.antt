@@ -2,7 +2,7 @@
 use mathlib.Core.Path.{_≡_}
 use mathlib.Core.List.{List, [], _∷_}
 use Rattle.hardware.specs.declared.Answer.{Answer}
-use Rattle.hardware.specs.Prog.{Prog, ret, ask, note, give, Note, Attempt, Acquires, Acquired, Released, Lapsed}
+use Rattle.hardware.specs.Prog.{Prog, ret, ask, note, give, Note, Attempt, Acquires, Acquired, Released, Lapsed, Acknowledged}
 use Rattle.hardware.specs.Runs.{run, ended}
 
 -- what a run notes
@@ -29,6 +29,7 @@ noted Released held = free
 noted Released broken = broken
 noted Attempt h = h
 noted Lapsed h = h
+noted (Acknowledged sample) h = h
 
 unfoldable pub holdAfter : Hold → List Note → Hold
 holdAfter h [] = h

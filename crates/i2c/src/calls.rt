@@ -74,7 +74,7 @@ fn even(r: Request) -> bool
 }
 
 fn told(port: Port, r: Request, how: How, m: Meter, n: HandshakeNext) -> TransferTold
-    ensures { λ t. ⌜ Keeps (m .transfers < FULL → saidTransfer t ≡ yes (tally m (followed (handshakeNext port r how n) (givesValue r)))) (validOperands port r ≡ true → validHandshakeNext (limitOf r) port r n ≡ true → m .transfers + dueHandshakeNext r n ≤ limitOf r → standsTransfer t) ⌝ }
+    ensures { λ t. ⌜ Keeps (m .transfers < FULL → saidTransfer t ≡ yes (tally m (followed (handshakeNext port r how n) (givesValue r)))) (validOperands port r m ≡ true → validHandshakeNext (limitOf r) port r n ≡ true → m .transfers + dueHandshakeNext r n ≤ limitOf r → standsTransfer t) ⌝ }
 {
     match n {
         HandshakeNext::Going(k, s) => TransferTold::Ask(
@@ -304,11 +304,11 @@ pub fn write_combined_open_with(
     )
 }
 
-// A state's port and device are such as an opening gives.
-fn valid_operands(port: Port, r: Request) -> bool
-    ensures { λ b. ⌜ b ≡ validOperands port r ⌝ }
+// A state's port and device are such as an opening gives, and its meter's sample is one of ten.
+fn valid_operands(port: Port, r: Request, m: Meter) -> bool
+    ensures { λ b. ⌜ b ≡ validOperands port r m ⌝ }
 {
-    if hardware::valid_port(port) {
+    if hardware::valid_held(port, m) {
         return even(r);
     }
     false
@@ -317,7 +317,7 @@ fn valid_operands(port: Port, r: Request) -> bool
 fn valid(port: Port, r: Request, m: Meter, t: Handshake) -> bool
     ensures { λ b. ⌜ b ≡ validCall port r m t ⌝ }
 {
-    if valid_operands(port, r) {
+    if valid_operands(port, r, m) {
         let most = limit(r);
         return crate::handshake::valid_request(port, r, most, most, m, t);
     }

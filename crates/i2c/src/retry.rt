@@ -199,24 +199,25 @@ fn after_try(port: Port, r: Request, how: How, left: u8, g: Got) -> RetryNext
     give_back(port, r, how, left, g)
 }
 
+// An attempt goes on, and says whether a byte was acknowledged.
+fn trying(left: u8, s: Attempt) -> RetryNext
+    ensures { λ t. ⌜ Counts ((port : Port) (r : Request) (how : How) → retryNext port r how t ≡ followed (attemptNext keeping (how .sequence) (layoutOf (port .family)) (deviceOf r) (scriptOf r) (AttemptNext.Going s)) (afterTry port r how left)) ((tries : ℕ) (port : Port) (r : Request) → left < tries → validAttemptNext (layoutOf (port .family)) (scriptOf r) (AttemptNext.Going s) ≡ true → validRetryNext tries port r t ≡ true) (dueRetryNext t ≤ left) ⌝ }
+{
+    RetryNext::Going(
+        hardware::hears(transfer::attempt::heard(s)),
+        Retry {
+            left,
+            stage: Stage::Trying(s),
+        },
+    )
+}
+
 fn tried(port: Port, r: Request, how: How, left: u8, n: AttemptNext) -> RetryNext
     ensures { λ t. ⌜ Counts (retryNext port r how t ≡ followed (attemptNext keeping (how .sequence) (layoutOf (port .family)) (deviceOf r) (scriptOf r) n) (afterTry port r how left)) ((tries : ℕ) → left < tries → validAttemptNext (layoutOf (port .family)) (scriptOf r) n ≡ true → validRetryNext tries port r t ≡ true) (dueRetryNext t ≤ left) ⌝ }
 {
     match n {
-        AttemptNext::Going(s) => RetryNext::Going(
-            UNMARKED,
-            Retry {
-                left,
-                stage: Stage::Trying(s),
-            },
-        ),
-        AttemptNext::Read(_, s) => RetryNext::Going(
-            UNMARKED,
-            Retry {
-                left,
-                stage: Stage::Trying(s),
-            },
-        ),
+        AttemptNext::Going(s) => trying(left, s),
+        AttemptNext::Read(_, s) => trying(left, s),
         AttemptNext::End(g) => after_try(port, r, how, left, g),
     }
 }

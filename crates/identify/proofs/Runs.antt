@@ -3,7 +3,7 @@
 -- next step. Each successful acquire gets one release call, and the accesses show the attempts.
 use Prim.Native.Nat.{ℕ, _≤_, suc}
 use mathlib.Core.Path.{_≡_, ap, _∙_}
-use mathlib.Core.Bool.{true}
+use mathlib.Core.Bool.{true, false}
 use mathlib.Core.List.{List}
 use lib.ListN.{length}
 use Rattle.hardware.specs.declared.Access.{Access}
@@ -12,8 +12,8 @@ use Rattle.hardware.specs.declared.Meter.{Meter}
 use Rattle.hardware.specs.declared.Port.{Port}
 use Rattle.hardware.specs.Asked.{yes, andThen, question, openPort, fits, admitting}
 use Rattle.hardware.specs.Prog.{R, blank, tally}
-use Rattle.hardware.specs.Runs.{run, runAsked, Awaited, AwaitedIn, driven, ended, meterIn, counted, leftAfter, leftAskedAfter, Exchange, answersOf, AllKept, Asks, IfYes, Lasts}
-use Rattle.hardware.proofs.Laws.{asked-runs, StepsOn, is-true, opened-runs}
+use Rattle.hardware.specs.Runs.{run, runAsked, Awaited, AwaitedIn, driven, ended, meterIn, counted, leftAfter, leftAskedAfter, Exchange, answersOf, AllKept, Asks, IfYes, Lasts, Heard}
+use Rattle.hardware.proofs.Laws.{asked-runs, StepsOn, is-true, opened-runs, samples-heard}
 use Rattle.hardware.proofs.Longest.{Falls, lasting-falls, Accepts, steps-few}
 use Rattle.hardware.proofs.Ends.{run-ends, ask-ends, ends-tally}
 use Rattle.bus.specs.Layout.{layoutOf}
@@ -22,7 +22,7 @@ use Rattle.i2c.specs.Paired.{Paired}
 use Rattle.i2c.specs.Shown.{Shown}
 use Rattle.i2c.proofs.Shows.{shows-shown}
 use Rattle.i2c.proofs.Shown.{Showing}
-use Rattle.i2c.proofs.Pairs.{pairs-paired}
+use Rattle.i2c.proofs.Pairs.{pairs-paired, pairs-samples}
 use Rattle.sfp.specs.declared.Identity.{Identity}
 use Rattle.sfp.specs.Identify.{identify}
 use Rattle.sfp.specs.Qsfp.{identifyQsfp}
@@ -89,6 +89,13 @@ identify-paired q port l = pairs-paired _ l (identify-holds q port Keeping (pair
 
 pub qsfp-paired : (q : Sequence) (port : Port) (l : List Answer) → Paired (identifyQsfp q port) l
 qsfp-paired q port l = pairs-paired _ l (qsfp-holds q port Keeping (pairs-spreads q port))
+
+-- every acknowledgement in a run is in one of ten samples, and its result tells the greatest
+pub identify-heard : (q : Sequence) (port : Port) (l : List Answer) → Heard (identify q port) l
+identify-heard q port l = samples-heard _ l (pairs-samples false _ _ l (identify-holds q port Keeping (pairs-spreads q port)))
+
+pub qsfp-heard : (q : Sequence) (port : Port) (l : List Answer) → Heard (identifyQsfp q port) l
+qsfp-heard q port l = samples-heard _ l (pairs-samples false _ _ l (qsfp-holds q port Keeping (pairs-spreads q port)))
 
 -- the accesses of a run show the attempts that it begins, for every list of answers
 pub identify-shown : (q : Sequence) (port : Port) (l : List Answer) → Shown q (layoutOf (port .family)) (identify q port) l

@@ -6,7 +6,8 @@ use mathlib.Core.Bool.{Bool, true, false}
 use Rattle.hardware.specs.declared.Answer.{Answer}
 use Rattle.hardware.specs.declared.Meter.{Meter}
 use Rattle.hardware.specs.declared.Port.{Port}
-use Rattle.hardware.specs.Asked.{Asked, yes, no, andThen, openPort, validPort, admitting}
+use Rattle.hardware.specs.Asked.{Asked, yes, no, andThen, openPort, admitting}
+use Rattle.hardware.specs.Marks.{validHeld}
 use Rattle.hardware.specs.Numbers.{refusalNumber}
 use Rattle.hardware.specs.Prog.{Prog, ret, ask, R, Counted, blank, tally, pick}
 use Rattle.transfer.specs.declared.attempt.Sequence.{Sequence}
@@ -29,7 +30,7 @@ unfoldable pub openQsfp : Sequence → ℕ → ℕ → ℕ → Asked (Prog (Coun
 openQsfp q family device lan = andThen (openPort family device lan) (λ port. yes (tally blank (identifyQsfp q port)))
 
 unfoldable pub validCall : Port → Meter → Identify → Bool
-validCall port m s = pick (validPort port) (validIdentify port m s) false
+validCall port m s = pick (validHeld port m) (validIdentify port m s) false
 
 -- a step: 10, 11, 12
 unfoldable pub stepIdentify : IdentifyCall → Answer → Asked (Prog (Counted (R Identity)))

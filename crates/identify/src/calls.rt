@@ -18,7 +18,7 @@ ghost use mathlib.Core.Bool.{true};
 ghost use Rattle.hardware.specs.Asked.{yes, validPort};
 ghost use Rattle.hardware.specs.Promise.{Keeps};
 ghost use Rattle.hardware.specs.Prog.{blank, tally};
-ghost use Rattle.hardware.specs.Marks.{FULL};
+ghost use Rattle.hardware.specs.Marks.{FULL, validHeld};
 ghost use Rattle.i2c.specs.I2c.{standard};
 ghost use Rattle.identify.specs.Place.{triesAt, capAt, validPlace, placed};
 ghost use Rattle.identify.specs.Walk.{identifyNext, validIdentifyNext};
@@ -38,7 +38,7 @@ pub enum IdentifyTold {
 }
 
 fn told(port: Port, q: Sequence, m: Meter, n: IdentifyNext) -> IdentifyTold
-    ensures { λ t. ⌜ Keeps (m .transfers < FULL → saidIdentify t ≡ yes (tally m (identifyNext q port n))) (validPort port ≡ true → validIdentifyNext port m n ≡ true → standsIdentify t) ⌝ }
+    ensures { λ t. ⌜ Keeps (m .transfers < FULL → saidIdentify t ≡ yes (tally m (identifyNext q port n))) (validHeld port m ≡ true → validIdentifyNext port m n ≡ true → standsIdentify t) ⌝ }
 {
     match n {
         IdentifyNext::Going(k, s) => IdentifyTold::Ask(
@@ -96,7 +96,7 @@ pub fn identify_qsfp_open(family: u32, device: u16, lan: u32) -> IdentifyTold
 fn valid(port: Port, m: Meter, t: Identify) -> bool
     ensures { λ b. ⌜ b ≡ validCall port m t ⌝ }
 {
-    if hardware::valid_port(port) {
+    if hardware::valid_held(port, m) {
         return crate::walk::valid(port, m, t);
     }
     false

@@ -14,8 +14,8 @@ use Rattle.hardware.specs.declared.Port.{Port}
 use Rattle.hardware.specs.Asked.{Asked, no, yes, andThen, question, openPort, fits, admitting}
 use Rattle.hardware.specs.Prog.{Prog, R, blank, tally}
 use Rattle.hardware.specs.Promise.{Keeps}
-use Rattle.hardware.specs.Runs.{run, runAsked, Awaited, AwaitedIn, driven, ended, meterIn, counted, leftAfter, leftAskedAfter, Exchange, answersOf, AllKept, Asks, IfYes, Lasts}
-use Rattle.hardware.proofs.Laws.{run-tally, StepsOn, is-true, opened-runs}
+use Rattle.hardware.specs.Runs.{run, runAsked, Awaited, AwaitedIn, driven, ended, meterIn, counted, leftAfter, leftAskedAfter, Exchange, answersOf, AllKept, Asks, IfYes, Lasts, Heard}
+use Rattle.hardware.proofs.Laws.{run-tally, StepsOn, is-true, opened-runs, samples-heard}
 use Rattle.hardware.proofs.Ends.{run-ends, ask-ends, ends-tally}
 use Rattle.hardware.proofs.Longest.{Falls, lasting-falls, Accepts, steps-few}
 use Rattle.bus.specs.Layout.{layoutOf}
@@ -23,7 +23,7 @@ use Rattle.transfer.specs.declared.attempt.Sequence.{Sequence}
 use Rattle.i2c.specs.I2c.{locked}
 use Rattle.i2c.specs.Paired.{Paired}
 use Rattle.i2c.specs.Shown.{Shown}
-use Rattle.i2c.proofs.Pairs.{pairs-paired, pairs-ret, pairs-then}
+use Rattle.i2c.proofs.Pairs.{pairs-paired, pairs-ret, pairs-then, pairs-samples}
 use Rattle.i2c.proofs.Paired.{transferred-pairs}
 use Rattle.i2c.proofs.Shown.{Showing, shows-ret, shows-then}
 use Rattle.i2c.proofs.Shows.{shows-shown}
@@ -92,11 +92,18 @@ light-lasts x port q tries m s ks h k =
     steps-few saidLight followsLight standsLight light-on (Ask x (Going port q tries m s)) ks (suc (lightAfter (port .family) tries s)) h k
     (ask-ends x _ (lightAfter (port .family) tries s) (λ a. ends-tally m _ _ (light-rest-ends q port tries s a)))
 
+light-pairs : (q : Sequence) (port : Port) (tries : ℕ) → Keeping (light q port tries)
+light-pairs q port tries =
+    light-holds Keeping (λ v. pairs-ret false v) q port tries
+    (λ left k e. pairs-then false _ k _ (transferred-pairs port (requestAt left) (locked q) tries) e)
+
 -- each successful acquire gets one release call before the next acquire or the end, for every list of answers
 pub light-paired : (q : Sequence) (port : Port) (tries : ℕ) (l : List Answer) → Paired (light q port tries) l
-light-paired q port tries l =
-    pairs-paired _ l (light-holds Keeping (λ v. pairs-ret false v) q port tries
-    (λ left k e. pairs-then false _ k _ (transferred-pairs port (requestAt left) (locked q) tries) e))
+light-paired q port tries l = pairs-paired _ l (light-pairs q port tries)
+
+-- every acknowledgement in a run is in one of ten samples, and its result tells the greatest
+pub light-heard : (q : Sequence) (port : Port) (tries : ℕ) (l : List Answer) → Heard (light q port tries) l
+light-heard q port tries l = samples-heard _ l (pairs-samples false _ _ l (light-pairs q port tries))
 
 -- the accesses of a run show the attempts that it begins, for every list of answers
 pub light-shown : (q : Sequence) (port : Port) (tries : ℕ) (l : List Answer) → Shown q (layoutOf (port .family)) (light q port tries) l

@@ -7,7 +7,8 @@ use lib.Dec.{leb}
 use Rattle.hardware.specs.declared.Answer.{Answer}
 use Rattle.hardware.specs.declared.Meter.{Meter}
 use Rattle.hardware.specs.declared.Port.{Port}
-use Rattle.hardware.specs.Asked.{Asked, yes, no, question, andThen, openPort, validPort, admitting}
+use Rattle.hardware.specs.Asked.{Asked, yes, no, question, andThen, openPort, admitting}
+use Rattle.hardware.specs.Marks.{validHeld}
 use Rattle.hardware.specs.Numbers.{refusalNumber}
 use Rattle.hardware.specs.Promise.{Keeps}
 use Rattle.hardware.specs.Prog.{Prog, ret, ask, R, Counted, blank, tally, pick}
@@ -32,7 +33,7 @@ unfoldable pub openLight : Sequence → ℕ → ℕ → ℕ → ℕ → Asked (P
 openLight q family device lan attempts = andThen (openPort family device lan) (openOn q attempts)
 
 unfoldable pub validCall : Port → ℕ → Meter → Light → Bool
-validCall port tries m s = pick (validPort port) (validLight port tries m s) false
+validCall port tries m s = pick (validHeld port m) (validLight port tries m s) false
 
 -- a step: 10, 11, 12
 unfoldable pub stepLight : LightCall → Answer → Asked (Prog (Counted (R Measures)))

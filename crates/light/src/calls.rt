@@ -16,7 +16,7 @@ ghost use Prim.Native.Nat.{_<_};
 ghost use mathlib.Core.Path.{_≡_};
 ghost use mathlib.Core.Bool.{true};
 ghost use Rattle.hardware.specs.Asked.{yes, validPort};
-ghost use Rattle.hardware.specs.Marks.{FULL};
+ghost use Rattle.hardware.specs.Marks.{FULL, validHeld};
 ghost use Rattle.hardware.specs.Promise.{Keeps};
 ghost use Rattle.hardware.specs.Prog.{tally};
 ghost use Rattle.i2c.specs.I2c.{standard};
@@ -37,7 +37,7 @@ pub enum LightTold {
 }
 
 fn told(port: Port, q: Sequence, tries: u8, m: Meter, n: LightNext) -> LightTold
-    ensures { λ t. ⌜ Keeps (m .transfers < FULL → saidLight t ≡ yes (tally m (lightNext q port tries n))) (validPort port ≡ true → validLightNext port tries m n ≡ true → standsLight t) ⌝ }
+    ensures { λ t. ⌜ Keeps (m .transfers < FULL → saidLight t ≡ yes (tally m (lightNext q port tries n))) (validHeld port m ≡ true → validLightNext port tries m n ≡ true → standsLight t) ⌝ }
 {
     match n {
         LightNext::Going(k, s) => LightTold::Ask(
@@ -91,7 +91,7 @@ pub fn light_open(family: u32, device: u16, lan: u32, attempts: u32) -> LightTol
 fn valid(port: Port, tries: u8, m: Meter, t: Light) -> bool
     ensures { λ b. ⌜ b ≡ validCall port tries m t ⌝ }
 {
-    if hardware::valid_port(port) {
+    if hardware::valid_held(port, m) {
         return crate::walk::valid(port, tries, m, t);
     }
     false

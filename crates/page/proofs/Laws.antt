@@ -14,9 +14,9 @@ use Rattle.hardware.specs.declared.Port.{Port}
 use Rattle.hardware.specs.declared.Access.{Access}
 use Rattle.hardware.specs.declared.Answer.{Answer}
 use Rattle.hardware.specs.declared.Marks.{Marks}
-use Rattle.hardware.specs.Marks.{FULL, marked}
+use Rattle.hardware.specs.Marks.{FULL, acknowledged, marked}
 use Rattle.hardware.specs.Asked.{Asked, yes}
-use Rattle.hardware.specs.Prog.{Note, Attempt, isTold, noteIf, stays, Prog, ret, ask, note, give, erase, followed, R, Ok, Err, pick, _>>=_}
+use Rattle.hardware.specs.Prog.{Note, Attempt, isTold, noteIf, Prog, ret, ask, note, give, erase, followed, R, Ok, Err, pick, _>>=_}
 use Rattle.hardware.proofs.Prog.{bind-ret, going-on, over}
 use Rattle.bus.specs.declared.Taken.{Taken}
 use Rattle.bus.proofs.Laws.{picked-second}
@@ -104,39 +104,29 @@ unfolding sumRight
 sum-wrong l from at s e h = ne-eqb _ _ (λ g. h (e ∙ g))
 
 -- notes store nothing, and neither does what is only asked for
-stored-stays : (place : ℕ) (buffer : List ℕ) (n : Note) (p : Prog (R Taken)) → stored place buffer (stays n p) ≡ stored place buffer p
+stored-noted : (place : ℕ) (buffer : List ℕ) (b : Bool) (n : Note) (p : Prog (R Taken)) → stored place buffer (noteIf b n p) ≡ stored place buffer p
 unfolding stored
-stored-stays place buffer n p = by (isTold n)
-  where
-    by : (b : Bool) → stored place buffer (noteIf b n p) ≡ stored place buffer p
-    by true = refl
-    by false = refl
+stored-noted place buffer true n p = refl
+stored-noted place buffer false n p = refl
 
 pub stored-erase : (place : ℕ) (buffer : List ℕ) (p : Prog (R Taken)) → stored place buffer (erase p) ≡ stored place buffer p
 unfolding stored erase
 stored-erase place buffer (ret (Ok t)) = refl
 stored-erase place buffer (ret (Err e)) = refl
 stored-erase place buffer (ask x f) = refl
-stored-erase place buffer (note n p) = stored-stays place buffer n (erase p) ∙ stored-erase place buffer p
+stored-erase place buffer (note n p) = stored-noted place buffer (isTold n) n (erase p) ∙ stored-erase place buffer p
 stored-erase place buffer (give b p) = stored-erase place buffer p
 
 pub stored-asks : (place : ℕ) (buffer : List ℕ) (k : Marks) (x : Access) (f : Answer → Prog (R Taken)) → stored place buffer (marked k (ask x f)) ≡ buffer
-unfolding stored marked
-stored-asks place buffer k x f = by (k .attempt)
-  where
-    by : (b : Bool) → stored place buffer (noteIf b Attempt (ask x f)) ≡ buffer
-    by true = refl
-    by false = refl
+unfolding stored marked acknowledged
+stored-asks place buffer k x f = stored-noted place buffer (k .attempt) Attempt _ ∙ stored-noted place buffer (ltb (k .left) 10) _ (ask x f)
 
 -- nor do they over further answers
 module _ (place : ℕ) (next : List ℕ → List Answer → List ℕ) (buffer : List ℕ) where
-  filling-stays : (n : Note) (p : Prog (R ℕ)) (l : List Answer) → filling place next buffer (stays n p) l ≡ filling place next buffer p l
+  filling-noted : (b : Bool) (n : Note) (p : Prog (R ℕ)) (l : List Answer) → filling place next buffer (noteIf b n p) l ≡ filling place next buffer p l
   unfolding filling
-  filling-stays n p l = by (isTold n)
-    where
-      by : (b : Bool) → filling place next buffer (noteIf b n p) l ≡ filling place next buffer p l
-      by true = refl
-      by false = refl
+  filling-noted true n p l = refl
+  filling-noted false n p l = refl
 
   filling-erase : (p : Prog (R ℕ)) (l : List Answer) → filling place next buffer (erase p) l ≡ filling place next buffer p l
   unfolding filling erase
@@ -144,17 +134,13 @@ module _ (place : ℕ) (next : List ℕ → List Answer → List ℕ) (buffer : 
   filling-erase (ret (Err e)) l = refl
   filling-erase (ask x f) [] = refl
   filling-erase (ask x f) (a ∷ l) = filling-erase (f a) l
-  filling-erase (note n p) l = filling-stays n (erase p) l ∙ filling-erase p l
+  filling-erase (note n p) l = filling-noted (isTold n) n (erase p) l ∙ filling-erase p l
   filling-erase (give b p) l = filling-erase p l
 
   filling-asks : (k : Marks) (x : Access) (f : Answer → Prog (R ℕ)) (l : List Answer)
       → filling place next buffer (marked k (ask x (λ a. erase (f a)))) l ≡ filling place next buffer (ask x f) l
-  unfolding filling erase marked
-  filling-asks k x f l = by (k .attempt)
-    where
-      by : (b : Bool) → filling place next buffer (noteIf b Attempt (ask x (λ a. erase (f a)))) l ≡ filling place next buffer (ask x f) l
-      by true = filling-erase (ask x f) l
-      by false = filling-erase (ask x f) l
+  unfolding filling erase marked acknowledged
+  filling-asks k x f l = filling-noted (k .attempt) Attempt _ l ∙ filling-noted (ltb (k .left) 10) _ _ l ∙ filling-erase (ask x f) l
 
   -- a request that an answer has taken to p
   pub filling-on : (port : Port) (q : Sequence) (form : Form) (left : ℕ) (s : Handshake) (a : Answer) (p : Prog (R Taken)) (l : List Answer)

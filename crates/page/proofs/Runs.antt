@@ -18,8 +18,8 @@ use Rattle.hardware.specs.Asked.{Asked, no, yes, andThen, question, openPort, f
 use Rattle.hardware.specs.Lent.{goes, lent, asked}
 use Rattle.hardware.specs.Prog.{Prog, ret, ask, note, give, R, Ok, Err, Counted, blank, tally}
 use Rattle.hardware.specs.Promise.{Keeps}
-use Rattle.hardware.specs.Runs.{run, runAsked, Awaited, AwaitedIn, driven, ended, meterIn, counted, leftAfter, leftAskedAfter, Exchange, answersOf, AllKept, lastTold, Refuses, Asks, IfYes, Lasts, Unrefused}
-use Rattle.hardware.proofs.Laws.{run-tally, StepsOn, is-true, opened-runs, refused-runs}
+use Rattle.hardware.specs.Runs.{run, runAsked, Awaited, AwaitedIn, driven, ended, meterIn, counted, leftAfter, leftAskedAfter, Exchange, answersOf, AllKept, lastTold, Refuses, Asks, IfYes, Lasts, Unrefused, Heard}
+use Rattle.hardware.proofs.Laws.{run-tally, StepsOn, is-true, opened-runs, refused-runs, samples-heard}
 use Rattle.hardware.specs.Longest.{overAnswers, longest, lasting}
 use Rattle.hardware.proofs.Ends.{run-ends, ask-ends, ends-tally}
 use Rattle.hardware.proofs.Longest.{Falls, lasting-falls, number-few, longest-few, longest-tally, longest-same}
@@ -29,7 +29,7 @@ use Rattle.transfer.specs.declared.attempt.Sequence.{Sequence}
 use Rattle.i2c.specs.Handshake.{valued, restRequest}
 use Rattle.i2c.specs.Paired.{Paired}
 use Rattle.i2c.specs.Shown.{Shown}
-use Rattle.i2c.proofs.Pairs.{pairs-paired}
+use Rattle.i2c.proofs.Pairs.{pairs-paired, pairs-samples}
 use Rattle.i2c.proofs.Shown.{Showing}
 use Rattle.i2c.proofs.Shows.{shows-shown}
 use Rattle.sfp.proofs.Spreads.{Keeping, pairs-spreads, shows-spreads}
@@ -172,6 +172,10 @@ module _ (q : Sequence) (family device lan attempts : ℕ) (buffer : List ℕ) (
 -- each successful acquire gets one release call before the next acquire or the end, for every list of answers
 pub page-paired : (q : Sequence) (port : Port) (form : Form) (tries : ℕ) (buffer : List ℕ) (l : List Answer) → Paired (page q port form tries buffer) l
 page-paired q port form tries buffer l = pairs-paired _ l (page-holds q port form tries Keeping (pairs-spreads q port) buffer)
+
+-- every acknowledgement in a run is in one of ten samples, and its result tells the greatest
+pub page-heard : (q : Sequence) (port : Port) (form : Form) (tries : ℕ) (buffer : List ℕ) (l : List Answer) → Heard (page q port form tries buffer) l
+page-heard q port form tries buffer l = samples-heard _ l (pairs-samples false _ _ l (page-holds q port form tries Keeping (pairs-spreads q port) buffer))
 
 -- the accesses of a run show the attempts that it begins, for every list of answers
 pub page-shown : (q : Sequence) (port : Port) (form : Form) (tries : ℕ) (buffer : List ℕ) (l : List Answer) → Shown q (layoutOf (port .family)) (page q port form tries buffer) l

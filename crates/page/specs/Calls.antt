@@ -9,7 +9,8 @@ use lib.ListN.{length}
 use Rattle.hardware.specs.declared.Answer.{Answer}
 use Rattle.hardware.specs.declared.Meter.{Meter}
 use Rattle.hardware.specs.declared.Port.{Port}
-use Rattle.hardware.specs.Asked.{Asked, no, yes, question, andThen, openPort, validPort, admitting}
+use Rattle.hardware.specs.Asked.{Asked, no, yes, question, andThen, openPort, admitting}
+use Rattle.hardware.specs.Marks.{validHeld}
 use Rattle.hardware.specs.Lent.{Lent, refused, goes, lent, asked}
 use Rattle.hardware.specs.Numbers.{refusalNumber}
 use Rattle.hardware.specs.Prog.{Prog, ret, ask, Counted, blank, tally, pick}
@@ -41,7 +42,7 @@ unfoldable pub openQsfpPage : Sequence → ℕ → ℕ → ℕ → ℕ → List 
 openQsfpPage q family device lan attempts buffer = lent buffer (andThen (openPort family device lan) (openForm q Sff8636 attempts buffer))
 
 unfoldable pub validCall : Port → Form → ℕ → Meter → Page → Bool
-validCall port form tries m s = pick (validPort port) (validPage port form tries m s) false
+validCall port form tries m s = pick (validHeld port m) (validPage port form tries m s) false
 
 -- a step: 9, then 10, 11, 12. The finished state is well formed
 unfoldable pub steppedPage : PageCall → List ℕ → Answer → Asked (Prog (Counted Filled))

@@ -19,7 +19,7 @@ ghost use mathlib.Core.List.{List, _∷_};
 ghost use lib.ListN.{length};
 ghost use Rattle.hardware.specs.Asked.{yes, openPort, validPort};
 ghost use Rattle.hardware.specs.Lent.{lent, goes};
-ghost use Rattle.hardware.specs.Marks.{FULL};
+ghost use Rattle.hardware.specs.Marks.{FULL, validHeld};
 ghost use Rattle.hardware.specs.Promise.{Stores};
 ghost use Rattle.hardware.specs.Prog.{tally};
 ghost use Rattle.page.specs.Walk.{Fills, pageNext, filledFrom, filledNext, validPageNext};
@@ -40,7 +40,7 @@ pub enum PageTold {
 }
 
 fn told(port: Port, q: Sequence, form: Form, tries: u8, m: Meter, n: PageNext) -> PageTold
-    ensures { λ t. ⌜ Stores ((l : List ℕ) → m .transfers < FULL → saidPage t l ≡ goes (tally m (pageNext q port form tries n l))) (validPort port ≡ true → validPageNext port form tries m n ≡ true → standsPage t) ((b : List ℕ) → FilledAs t b (filledNext q port form tries n b)) ⌝ }
+    ensures { λ t. ⌜ Stores ((l : List ℕ) → m .transfers < FULL → saidPage t l ≡ goes (tally m (pageNext q port form tries n l))) (validHeld port m ≡ true → validPageNext port form tries m n ≡ true → standsPage t) ((b : List ℕ) → FilledAs t b (filledNext q port form tries n b)) ⌝ }
 {
     match n {
         PageNext::Going(k, s) => PageTold::Ask(
@@ -122,7 +122,7 @@ pub fn qsfp_page_open(family: u32, device: u16, lan: u32, attempts: u32, buffer:
 fn valid(port: Port, form: Form, tries: u8, m: Meter, t: Page) -> bool
     ensures { λ b. ⌜ b ≡ validCall port form tries m t ⌝ }
 {
-    if hardware::valid_port(port) {
+    if hardware::valid_held(port, m) {
         return crate::walk::valid(port, form, tries, m, t);
     }
     false

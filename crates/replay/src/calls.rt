@@ -7,6 +7,7 @@ use acquire::calls::ReleaseTold;
 use hardware::Byte;
 use hardware::Error;
 use hardware::Flag;
+use hardware::Meter;
 use hardware::Outcome;
 use hostif::calls::CommandTold;
 use hostif::calls::TokenTold;
@@ -35,6 +36,11 @@ pub(crate) fn same(a: Summary, b: Summary) -> bool {
         && a.v1 == b.v1
         && a.v2 == b.v2
         && a.v3 == b.v3
+}
+
+// The transfers made, and 65,536 for each number of the slowest acknowledgement's sample.
+pub(crate) fn metered(m: Meter) -> u32 {
+    std::num::wrapping_add_u32(m.transfers, m.slowest as u32 * 65_536)
 }
 
 pub(crate) fn unended(h: Host) -> Summary {

@@ -1,9 +1,10 @@
-// The call of light and temperature, run to its end. The transfers made go with every result.
+// The call of light and temperature, run to its end. The meter goes with every result.
 use crate::calls;
 use crate::calls::Summary;
 use crate::host;
 use crate::host::Host;
 use crate::rng;
+use hardware::Meter;
 use light::calls::LightTold;
 use light::power::Reading;
 use light::sensed::Measured;
@@ -58,9 +59,9 @@ fn ended(h: Host, r: Measured) -> Summary {
     }
 }
 
-fn counted(h: Host, r: Measured, made: u32) -> Summary {
+fn counted(h: Host, r: Measured, meter: Meter) -> Summary {
     let mut summary = ended(h, r);
-    summary.v3 = made;
+    summary.v3 = calls::metered(meter);
     summary
 }
 
@@ -76,7 +77,7 @@ fn run(h: Host, first: LightTold) -> Summary {
                 host = p.host;
                 told = light::calls::light_step(s, a);
             }
-            LightTold::End(r, m) => return counted(host, r, m.transfers),
+            LightTold::End(r, m) => return counted(host, r, m),
             LightTold::Refused(_) => return calls::unended(host),
         }
         left -= 1;

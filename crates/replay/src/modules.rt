@@ -4,6 +4,7 @@ use crate::calls::Summary;
 use crate::host;
 use crate::host::Host;
 use hardware::Flag;
+use hardware::Meter;
 use identify::calls::IdentifyTold;
 use identify::walk::Identified;
 use sfp::Identity;
@@ -26,13 +27,13 @@ fn bytes(m: Identity) -> u32 {
     low | m.comp1g as u32 * 65536 | m.cable as u32 * 16777216
 }
 
-// The transfers made go with every result.
-fn ended(h: Host, i: Identified, made: u32) -> Summary {
+// The meter goes with every result.
+fn ended(h: Host, i: Identified, meter: Meter) -> Summary {
     match i {
-        Identified::Ok(m) => calls::good(h, class(m), bytes(m), made),
+        Identified::Ok(m) => calls::good(h, class(m), bytes(m), calls::metered(meter)),
         Identified::Err(e) => {
             let mut summary = calls::failed(h, e);
-            summary.v3 = made;
+            summary.v3 = calls::metered(meter);
             summary
         }
     }
@@ -50,7 +51,7 @@ fn run(h: Host, first: IdentifyTold) -> Summary {
                 host = p.host;
                 told = identify::calls::identify_step(s, a);
             }
-            IdentifyTold::End(i, m) => return ended(host, i, m.transfers),
+            IdentifyTold::End(i, m) => return ended(host, i, m),
             IdentifyTold::Refused(_) => return calls::unended(host),
         }
         left -= 1;
@@ -58,9 +59,9 @@ fn run(h: Host, first: IdentifyTold) -> Summary {
     calls::unended(host)
 }
 
-fn selected(h: Host, f: Flag, made: u32) -> Summary {
+fn selected(h: Host, f: Flag, meter: Meter) -> Summary {
     let mut summary = calls::of_flag(h, f);
-    summary.v3 = made;
+    summary.v3 = calls::metered(meter);
     summary
 }
 
@@ -76,7 +77,7 @@ fn select(h: Host, first: RateTold) -> Summary {
                 host = p.host;
                 told = softrate::calls::soft_rate_select_step(s, a);
             }
-            RateTold::End(f, m) => return selected(host, f, m.transfers),
+            RateTold::End(f, m) => return selected(host, f, m),
             RateTold::Refused(_) => return calls::unended(host),
         }
         left -= 1;

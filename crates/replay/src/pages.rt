@@ -1,9 +1,10 @@
-// The calls of a page, each run to its end. The sum over its buffer and the transfers made go with every result.
+// The calls of a page, each run to its end. The sum over its buffer and the meter go with every result.
 use crate::calls;
 use crate::calls::Summary;
 use crate::host;
 use crate::host::Host;
 use crate::rng;
+use hardware::Meter;
 use page::calls::PageTold;
 use page::sums::Paged;
 use transfer::attempt::Sequence;
@@ -40,9 +41,9 @@ fn ended(h: Host, p: Paged) -> Summary {
     }
 }
 
-fn counted(h: Host, p: Paged, made: u32) -> Summary {
+fn counted(h: Host, p: Paged, meter: Meter) -> Summary {
     let mut summary = ended(h, p);
-    summary.v3 = made;
+    summary.v3 = calls::metered(meter);
     summary
 }
 
@@ -58,7 +59,7 @@ fn run(h: Host, first: PageTold, buffer: &mut [u8]) -> Summary {
                 host = p.host;
                 told = page::calls::page_step(s, buffer, a);
             }
-            PageTold::End(p, m) => return counted(host, p, m.transfers),
+            PageTold::End(p, m) => return counted(host, p, m),
             PageTold::Refused(_) => return calls::unended(host),
         }
         left -= 1;

@@ -5,6 +5,7 @@ use crate::host;
 use crate::host::Host;
 use crate::phrases;
 use crate::rng;
+use hardware::Meter;
 use hardware::Outcome;
 use transfer::calls::ScriptTold;
 
@@ -28,11 +29,11 @@ fn fed(h: Heard, b: u8) -> Heard {
     }
 }
 
-// The bytes and the transfers made go with every result.
-fn ended(h: Host, o: Outcome, bytes: Heard, made: u32) -> Summary {
+// The bytes and the meter go with every result.
+fn ended(h: Host, o: Outcome, bytes: Heard, meter: Meter) -> Summary {
     let mut summary = calls::of_outcome(h, o);
     summary.v2 = bytes.sum;
-    summary.v3 = std::num::wrapping_add_u32(bytes.count, made);
+    summary.v3 = std::num::wrapping_add_u32(bytes.count, calls::metered(meter));
     summary
 }
 
@@ -56,7 +57,7 @@ fn run(h: Host, family: u32, device: u16, lan: u32, script: &[u8]) -> Summary {
                 host = p.host;
                 told = transfer::calls::script_step(s, script, a);
             }
-            ScriptTold::End(o, m) => return ended(host, o, bytes, m.transfers),
+            ScriptTold::End(o, m) => return ended(host, o, bytes, m),
             ScriptTold::Refused(_) => return calls::unended(host),
         }
         left -= 1;

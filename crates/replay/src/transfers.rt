@@ -3,6 +3,7 @@ use crate::calls;
 use crate::calls::Summary;
 use crate::host;
 use crate::host::Host;
+use hardware::Meter;
 use hardware::Word;
 use i2c::calls::SetupTold;
 use i2c::calls::TransferTold;
@@ -21,13 +22,13 @@ pub struct Asked {
     pub standard: bool,
 }
 
-// The transfers made go with every result.
-fn of_word(h: Host, w: Word, made: u32) -> Summary {
+// The meter goes with every result.
+fn of_word(h: Host, w: Word, meter: Meter) -> Summary {
     match w {
-        Word::Ok(v) => calls::good(h, v, 0, made),
+        Word::Ok(v) => calls::good(h, v, 0, calls::metered(meter)),
         Word::Err(e) => {
             let mut summary = calls::failed(h, e);
-            summary.v3 = made;
+            summary.v3 = calls::metered(meter);
             summary
         }
     }
@@ -45,7 +46,7 @@ fn run(h: Host, first: TransferTold) -> Summary {
                 host = p.host;
                 told = i2c::calls::transfer_step(s, a);
             }
-            TransferTold::End(w, m) => return of_word(host, w, m.transfers),
+            TransferTold::End(w, m) => return of_word(host, w, m),
             TransferTold::Refused(_) => return calls::unended(host),
         }
         left -= 1;

@@ -5,6 +5,7 @@ use bench::Bench;
 use bench::Page;
 use bench::receiver::Receiver;
 use bench::register::BenchState;
+use hardware::Meter;
 use hardware::Port;
 use identify::walk::Identified;
 use onbench::Ending;
@@ -171,6 +172,17 @@ fn identified(p: Port, i: Identified) {
     }
 }
 
+fn slowest(m: Meter) {
+    print::text(b"slowest acknowledgement: ");
+    if m.slowest == 0 {
+        print::text(b"none\n");
+    } else {
+        print::text(b"sample ");
+        print::decimal(m.slowest as u64);
+        print::text(b" of 10\n");
+    }
+}
+
 // Only the first is met: every lock and grant comes, and the port was opened before.
 fn ending(p: Port, h: Ending) {
     match h {
@@ -179,6 +191,7 @@ fn ending(p: Port, h: Ending) {
             print::text(b"transfers   ");
             print::decimal(m.transfers as u64);
             print::text(b"\n");
+            slowest(m);
         }
         Ending::Short => print::text(b"the call did not end\n"),
         Ending::Stopped(_) => print::text(b"the call was refused\n"),

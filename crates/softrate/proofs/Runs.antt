@@ -12,8 +12,8 @@ use Rattle.hardware.specs.declared.Meter.{Meter}
 use Rattle.hardware.specs.declared.Port.{Port}
 use Rattle.hardware.specs.Asked.{yes, andThen, question, openPort, fits, admitting}
 use Rattle.hardware.specs.Prog.{Prog, R, Ok, Err, blank, tally}
-use Rattle.hardware.specs.Runs.{run, runAsked, Awaited, AwaitedIn, driven, ended, meterIn, counted, leftAfter, leftAskedAfter, Exchange, answersOf, AllKept, Asks, IfYes, Ends, Lasts}
-use Rattle.hardware.proofs.Laws.{asked-runs, StepsOn, is-true, opened-runs}
+use Rattle.hardware.specs.Runs.{run, runAsked, Awaited, AwaitedIn, driven, ended, meterIn, counted, leftAfter, leftAskedAfter, Exchange, answersOf, AllKept, Asks, IfYes, Ends, Lasts, Heard}
+use Rattle.hardware.proofs.Laws.{asked-runs, StepsOn, is-true, opened-runs, samples-heard}
 use Rattle.hardware.proofs.Longest.{Falls, lasting-falls, Accepts, steps-few}
 use Rattle.hardware.proofs.Ends.{run-ends, ask-ends, ends-tally, ends-more, ends-bind, ret-ends}
 use Rattle.i2c.specs.declared.once.Request.the-variants.{ReadByte, WriteByte}
@@ -24,7 +24,7 @@ use Rattle.i2c.specs.Paired.{Paired}
 use Rattle.i2c.specs.Shown.{Shown}
 use Rattle.i2c.proofs.Shows.{shows-either, shows-shown}
 use Rattle.i2c.proofs.Shown.{Showing, shows-ret, shows-then}
-use Rattle.i2c.proofs.Pairs.{Pairs, pairs-then, pairs-pick, pairs-ret, pairs-paired}
+use Rattle.i2c.proofs.Pairs.{Pairs, pairs-then, pairs-pick, pairs-ret, pairs-paired, pairs-samples}
 use Rattle.i2c.proofs.Paired.{transferred-pairs}
 use Rattle.sfp.specs.Rate.{DIAG, orNot, selected, rateByte, softRateSelect}
 use Rattle.sfp.proofs.Ends.{RATE-STEPS, rate-ends, BYTE-STEPS, WRITTEN-STEPS, not-ends, rate-byte-ends}
@@ -87,11 +87,17 @@ rate-byte-pairs q port ten ok offset k e =
     pairs-then false _ _ _ (transferred-pairs port (ReadByte DIAG offset) (locked q) (attempts port)) (not-pairs k _ e (λ v.
     pairs-then false _ _ _ (transferred-pairs port (WriteByte DIAG offset (selected ten v)) (locked q) 2) (not-pairs k _ e (λ _. e ok))))
 
+rate-pairs : (q : Sequence) (port : Port) (ten : Bool) → Pairs false (softRateSelect q port ten) (λ _. false)
+unfolding softRateSelect
+rate-pairs q port ten = rate-byte-pairs q port ten true 0x6e _ (λ ok. rate-byte-pairs q port ten ok 0x76 _ (λ both. pairs-ret false _))
+
 -- each successful acquire gets one release call before the next acquire or the end, for every list of answers
 pub rate-paired : (q : Sequence) (port : Port) (ten : Bool) (l : List Answer) → Paired (softRateSelect q port ten) l
-unfolding softRateSelect
-rate-paired q port ten l =
-    pairs-paired _ l (rate-byte-pairs q port ten true 0x6e _ (λ ok. rate-byte-pairs q port ten ok 0x76 _ (λ both. pairs-ret false _)))
+rate-paired q port ten l = pairs-paired _ l (rate-pairs q port ten)
+
+-- every acknowledgement in a run is in one of ten samples, and its result tells the greatest
+pub rate-heard : (q : Sequence) (port : Port) (ten : Bool) (l : List Answer) → Heard (softRateSelect q port ten) l
+rate-heard q port ten l = samples-heard _ l (pairs-samples false _ _ l (rate-pairs q port ten))
 
 not-shows : (q : Sequence) (port : Port) (k : Bool → Prog (R Bool)) (f : ℕ → Prog (R Bool)) → ((b : Bool) → Showing q port (k b)) → ((v : ℕ) → Showing q port (f v))
     → (r : R ℕ) → Showing q port (orNot k f r)

@@ -6,7 +6,8 @@ use mathlib.Core.Bool.{Bool, true, false}
 use Rattle.hardware.specs.declared.Answer.{Answer}
 use Rattle.hardware.specs.declared.Meter.{Meter}
 use Rattle.hardware.specs.declared.Port.{Port}
-use Rattle.hardware.specs.Asked.{Asked, yes, no, andThen, openPort, validPort, admitting}
+use Rattle.hardware.specs.Asked.{Asked, yes, no, andThen, openPort, admitting}
+use Rattle.hardware.specs.Marks.{validHeld}
 use Rattle.hardware.specs.Numbers.{refusalNumber}
 use Rattle.hardware.specs.Prog.{Prog, ret, ask, R, Counted, blank, tally, pick}
 use Rattle.hardware.specs.Registers.{flag}
@@ -25,7 +26,7 @@ unfoldable pub openRate : Sequence → ℕ → ℕ → ℕ → Bool → Asked (P
 openRate q family device lan ten = andThen (openPort family device lan) (λ port. yes (tally blank (softRateSelect q port ten)))
 
 unfoldable pub validCall : Port → Bool → Meter → Rate → Bool
-validCall port ten m s = pick (validPort port) (validRate port ten m s) false
+validCall port ten m s = pick (validHeld port m) (validRate port ten m s) false
 
 -- a step: 10, 11, 12
 unfoldable pub stepRate : RateCall → Answer → Asked (Prog (Counted (R Bool)))

@@ -19,7 +19,7 @@ ghost use mathlib.Core.Bool.{true};
 ghost use Rattle.hardware.specs.Asked.{yes, validPort};
 ghost use Rattle.hardware.specs.Promise.{Keeps};
 ghost use Rattle.hardware.specs.Prog.{blank, tally};
-ghost use Rattle.hardware.specs.Marks.{FULL};
+ghost use Rattle.hardware.specs.Marks.{FULL, validHeld};
 ghost use Rattle.i2c.specs.I2c.{standard};
 ghost use Rattle.sfp.specs.Rate.{softRateSelect};
 ghost use Rattle.softrate.specs.Walk.{rateNext, validRateNext};
@@ -39,7 +39,7 @@ pub enum RateTold {
 }
 
 fn told(port: Port, q: Sequence, ten: bool, m: Meter, n: RateNext) -> RateTold
-    ensures { λ t. ⌜ Keeps (m .transfers < FULL → saidRate t ≡ yes (tally m (rateNext q port ten n))) (validPort port ≡ true → validRateNext port ten m n ≡ true → standsRate t) ⌝ }
+    ensures { λ t. ⌜ Keeps (m .transfers < FULL → saidRate t ≡ yes (tally m (rateNext q port ten n))) (validHeld port m ≡ true → validRateNext port ten m n ≡ true → standsRate t) ⌝ }
 {
     match n {
         RateNext::Going(k, s) => RateTold::Ask(
@@ -88,7 +88,7 @@ pub fn soft_rate_select_open(family: u32, device: u16, lan: u32, ten: bool) -> R
 fn valid(port: Port, ten: bool, m: Meter, t: Rate) -> bool
     ensures { λ b. ⌜ b ≡ validCall port ten m t ⌝ }
 {
-    if hardware::valid_port(port) {
+    if hardware::valid_held(port, m) {
         return crate::walk::valid(port, ten, m, t);
     }
     false

@@ -141,7 +141,7 @@ WellHeld h = Well (h .out)
 
 well-spreads : (n : ℕ) → Spreads (λ p. Gives WellHeld p n)
 unfolding Gives Well
-well-spreads n = record { asked = λ x f g. g; failed = λ e ctl good. absurd good }
+well-spreads n = record { asked = λ x f g. g; failed = λ e ctl good. absurd good; noted = λ sample p h g. g }
 
 command-counts : (c : Command) (b : ℕ) (k : Bus) (n ctl : ℕ) → Gives WellHeld (k ctl) n → Gives WellHeld (gives c b k ctl) (pick (isRead c) (suc n) n)
 unfolding gives pick Gives
@@ -165,10 +165,10 @@ Giveless p = (n : ℕ) → Gives (λ h. ⊥) p n
 clearing-counts : (q : Sequence) (l : Layout) → Throughout Giveless (clearing q l)
 unfolding clearing Gives
 clearing-counts Pulses l =
-    clear-holds Giveless (record { asked = λ x f g n a. g a n; failed = λ e ctl n. absurd }) (λ t ctl n. absurd)
+    clear-holds Giveless (record { asked = λ x f g n a. g a n; failed = λ e ctl n. absurd; noted = λ sample p h g. g }) (λ t ctl n. absurd)
     (λ p k g d n. gives-bind (λ h. ⊥) (λ h. ⊥) p k n (g n) (λ h m z. d h m)) l
 clearing-counts Rounds l =
-    clear-rounds-holds Giveless (record { asked = λ x f g n a. g a n; failed = λ e ctl n. absurd }) (λ t ctl n. absurd)
+    clear-rounds-holds Giveless (record { asked = λ x f g n a. g a n; failed = λ e ctl n. absurd; noted = λ sample p h g. g }) (λ t ctl n. absurd)
     (λ p k g d n. gives-bind (λ h. ⊥) (λ h. ⊥) p k n (g n) (λ h m z. d h m)) l
 
 cleared-counts : (device : ℕ) (r : R Taken) (n : ℕ) → Gives Well (orCleared device r) n

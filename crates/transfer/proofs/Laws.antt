@@ -1,9 +1,10 @@
 -- Laws of transfers and attempts that the proofs cite.
-use Prim.Native.Nat.{ℕ, _<_}
+use Prim.Native.Nat.{ℕ, _-_, _<_}
 use mathlib.Core.Path.{_≡_, refl, ap, _∙_, sym}
 use mathlib.Core.Bool.{Bool, true, false}
 use mathlib.Core.List.{List}
-use lib.Dec.{eqb}
+use lib.Dec.{eqb, ltb}
+use native.Mathlib.Omega.{arith}
 use lib.ListN.{length, drop}
 use Rattle.hardware.specs.declared.Access.{Access}
 use Rattle.hardware.specs.declared.Answer.{Answer}
@@ -15,8 +16,9 @@ use Rattle.hardware.specs.declared.Refusal.{Refusal}
 use Rattle.hardware.specs.declared.Refusal.the-variants.{Family, Lan, Device, Attempts, ScriptLength, Command as RefusedCommand, Script, Block, Buffer, State, Finished, Kind}
 use Rattle.hardware.specs.Asked.{Asked, no, question}
 use Rattle.hardware.specs.Numbers.{refusalNumber}
-use Rattle.hardware.specs.Prog.{Note, Prog, ret, ask, note, give, isTold, noteIf, stays, erase, followed, pick, blank, tally, _>>=_}
-use Rattle.hardware.proofs.Prog.{going, going-tally, over-tally}
+use Rattle.hardware.specs.Marks.{acknowledged, hears, marked, more, FULL, countOf, meterOn}
+use Rattle.hardware.specs.Prog.{Note, Acknowledged, Prog, ret, ask, note, give, isTold, noteIf, stays, erase, followed, pick, blank, tally, _>>=_}
+use Rattle.hardware.proofs.Prog.{going, heard-on, followed-heard, going-tally, over-tally, asked-on}
 use Rattle.bus.specs.declared.Layout.{Layout}
 use Rattle.bus.specs.declared.Taken.{Taken}
 use Rattle.bus.specs.declared.command.Command.{Command}
@@ -37,7 +39,7 @@ use Rattle.transfer.specs.declared.attempt.AttemptNext.{AttemptNext}
 use Rattle.transfer.specs.declared.attempt.AttemptNext.the-variants.{Going}
 use Rattle.transfer.specs.declared.transfer.TransferNext.the-variants.{End}
 use Rattle.transfer.specs.Transfer.{Mode, handing, keeping, tells, did, isRead, tookBy, handed, transfer, ranOn, transferNext}
-use Rattle.transfer.specs.Attempt.{attempting, attempt, accessAttempt, restAttempt, awaiting, attemptNext}
+use Rattle.transfer.specs.Attempt.{attempting, attempt, accessAttempt, heardAttempt, restAttempt, awaiting, attemptNext}
 use Rattle.transfer.specs.Calls.{dropped, single, script, restScript, judgedThen}
 
 pub tells-stays : {A : Type 0} (b : ℕ) (n : Note) (p : Prog A) → stays n (tells handing b p) ≡ tells handing b (stays n p)
@@ -93,10 +95,21 @@ pub after-other : (m : Mode) (l : Layout) (device : ℕ) (s : List ℕ) (at : �
 unfolding ranOn handed pick
 after-other m l device s at t b ctl h = rw (h)
 
-pub told-twice : {A : Type 0} (m : Mode) (b d : ℕ) (x : Access) (f : Answer → Prog A) → tells m b (ask x f) ≡ tells m b (tells m d (ask x f))
+-- an acknowledgement before the access that a byte goes out with
+tells-heard : {A : Type 0} (m : Mode) (b left : ℕ) (p : Prog A) → acknowledged left (tells m b p) ≡ tells m b (acknowledged left p)
+unfolding acknowledged tells
+tells-heard keeping b left p = refl
+tells-heard handing b left p = by (ltb left 10)
+  where
+    by : (k : Bool) → noteIf k (Acknowledged (10 - left)) (tells handing b p) ≡ tells handing b (noteIf k (Acknowledged (10 - left)) p)
+    by true = refl
+    by false = refl
+
+pub told-twice : {A : Type 0} (m : Mode) (b d left : ℕ) (x : Access) (f : Answer → Prog A)
+    → tells m b (acknowledged left (ask x f)) ≡ tells m b (tells m d (acknowledged left (ask x f)))
 unfolding tells
-told-twice keeping b d x f = refl
-told-twice handing b d x f = refl
+told-twice keeping b d left x f = refl
+told-twice handing b d left x f = sym (tells-heard handing b left (ask x f)) ∙ tells-heard handing b left (give d (ask x f)) ∙ ap (tells handing b) (tells-heard handing d left (ask x f))
 
 pub told-end : (m : Mode) (b : ℕ) (l : Layout) (device : ℕ) (s : List ℕ) (ctl : ℕ) (t : Taken) (o : Outcome)
     → transferNext m l device s (End ctl t o) ≡ tells m b (transferNext m l device s (End ctl t o))
@@ -105,11 +118,16 @@ told-end keeping b l device s ctl t o = refl
 told-end handing b l device s ctl t Ok = refl
 told-end handing b l device s ctl t (Err e) = refl
 
-pub told-on : {A B : Type 0} (m : Mode) (b : ℕ) (x : Access) (p : Answer → Prog A) (k : A → Prog B)
+told-going : {A B : Type 0} (m : Mode) (b : ℕ) (x : Access) (p : Answer → Prog A) (k : A → Prog B)
     → tells m b (ask x (λ a. erase (p a >>= k))) ≡ followed (tells m b (ask x (λ a. erase (p a)))) k
 unfolding tells followed _>>=_
-told-on keeping b x p k = going x p k
-told-on handing b x p k = ap (give b) (going x p k)
+told-going keeping b x p k = going x p k
+told-going handing b x p k = ap (give b) (going x p k)
+
+pub told-on : {A B : Type 0} (m : Mode) (b left : ℕ) (x : Access) (p : Answer → Prog A) (k : A → Prog B)
+    → tells m b (acknowledged left (ask x (λ a. erase (p a >>= k)))) ≡ followed (tells m b (acknowledged left (ask x (λ a. erase (p a))))) k
+told-on m b left x p k =
+    sym (tells-heard m b left _) ∙ ap (acknowledged left) (told-going m b x p k) ∙ followed-heard left _ k ∙ ap (λ q. followed q k) (tells-heard m b left _)
 
 -- a script that is accepted or refused
 
@@ -144,17 +162,39 @@ judged-no s k {q = q} h e = rw (← e, h) (numbered q k)
 -- the call of a script begins as an attempt that is counted
 pub script-begins : (port : Port) (s : List ℕ)
     → tally single (followed (attemptNext handing Pulses (layoutOf (port .family)) (device s) s (Going New)) dropped) ≡ tally blank (script port s)
-unfolding attemptNext awaiting accessAttempt restAttempt script attempt attempting tally _>>=_
+unfolding attemptNext awaiting heardAttempt acknowledged accessAttempt restAttempt script attempt attempting tally _>>=_
 script-begins port s =
     sym (going-tally single (accessAttempt (layoutOf (port .family)) New) (restAttempt handing Pulses (layoutOf (port .family)) (device s) s New) dropped)
 
-pub script-rest : (port : Port) (s : List ℕ) (t : Attempt) (a : Answer) (n : AttemptNext)
+pub script-rest : (port : Port) (m : Meter) (s : List ℕ) (t : Attempt) (a : Answer) (n : AttemptNext)
     → attemptNext handing Pulses (layoutOf (port .family)) (device s) s n ≡ erase (restAttempt handing Pulses (layoutOf (port .family)) (device s) s t a)
-    → tally single (followed (attemptNext handing Pulses (layoutOf (port .family)) (device s) s n) dropped) ≡ tally single (restScript port s t a)
+    → tally m (followed (attemptNext handing Pulses (layoutOf (port .family)) (device s) s n) dropped) ≡ tally m (restScript port s t a)
 unfolding restScript
-script-rest port s t a n e = over-tally single (restAttempt handing Pulses (layoutOf (port .family)) (device s) s t a) dropped refl e
+script-rest port m s t a n e = over-tally m (restAttempt handing Pulses (layoutOf (port .family)) (device s) s t a) dropped refl e
 
-pub told-tally : {A B : Type 0} (m : Meter) (b : ℕ) (x : Access) (p : Answer → Prog A) (k : A → Prog B)
-    → give b (ask x (λ a. tally m (p a >>= k))) ≡ tally m (followed (tells handing b (ask x (λ a. erase (p a)))) k)
-unfolding tells followed tally _>>=_
-told-tally m b x p k = ap (give b) (going-tally m x p k)
+-- the meter of a script that goes on, where no byte goes out and where one does
+pub heard-tally : {A B : Type 0} (m : Meter) (left : ℕ) (x : Access) (p : Answer → Prog A) (k : A → Prog B) → m .transfers ≡ 1
+    → ask x (λ a. tally (meterOn (hears left) m) (p a >>= k)) ≡ tally m (followed (acknowledged left (ask x (λ a. erase (p a)))) k)
+unfolding marked
+heard-tally m left x p k h = asked-on (hears left) m x (λ a. p a >>= k) (omega (arith, h)) ∙ ap (tally m) (heard-on left x p k)
+
+pub told-tally : {A B : Type 0} (m : Meter) (b left : ℕ) (x : Access) (p : Answer → Prog A) (k : A → Prog B) → m .transfers ≡ 1
+    → give b (ask x (λ a. tally (meterOn (hears left) m) (p a >>= k))) ≡ tally m (followed (tells handing b (acknowledged left (ask x (λ a. erase (p a))))) k)
+unfolding acknowledged tells followed tally _>>=_
+told-tally {A} m b left x p k h = ap (give b) (heard-tally m left x p k h) ∙ by (ltb left 10)
+  where
+    q : Prog A
+    q = ask x (λ a. erase (p a))
+
+    by : (c : Bool) → give b (tally m (followed (noteIf c (Acknowledged (10 - left)) q) k)) ≡ tally m (followed (tells handing b (noteIf c (Acknowledged (10 - left)) q)) k)
+    by true = refl
+    by false = refl
+
+-- a script's meter keeps its count, and its limits
+pub hears-one : (m : Meter) (left : ℕ) → m .transfers ≡ 1 → meterOn (hears left) m .transfers ≡ 1
+unfolding meterOn countOf more pick
+hears-one m left h = by (ltb (m .transfers) FULL)
+  where
+    by : (b : Bool) → pick b (m .transfers) (m .transfers) ≡ 1
+    by true = h
+    by false = h

@@ -1,4 +1,4 @@
--- A transfer and its clearing note nothing: an attempt begins no other.
+-- A transfer and its clearing note nothing but acknowledgements: an attempt begins no other.
 use Prim.Native.Nat.{ℕ}
 use mathlib.Core.List.{List, [], _∷_}
 use Rattle.hardware.specs.Prog.{Prog, ret, ask, note, give, R, Ok, Err, orErr}
@@ -19,7 +19,7 @@ unfolding Noteless tells
 tells-noteless keeping b p e = e
 tells-noteless handing b (ret v) e = e
 tells-noteless handing b (ask x f) e = e
-tells-noteless handing b (note k p) e = absurd e
+tells-noteless handing b (note k p) e = (e .0, tells-noteless handing b p (e .1))
 tells-noteless handing b (give d p) e = e
 
 handed-noteless : (m : Mode) (c : Command) (b : ℕ) (k : Bus) → NotelessBus k → NotelessBus (handed m c b k)

@@ -11,15 +11,16 @@ use lib.Dec.{eqb}
 use lib.ListN.{length}
 use Rattle.hardware.specs.declared.Access.{Access}
 use Rattle.hardware.specs.declared.Answer.{Answer}
+use Rattle.hardware.specs.declared.Meter.{Meter}
 use Rattle.hardware.specs.declared.Port.{Port}
 use Rattle.hardware.specs.Asked.{Asked, no, yes, andThen, question, openPort, fits, admitting}
 use Rattle.hardware.specs.Prog.{Prog, R, blank, tally, _>>=_}
-use Rattle.hardware.specs.Runs.{run, runAsked, Ends, Awaited, ended, transfersIn, meterIn, counted, AwaitedIn, leftAfter, leftAskedAfter, Exchange, answersOf, AllKept, driven, Refuses, Asks, IfYes, Lasts, Unrefused}
-use Rattle.hardware.proofs.Laws.{run-tally, is-true, StepsOn, opened-runs, refused-runs}
+use Rattle.hardware.specs.Runs.{run, runAsked, Ends, Awaited, ended, transfersIn, samplesIn, Heard, meterIn, counted, AwaitedIn, leftAfter, leftAskedAfter, Exchange, answersOf, AllKept, driven, Refuses, Asks, IfYes, Lasts, Unrefused}
+use Rattle.hardware.proofs.Laws.{run-tally, samples-heard, is-true, StepsOn, opened-runs, refused-runs}
 use Rattle.hardware.proofs.Longest.{Falls, lasting-falls, Accepts, steps-few, number-few}
 use Rattle.hardware.proofs.Ends.{ends-more, ends-bind, ret-ends, run-ends, ask-ends, ends-tally}
 use Rattle.bus.specs.declared.Taken.{Taken}
-use Rattle.bus.proofs.Noteless.{Noteless, ret-noteless, bind-noteless, transfers-none}
+use Rattle.bus.proofs.Noteless.{Noteless, ret-noteless, bind-noteless, transfers-none, samples-noteless}
 use Rattle.script.specs.Script.{commands, device, judged}
 use Rattle.script.proofs.Laws.{accepted, fits-length, commands-length}
 use Rattle.bus.specs.Bus.{none}
@@ -29,9 +30,9 @@ use Rattle.transfer.specs.declared.attempt.Sequence.the-variants.{Pulses
 use Rattle.transfer.specs.declared.calls.ScriptCall.the-variants.{Going, Over}
 use Rattle.transfer.specs.declared.calls.ScriptTold.{ScriptTold}
 use Rattle.transfer.specs.declared.calls.ScriptTold.the-variants.{Ask, Read, End, Refused}
-use Rattle.transfer.specs.Transfer.{handing}
-use Rattle.transfer.specs.Attempt.{attempt}
-use Rattle.transfer.specs.Calls.{dropped, script, restScript, judgedThen, openScript, steppedScript, stepScript, saidScript, standsScript, single, followsScript, ScriptAt, saidAt, followsLent}
+use Rattle.transfer.specs.Transfer.{handing, transfer}
+use Rattle.transfer.specs.Attempt.{attempt, attempting}
+use Rattle.transfer.specs.Calls.{dropped, script, restScript, judgedThen, openScript, steppedScript, stepScript, saidScript, standsScript, followsScript, ScriptAt, saidAt, followsLent}
 use Rattle.transfer.specs.Left.{attemptLeft, callLeft, scriptLeft}
 use Rattle.transfer.proofs.Laws.{judged-yes}
 use Rattle.transfer.proofs.Ends.{COMMAND-STEPS, ATTEMPT-STEPS, attempt-steps, commands-ends, attemptAfter, attempt-rest-ends}
@@ -61,11 +62,22 @@ pub script-runs : (family device lan : ℕ) (s : List ℕ) (r : ScriptTold) → 
 unfolding openScript
 script-runs family device lan s r e l = ap (λ x. runAsked x l) e ∙ run-opened (openPort family device lan) s l
 
+-- past its beginning
+begun-noteless : (port : Port) (s : List ℕ)
+    → Noteless (attempting Pulses (layoutOf (port .family)) (device s) (transfer handing (layoutOf (port .family)) (device s) (commands s) none) >>= dropped)
+begun-noteless port s =
+    bind-noteless _ dropped (attempting-noteless Pulses (layoutOf (port .family)) (device s) _ (transfer-noteless handing (layoutOf (port .family)) (device s) (commands s) none)) dropped-noteless
+
 -- one transfer is begun, in the run's first step, whether it fails or not
 pub script-count : (port : Port) (s : List ℕ) (l : List Answer) → transfersIn (script port s) l ≡ 1
 unfolding script attempt _>>=_ transfersIn
 script-count port s l =
-    ap suc (transfers-none _ l (bind-noteless _ dropped (attempting-noteless Pulses (layoutOf (port .family)) (device s) _ (transfer-noteless handing (layoutOf (port .family)) (device s) (commands s) none)) dropped-noteless))
+    ap suc (transfers-none _ l (begun-noteless port s))
+
+-- every acknowledgement in it is in one of ten samples, and its result tells the greatest
+pub script-heard : (port : Port) (s : List ℕ) (l : List Answer) → Heard (script port s) l
+unfolding script attempt _>>=_ samplesIn
+script-heard port s l = samples-heard _ l (samples-noteless _ l (begun-noteless port s))
 
 -- a script has at most 64 commands
 abbrev pub SCRIPT-STEPS : ℕ
@@ -89,21 +101,21 @@ pub script-finishes : (port : Port) (s : List ℕ) (l : List Answer) → judged 
 script-finishes port s l h n w = run-ends (script port s) SCRIPT-STEPS l (script-ends port s h) n w
 
 -- a state that was handed out, with the script and any answer of the kind that its access awaits, is not refused
-pub script-accepts : (x : Access) (port : Port) (t : Attempt) (s : List ℕ) (a : Answer) → standsScript (Ask x (Going port t)) s
-    → judged s ≡ 0 → fits x a ≡ true → stepScript (Going port t) s a ≡ yes (tally single (restScript port s t a))
+pub script-accepts : (x : Access) (port : Port) (m : Meter) (t : Attempt) (s : List ℕ) (a : Answer) → standsScript (Ask x (Going port m t)) s
+    → judged s ≡ 0 → fits x a ≡ true → stepScript (Going port m t) s a ≡ yes (tally m (restScript port s t a))
 unfolding standsScript stepScript steppedScript admitting question
-script-accepts x port t s a h j e = judged-yes s _ j ∙ (rw (h .1, ← h .0, e))
+script-accepts x port m t s a h j e = judged-yes s _ j ∙ (rw (h .1, ← h .0, e))
 
-pub script-read-accepts : (b : ℕ) (x : Access) (port : Port) (t : Attempt) (s : List ℕ) (a : Answer) → standsScript (Read b x (Going port t)) s
-    → judged s ≡ 0 → fits x a ≡ true → stepScript (Going port t) s a ≡ yes (tally single (restScript port s t a))
+pub script-read-accepts : (b : ℕ) (x : Access) (port : Port) (m : Meter) (t : Attempt) (s : List ℕ) (a : Answer) → standsScript (Read b x (Going port m t)) s
+    → judged s ≡ 0 → fits x a ≡ true → stepScript (Going port m t) s a ≡ yes (tally m (restScript port s t a))
 unfolding standsScript stepScript steppedScript admitting question
-script-read-accepts b x port t s a h j e = judged-yes s _ j ∙ (rw (h .1, ← h .0, e))
+script-read-accepts b x port m t s a h j e = judged-yes s _ j ∙ (rw (h .1, ← h .0, e))
 
 script-on : (s : List ℕ) → judged s ≡ 0 → StepsOn (λ t. saidScript t s) (followsScript s) (λ t. standsScript t s)
 unfolding followsScript saidScript standsScript AwaitedIn Awaited leftAskedAfter leftAfter IfYes Asks
-script-on s j (Ask y (Going port t)) u a h k w = (k .yields ∙ script-accepts y port t s a h j (is-true (fits y a) (w .0)), k .limits, tt)
+script-on s j (Ask y (Going port m t)) u a h k w = (k .yields ∙ script-accepts y port m t s a h j (is-true (fits y a) (w .0)), k .limits, tt)
 script-on s j (Ask y Over) u a h k w = absurd h
-script-on s j (Read b y (Going port t)) u a h k w = (k .yields ∙ script-read-accepts b y port t s a h j (is-true (fits y a) (w .0)), k .limits, tt)
+script-on s j (Read b y (Going port m t)) u a h k w = (k .yields ∙ script-read-accepts b y port m t s a h j (is-true (fits y a) (w .0)), k .limits, tt)
 script-on s j (Read b y Over) u a h k w = absurd h
 script-on s j (End o m) u a h k w = absurd k
 script-on s j (Refused q) u a h k w = absurd k
@@ -137,19 +149,19 @@ script-rest-ends port s t a h =
 
 -- from any state that passes question 10, whoever made it, the call takes at most so many steps more with any accepted script
 -- that is lent at each of them
-pub script-lasts : (x : Access) (port : Port) (s : List ℕ) (t : Attempt) (ks : List (Exchange ScriptTold)) → judged s ≡ 0 → standsScript (Ask x (Going port t)) s
-    → AllKept (Accepts (λ u. saidScript u s) (followsScript s)) (Ask x (Going port t)) ks → Lasts (λ u. saidScript u s) (Ask x (Going port t)) ks (suc (attemptAfter t))
+pub script-lasts : (x : Access) (port : Port) (m : Meter) (s : List ℕ) (t : Attempt) (ks : List (Exchange ScriptTold)) → judged s ≡ 0 → standsScript (Ask x (Going port m t)) s
+    → AllKept (Accepts (λ u. saidScript u s) (followsScript s)) (Ask x (Going port m t)) ks → Lasts (λ u. saidScript u s) (Ask x (Going port m t)) ks (suc (attemptAfter t))
 unfolding saidScript IfYes
-script-lasts x port s t ks j h k =
-    steps-few (λ u. saidScript u s) (followsScript s) (λ u. standsScript u s) (script-on s j) (Ask x (Going port t)) ks (suc (attemptAfter t)) h k
-    (ask-ends x _ (attemptAfter t) (λ a. ends-tally single _ _ (script-rest-ends port s t a j)))
+script-lasts x port m s t ks j h k =
+    steps-few (λ u. saidScript u s) (followsScript s) (λ u. standsScript u s) (script-on s j) (Ask x (Going port m t)) ks (suc (attemptAfter t)) h k
+    (ask-ends x _ (attemptAfter t) (λ a. ends-tally m _ _ (script-rest-ends port s t a j)))
 
 -- what one script leads on from, any does
 said-any : (u : ScriptTold) (s z : List ℕ) → Unrefused (saidScript u s) → Unrefused (saidScript u z)
 unfolding saidScript IfYes
-said-any (Ask x (Going port t)) s z h = tt
+said-any (Ask x (Going port m t)) s z h = tt
 said-any (Ask x Over) s z h = h
-said-any (Read b x (Going port t)) s z h = tt
+said-any (Read b x (Going port m t)) s z h = tt
 said-any (Read b x Over) s z h = h
 said-any (End o m) s z h = tt
 said-any (Refused q) s z h = h
@@ -168,16 +180,16 @@ pub lent-falls : (t u : ScriptAt) (a : Answer) → followsLent t a u → scriptL
 unfolding followsLent followsScript stepScript steppedScript judgedThen scriptLeft callLeft
 lent-falls t u a k = by (t .told) (k .0)
   where
-    less : (port : Port) (c : Attempt) → scriptLeft (u .told) ≤ callLeft (Going port c) - 1 → scriptLeft (u .told) < attemptLeft (layoutOf (port .family)) c
-    less port c h = omega (arith, attempt-some (layoutOf (port .family)) c, h)
+    less : (port : Port) (m : Meter) (c : Attempt) → scriptLeft (u .told) ≤ callLeft (Going port m c) - 1 → scriptLeft (u .told) < attemptLeft (layoutOf (port .family)) c
+    less port m c h = omega (arith, attempt-some (layoutOf (port .family)) c, h)
 
     over : saidScript (u .told) (t .script) ≡ stepScript Over (t .script) a → ⊥
     over e = never-yes _ _ _ _ (subst Unrefused e (k .1))
 
     by : (v : ScriptTold) → followsScript (t .script) v a (u .told) → scriptLeft (u .told) < scriptLeft v
-    by (Ask x (Going port c)) k = less port c (k .within)
+    by (Ask x (Going port m c)) k = less port m c (k .within)
     by (Ask x Over) k = absurd (over (k .yields))
-    by (Read b x (Going port c)) k = less port c (k .within)
+    by (Read b x (Going port m c)) k = less port m c (k .within)
     by (Read b x Over) k = absurd (over (k .yields))
     by (End o m) k = absurd k
     by (Refused q) k = absurd k
@@ -190,9 +202,9 @@ lent-over t y e = by (t .told) y e
     none port c e = omega (arith, attempt-some (layoutOf (port .family)) c, e)
 
     by : (v : ScriptTold) → Unrefused (saidScript v (t .script)) → scriptLeft v ≡ 0 → IfYes (λ p. Asks p → ⊥) (saidScript v (t .script))
-    by (Ask x (Going port c)) y e = absurd (none port c e)
+    by (Ask x (Going port m c)) y e = absurd (none port c e)
     by (Ask x Over) y e = absurd y
-    by (Read b x (Going port c)) y e = absurd (none port c e)
+    by (Read b x (Going port m c)) y e = absurd (none port c e)
     by (Read b x Over) y e = absurd y
     by (End o m) y e = λ k. k
     by (Refused q) y e = absurd y
@@ -206,8 +218,8 @@ script-lasts-within t ks n y h kept =
     (λ t u a y k. (goes t u a k, lent-falls t u a k)) lent-over t ks n y h kept
 
 -- from any state, whoever made it
-pub script-lasts-lent : (x : Access) (port : Port) (s : List ℕ) (t : Attempt) (ks : List (Exchange ScriptAt))
-    → AllKept followsLent (record { told = Ask x (Going port t); script = s }) ks
-    → Lasts saidAt (record { told = Ask x (Going port t); script = s }) ks (attemptMost t)
+pub script-lasts-lent : (x : Access) (port : Port) (m : Meter) (s : List ℕ) (t : Attempt) (ks : List (Exchange ScriptAt))
+    → AllKept followsLent (record { told = Ask x (Going port m t); script = s }) ks
+    → Lasts saidAt (record { told = Ask x (Going port m t); script = s }) ks (attemptMost t)
 unfolding saidAt saidScript scriptLeft callLeft IfYes
-script-lasts-lent x port s t ks kept = script-lasts-within _ ks (attemptMost t) tt (attempt-left (layoutOf (port .family)) t) kept
+script-lasts-lent x port m s t ks kept = script-lasts-within _ ks (attemptMost t) tt (attempt-left (layoutOf (port .family)) t) kept

@@ -6,12 +6,13 @@ use Rattle.hardware.specs.declared.Access.{Access}
 use Rattle.hardware.specs.declared.Access.the-variants.{Read}
 use Rattle.hardware.specs.declared.Answer.{Answer}
 use Rattle.hardware.specs.Failures.{Failure, I2c, failureOf}
+use Rattle.hardware.specs.Marks.{acknowledged}
 use Rattle.hardware.specs.Prog.{Prog, ret, ask, note, Attempt as Begins, erase, R, Ok, Err, orErr, _>>=_, _>>?_, pick}
 use Rattle.hardware.specs.Registers.{readRaw, raw}
 use Rattle.bus.specs.declared.Layout.{Layout}
 use Rattle.bus.specs.declared.Taken.{Taken}
 use Rattle.bus.specs.Bus.{Held, Bus, none, isI2c, clear, clearRounds}
-use Rattle.bus.specs.Clear.{accessClear, restClear, validClear}
+use Rattle.bus.specs.Clear.{accessClear, heardClear, restClear, validClear}
 use Rattle.script.specs.Script.{commands}
 use Rattle.transfer.specs.declared.attempt.Sequence.{Sequence}
 use Rattle.transfer.specs.declared.attempt.Sequence.the-variants.{Pulses, Rounds}
@@ -21,7 +22,7 @@ use Rattle.transfer.specs.declared.attempt.Got.{Got}
 use Rattle.transfer.specs.declared.attempt.Got.the-variants.{Ok as GotOk, Err as GotErr}
 use Rattle.transfer.specs.declared.attempt.AttemptNext.{AttemptNext}
 use Rattle.transfer.specs.declared.attempt.AttemptNext.the-variants.{Going, Read as Handing, End}
-use Rattle.transfer.specs.Transfer.{Mode, tells, transfer, accessTransfer, restTransfer, validTransfer}
+use Rattle.transfer.specs.Transfer.{Mode, tells, transfer, accessTransfer, heardTransfer, restTransfer, validTransfer}
 
 unfoldable pub clearing : Sequence → Layout → Bus
 clearing Pulses l = clear l
@@ -60,6 +61,12 @@ accessAttempt l New = Read (l .reg)
 accessAttempt l (Moving t) = accessTransfer l t
 accessAttempt l (Clearing c) = accessClear l c
 
+-- the samples that were left when a byte was acknowledged just before the access; 10 where none was
+unfoldable pub heardAttempt : Attempt → ℕ
+heardAttempt New = 10
+heardAttempt (Moving t) = heardTransfer t
+heardAttempt (Clearing c) = heardClear c
+
 unfoldable pub restAttempt : Mode → Sequence → Layout → ℕ → List ℕ → Attempt → Answer → Prog (R Taken)
 restAttempt m q l device s New a = orErr (begun q l device (transfer m l device (commands s) none)) (raw a)
 restAttempt m q l device s (Moving t) a = restTransfer m l device s t a >>= tried q l device
@@ -70,7 +77,7 @@ got (GotOk t) = Ok t
 got (GotErr e) = Err (failureOf e)
 
 unfoldable pub awaiting : Mode → Sequence → Layout → ℕ → List ℕ → Attempt → Prog (R Taken)
-awaiting m q l device s t = ask (accessAttempt l t) (λ a. erase (restAttempt m q l device s t a))
+awaiting m q l device s t = acknowledged (heardAttempt t) (ask (accessAttempt l t) (λ a. erase (restAttempt m q l device s t a)))
 
 unfoldable pub attemptNext : Mode → Sequence → Layout → ℕ → List ℕ → AttemptNext → Prog (R Taken)
 attemptNext m q l device s (Going t) = awaiting m q l device s t

@@ -8,7 +8,8 @@ use lib.Dec.{eqb}
 use Rattle.hardware.specs.declared.Answer.{Answer}
 use Rattle.hardware.specs.declared.Meter.{Meter}
 use Rattle.hardware.specs.declared.Port.{Port}
-use Rattle.hardware.specs.Asked.{Asked, yes, no, question, andThen, openPort, validPort, admitting}
+use Rattle.hardware.specs.Asked.{Asked, yes, no, question, andThen, openPort, admitting}
+use Rattle.hardware.specs.Marks.{validHeld}
 use Rattle.hardware.specs.Numbers.{refusalNumber}
 use Rattle.hardware.specs.Prog.{Prog, ret, ask, give, R, Ok, Err, _>>=_, Counted, Attempt as AttemptBegins, metered, blank, tally, pick}
 use Rattle.hardware.specs.Registers.{outcome}
@@ -57,13 +58,14 @@ judgedThen s k = question (eqb (judged s) 0) (judged s) k
 unfoldable pub openScript : ℕ → ℕ → ℕ → List ℕ → Asked (Prog (Counted (R (Unit {0}))))
 openScript family device lan s = andThen (openPort family device lan) (λ port. judgedThen s (yes (tally blank (script port s))))
 
-unfoldable pub validScript : Port → List ℕ → Attempt → Bool
-validScript port s t = pick (validPort port) (validAttempt (layoutOf (port .family)) s t) false
+-- its one attempt has begun
+unfoldable pub validScript : Port → Meter → List ℕ → Attempt → Bool
+validScript port m s t = pick (validHeld port m) (pick (eqb (m .transfers) 1) (validAttempt (layoutOf (port .family)) s t) false) false
 
 -- 10, 11, 12. The finished state is well formed
 unfoldable pub steppedScript : ScriptCall → List ℕ → Answer → Asked (Prog (Counted (R (Unit {0}))))
-steppedScript (Going port t) s a =
-    admitting (validScript port s t) (accessAttempt (layoutOf (port .family)) t) a (yes (tally single (restScript port s t a)))
+steppedScript (Going port m t) s a =
+    admitting (validScript port m s t) (accessAttempt (layoutOf (port .family)) t) a (yes (tally m (restScript port s t a)))
 steppedScript Over s a = no 11
 
 -- a step: 5 to 7 again, of the script that is lent now
@@ -72,18 +74,18 @@ stepScript c s a = judgedThen s (steppedScript c s a)
 
 -- what was told, where the script s is lent on
 unfoldable pub saidScript : ScriptTold → List ℕ → Asked (Prog (Counted (R (Unit {0}))))
-saidScript (Ask x (Going port t)) s = yes (ask x (λ a. tally single (restScript port s t a)))
+saidScript (Ask x (Going port m t)) s = yes (ask x (λ a. tally m (restScript port s t a)))
 saidScript (Ask x Over) s = no 0
-saidScript (Read b x (Going port t)) s = yes (give b (ask x (λ a. tally single (restScript port s t a))))
+saidScript (Read b x (Going port m t)) s = yes (give b (ask x (λ a. tally m (restScript port s t a))))
 saidScript (Read b x Over) s = no 0
 saidScript (End o m) s = yes (ret (record { meter = m; result = outcome o }))
 saidScript (Refused q) s = no (refusalNumber q)
 
 -- a state to go on from comes with the access it awaits, and passes question 10 with the script s
 unfoldable pub standsScript : ScriptTold → List ℕ → Type 0
-standsScript (Ask x (Going port t)) s = (x ≡ accessAttempt (layoutOf (port .family)) t) × (validScript port s t ≡ true)
+standsScript (Ask x (Going port m t)) s = (x ≡ accessAttempt (layoutOf (port .family)) t) × (validScript port m s t ≡ true)
 standsScript (Ask x Over) s = ⊥
-standsScript (Read b x (Going port t)) s = (x ≡ accessAttempt (layoutOf (port .family)) t) × (validScript port s t ≡ true)
+standsScript (Read b x (Going port m t)) s = (x ≡ accessAttempt (layoutOf (port .family)) t) × (validScript port m s t ≡ true)
 standsScript (Read b x Over) s = ⊥
 standsScript (End o m) s = Unit {0}
 standsScript (Refused q) s = Unit {0}

@@ -49,7 +49,7 @@ attemptNextLeft l (AttemptRead b t) = attemptLeft l t
 attemptNextLeft l (AttemptEnd g) = 0
 
 unfoldable pub callLeft : ScriptCall → ℕ
-callLeft (CallGoing port t) = attemptLeft (layoutOf (port .family)) t
+callLeft (CallGoing port m t) = attemptLeft (layoutOf (port .family)) t
 callLeft Over = 0
 
 unfoldable pub scriptLeft : ScriptTold → ℕ

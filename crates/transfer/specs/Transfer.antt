@@ -8,13 +8,14 @@ use Rattle.hardware.specs.declared.Access.{Access}
 use Rattle.hardware.specs.declared.Answer.{Answer}
 use Rattle.hardware.specs.declared.Outcome.the-variants.{Ok as OutcomeOk, Err as OutcomeErr}
 use Rattle.hardware.specs.Failures.{failureOf}
+use Rattle.hardware.specs.Marks.{acknowledged}
 use Rattle.hardware.specs.Prog.{Prog, ret, ask, note, give, erase, pick}
 use Rattle.bus.specs.declared.Layout.{Layout}
 use Rattle.bus.specs.declared.Taken.{Taken}
 use Rattle.bus.specs.declared.command.Command.{Command}
 use Rattle.bus.specs.declared.command.Command.the-variants.{Start, Send, Read, Stop, Free}
 use Rattle.bus.specs.Bus.{Held, Bus, done, fail, took, start, stop, send, inByte, outBit}
-use Rattle.bus.specs.Command.{freed, accessJob, restJob, validJob}
+use Rattle.bus.specs.Command.{freed, accessJob, heardJob, restJob, validJob}
 use Rattle.script.specs.Script.{commands, commandAt, nextAt, onCommand}
 use Rattle.transfer.specs.declared.transfer.Transfer.{Transfer}
 use Rattle.transfer.specs.declared.transfer.TransferNext.{TransferNext}
@@ -64,11 +65,14 @@ ranOn m l device s at t b = handed m (commandAt s at) b (transfer m l device (co
 unfoldable pub accessTransfer : Layout → Transfer → Access
 accessTransfer l t = accessJob l (t .job)
 
+abbrev pub heardTransfer : Transfer → ℕ
+heardTransfer t = heardJob (t .job)
+
 unfoldable pub restTransfer : Mode → Layout → ℕ → List ℕ → Transfer → Answer → Prog Held
 restTransfer m l device s t a = restJob l device (commandAt s (t .at)) (t .job) a (ranOn m l device s (t .at) (t .taken))
 
 unfoldable pub asking : Mode → Layout → ℕ → List ℕ → Transfer → Prog Held
-asking m l device s t = ask (accessTransfer l t) (λ a. erase (restTransfer m l device s t a))
+asking m l device s t = acknowledged (heardTransfer t) (ask (accessTransfer l t) (λ a. erase (restTransfer m l device s t a)))
 
 unfoldable pub transferNext : Mode → Layout → ℕ → List ℕ → TransferNext → Prog Held
 transferNext m l device s (Going t) = asking m l device s t

@@ -26,7 +26,7 @@ ghost use Rattle.bus.specs.Steps.{CLEAR-STEPS};
 ghost use Rattle.script.specs.Script.{commands, onCommand};
 ghost use Rattle.bus.specs.Bus.{none};
 ghost use Rattle.transfer.specs.Transfer.{Mode, transfer, transferNext, validTransferNext};
-ghost use Rattle.transfer.specs.Attempt.{clearing, orI2c, cleared, orTried, tried, begun, accessAttempt, restAttempt, attemptNext, validAttempt, validAttemptNext};
+ghost use Rattle.transfer.specs.Attempt.{clearing, orI2c, cleared, orTried, tried, begun, accessAttempt, heardAttempt, restAttempt, attemptNext, validAttempt, validAttemptNext};
 ghost use Rattle.transfer.specs.Left.{COMMANDS-STEPS, transferNextLeft, attemptLeft, attemptNextLeft};
 
 // The clearing sequences by name. Pulses: that of the Rust, nine pulses of SCL between two starts, and a stop. Rounds: up to
@@ -131,6 +131,17 @@ pub fn access(l: Layout, s: Attempt) -> Access
         Attempt::New => Access::Read(l.reg),
         Attempt::Moving(t) => crate::transfer::access(l, t),
         Attempt::Clearing(c) => bus::clear::access(l, c),
+    }
+}
+
+// The samples that were left when a byte was acknowledged just before the access; 10 where none was.
+pub fn heard(s: Attempt) -> u8
+    ensures { λ r. ⌜ r ≡ heardAttempt s ⌝ }
+{
+    match s {
+        Attempt::New => 10,
+        Attempt::Moving(t) => crate::transfer::heard(t),
+        Attempt::Clearing(c) => bus::clear::heard(c),
     }
 }
 

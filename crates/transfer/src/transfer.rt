@@ -20,7 +20,7 @@ ghost use Rattle.bus.specs.Command.{jobNext, validJobNext};
 ghost use Rattle.bus.specs.Steps.{CLEAR-STEPS, JOB-STEPS};
 ghost use Rattle.bus.specs.Left.{jobNextLeft};
 ghost use Rattle.script.specs.Script.{commands, commandAt, onCommand};
-ghost use Rattle.transfer.specs.Transfer.{Mode, isRead, tookBy, tells, transfer, ranOn, accessTransfer, restTransfer, transferNext, validTransfer, validTransferNext};
+ghost use Rattle.transfer.specs.Transfer.{Mode, isRead, tookBy, tells, transfer, ranOn, accessTransfer, heardTransfer, restTransfer, transferNext, validTransfer, validTransferNext};
 ghost use Rattle.transfer.specs.Left.{behind, transferLeft, transferNextLeft};
 
 // at: the position of the command in the script.
@@ -120,6 +120,13 @@ pub fn access(l: Layout, s: Transfer) -> Access
 {
     let job = s.job;
     bus::job::access(l, job)
+}
+
+pub fn heard(s: Transfer) -> u8
+    ensures { λ r. ⌜ r ≡ heardTransfer s ⌝ }
+{
+    let job = s.job;
+    bus::job::heard(job)
 }
 
 pub fn step(l: Layout, device: u8, script: &[u8], s: Transfer, a: Answer) -> TransferNext

@@ -4,7 +4,7 @@ use mathlib.Core.Bool.{Bool, true, false}
 use Rattle.hardware.specs.declared.Access.{Access}
 use Rattle.hardware.specs.declared.Access.the-variants.{Read, Write, Wait}
 use Rattle.hardware.specs.declared.Answer.{Answer}
-use Rattle.hardware.specs.Prog.{Prog, ret, ask, note, give, Note, Attempt, Acquires, Acquired, Released, Lapsed, _>>=_, pick}
+use Rattle.hardware.specs.Prog.{Prog, ret, ask, note, give, Note, Attempt, Acquires, Acquired, Released, Lapsed, Acknowledged, _>>=_, pick}
 use Rattle.bus.specs.declared.Layout.{Layout}
 use Rattle.wire.specs.Machine.{Side, World, modelled, noted}
 use Rattle.wire.specs.Always.{Either, ByKind, Answered, Kept, Always}
@@ -30,6 +30,7 @@ kept-map Acquires X Y f k = f k
 kept-map Acquired X Y f k = f k
 kept-map Released X Y f k = f k
 kept-map Lapsed X Y f k = tt
+kept-map (Acknowledged sample) X Y f k = f k
 
 -- what follows from Q holds too
 pub always-map : (l : Layout) (o : Side) {A : Type 0} (p : Prog A) (w : World o) (Q R : A → World o → Type 0)

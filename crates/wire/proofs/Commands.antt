@@ -1,11 +1,11 @@
 -- What each command puts on the lines, for any other side that never pulls SCL.
-use Prim.Native.Nat.{ℕ, suc}
+use Prim.Native.Nat.{ℕ}
 use mathlib.Core.Path.{_≡_, refl, ap, _∙_, subst⁻¹}
 use mathlib.Core.Bool.{Bool, true, false, not, _||_, or-true}
 use mathlib.Core.List.{_∷_}
 use lib.Dec.{eqb}
 use Rattle.hardware.specs.Failures.{I2c}
-use Rattle.hardware.specs.Prog.{pick}
+use Rattle.hardware.specs.Prog.{Acknowledged, pick}
 use Rattle.bus.specs.declared.Layout.{Layout}
 use Rattle.bus.specs.declared.Taken.{Taken}
 use Rattle.bus.specs.Bus.{Bus, done, fail, isI2c, orQuiet, quieted, quiet, wait, sclHigh, sclLow, releaseSda, ackTries, sda, close, start, stop, outBit, inBit}
@@ -92,11 +92,11 @@ module _ (l : Layout) (g : Distinct l) (o : Side) (scl-free : (s : o .State) →
       Lines.sda-released l g o (moved (turn-low o s a false) (up (Lines.pause l g o 4 (Lines.sampled l g o _ (down (Lines.pause l g o 5 h))))))
 
   -- the acknowledgement after a byte: SDA is released, and low at the first sample or high at all of them
-  pub ack : {a : Bool} {s : o .State} (left : ℕ) (k : Bool → Bus) {Q : Claim o} → o .pulls (o .takes (Bit (not (o .pulls s .sda))) s) .sda ≡ true
-      → From l o false true (o .takes Fall (o .takes (Bit (not (o .pulls s .sda))) s)) (k false) Q
-      → From l o a true s (releaseSda l (sclHigh l (wait 4 (ackTries l (suc left) (λ high. sclLow l (wait 5 (k high))))))) Q
-  ack {a} {s} left k e h =
-      Lines.sda-released l g o (moved (turn-low o s a false) (up (Lines.pause l g o 4 (Lines.acked l g o left _ e (down (Lines.pause l g o 5 h))))))
+  pub ack : {a : Bool} {s : o .State} (k : Bool → Bus) {Q : Claim o} → o .pulls (o .takes (Bit (not (o .pulls s .sda))) s) .sda ≡ true
+      → From l o false true (o .takes Fall (o .notes (Acknowledged 1) (o .takes (Bit (not (o .pulls s .sda))) s))) (k false) Q
+      → From l o a true s (releaseSda l (sclHigh l (wait 4 (ackTries l 10 (λ high. sclLow l (wait 5 (k high))))))) Q
+  ack {a} {s} k e h =
+      Lines.sda-released l g o (moved (turn-low o s a false) (up (Lines.pause l g o 4 (Lines.acked l g o _ e (down (Lines.pause l g o 5 h))))))
 
   pub no-ack : {a : Bool} {s : o .State} (left : ℕ) (k : Bool → Bus) {Q : Claim o} → o .pulls (o .takes (Bit (not (o .pulls s .sda))) s) .sda ≡ false
       → From l o false true (o .takes Fall (o .takes (Bit (not (o .pulls s .sda))) s)) (k true) Q

@@ -8,10 +8,11 @@ use lib.Bits.{bitOr}
 use lib.Dec.{eqb}
 use borrow.Author.Tests.{eq-eqb}
 use Rattle.hardware.specs.Failures.{I2c}
-use Rattle.hardware.specs.Prog.{pick}
+use Rattle.hardware.specs.Marks.{acknowledged}
+use Rattle.hardware.specs.Prog.{Acknowledged, pick}
 use Rattle.hardware.specs.Registers.{STATUS, noneOf, raw, written, flushed}
 use Rattle.bus.specs.declared.Layout.{Layout}
-use Rattle.bus.specs.Bus.{Bus, fail, orHeld, flushing, put, get, wait, sdaLevel, sclSeen, sclTries, sclHigh, sclLow, sdaSeen, sdaFree, sda, releaseSda, lookSeen, look, close, sampleSeen, sample, ackSeen, ackTries}
+use Rattle.bus.specs.Bus.{Bus, fail, orHeld, flushing, put, get, wait, sdaLevel, sclSeen, sclTries, sclHigh, sclLow, sdaSeen, sdaFree, sda, releaseSda, lookSeen, look, close, sampleSeen, sample, heard, ackSeen, ackTries}
 use Rattle.wire.specs.Lines.{Pulls, drawn, OneMoves, master, levels, edge, sclEdge, sdaEdge, Drives, Rests, Known, Distinct}
 use Rattle.wire.specs.Machine.{Side, World, takesAll, turn, wrote, reading, models, modelled, atLines, reply, after}
 use Rattle.wire.specs.Always.{Either, ByKind, Meets, Answered, Always, Claim, From, FromRest}
@@ -193,20 +194,20 @@ module _ (l : Layout) (g : Distinct l) (o : Side) where
       → From l o false false s (pick (eqb (l .bben) 0) k (close l k)) Q
   closed h = close-or (eqb (l .bben) 0) refl h
 
-  ack-looked : {a b : Bool} {s : o .State} (t : Bool) (again : Bus) (k : Bool → Bus) {Q : Claim o} → (a || o .pulls s .sda) ≡ t
-      → From l o a b s (pick t (k false) (wait 1 again)) Q → From l o a b s (get l (ackSeen l again k)) Q
+  ack-looked : {a b : Bool} {s : o .State} (t : Bool) (left : ℕ) (again : Bus) (k : Bool → Bus) {Q : Claim o} → (a || o .pulls s .sda) ≡ t
+      → From l o a b s (pick t (heard left (k false)) (wait 1 again)) Q → From l o a b s (get l (ackSeen l left again k)) Q
   unfolding ackSeen
-  ack-looked {s = s} t again k {Q} e h =
-      record { goes = λ ctl w n. get-goes (ackSeen l again k) ctl _ Q (by-it (λ t. pick t (k false) (wait 1 again)) ctl _ Q (hears-sda s (n .now) ∙ e) (h .goes ctl w n)) }
+  ack-looked {s = s} t left again k {Q} e h =
+      record { goes = λ ctl w n. get-goes (ackSeen l left again k) ctl _ Q (by-it (λ t. pick t (heard left (k false)) (wait 1 again)) ctl _ Q (hears-sda s (n .now) ∙ e) (h .goes ctl w n)) }
 
-  -- SDA is low at the first sample, or high at all of them
-  pub acked : {a b : Bool} {s : o .State} (left : ℕ) (k : Bool → Bus) {Q : Claim o} → (a || o .pulls s .sda) ≡ true
-      → From l o a b s (k false) Q → From l o a b s (ackTries l (suc left) k) Q
-  unfolding ackTries pick
-  acked left k e h = ack-looked true _ k e h
+  -- SDA is low at the first of the ten samples, or high at all of them
+  pub acked : {a b : Bool} {s : o .State} (k : Bool → Bus) {Q : Claim o} → (a || o .pulls s .sda) ≡ true
+      → From l o a b (o .notes (Acknowledged 1) s) (k false) Q → From l o a b s (ackTries l 10 k) Q
+  unfolding ackTries pick acknowledged Always
+  acked k e h = ack-looked true 9 _ k e (record { goes = λ ctl w n. h .goes ctl w n })
 
   pub not-acked : {a b : Bool} {s : o .State} (left : ℕ) (k : Bool → Bus) {Q : Claim o} → (a || o .pulls s .sda) ≡ false
       → From l o a b s (k true) Q → From l o a b s (ackTries l left k) Q
   unfolding ackTries pick
   not-acked zero k e h = h
-  not-acked (suc left) k e h = ack-looked false _ k e (pause 1 (not-acked left k e h))
+  not-acked (suc left) k e h = ack-looked false left _ k e (pause 1 (not-acked left k e h))

@@ -7,7 +7,7 @@ use Rattle.hardware.specs.declared.Access.{Access}
 use Rattle.hardware.specs.declared.Access.the-variants.{Read, Write, Wait}
 use Rattle.hardware.specs.declared.Answer.{Answer}
 use Rattle.hardware.specs.declared.Answer.the-variants.{Value, Done}
-use Rattle.hardware.specs.Prog.{Prog, ret, ask, note, give, Note, Attempt, Acquires, Acquired, Released, Lapsed, Ok}
+use Rattle.hardware.specs.Prog.{Prog, ret, ask, note, give, Note, Attempt, Acquires, Acquired, Released, Lapsed, Acknowledged, Ok}
 use Rattle.bus.specs.declared.Layout.{Layout}
 use Rattle.bus.specs.declared.Taken.{Taken}
 use Rattle.bus.specs.Bus.{Held, Bus}
@@ -59,6 +59,7 @@ Kept Acquires X = X
 Kept Acquired X = X
 Kept Released X = X
 Kept Lapsed X = Unit {0}
+Kept (Acknowledged sample) X = X
 
 -- the call ends, and then Q holds of its result, I2CCTL and the other side
 unfoldable pub Always : (l : Layout) (o : Side) {A : Type 0} → Prog A → World o → (A → World o → Type 0) → Type 0

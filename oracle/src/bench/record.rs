@@ -154,7 +154,11 @@ fn record(image: &str, start: &Start, end: &End) -> Result<String, std::fmt::Err
         }
         Err(e) => writeln!(out, "failed      {}", number(e))?,
     }
-    writeln!(out, "transfers   {}", end.transfers)?;
+    writeln!(out, "transfers   {}", end.meter.transfers)?;
+    match end.meter.slowest {
+        0 => writeln!(out, "slowest acknowledgement: none")?,
+        sample => writeln!(out, "slowest acknowledgement: sample {sample} of 10")?,
+    }
     let Wired { module: after, .. } = &end.wired;
     let released = or(end.wired.released(), "both lines released", "a line held low");
     let bytes = or(after.pages == module.pages, "same", "changed");
@@ -171,7 +175,7 @@ fn record(image: &str, start: &Start, end: &End) -> Result<String, std::fmt::Err
 fn texts(out: &mut String, start: &Start, end: &End) -> std::fmt::Result {
     let mut host = Host::at(start, end.wired.clone());
     let mut buffer = [0; page::BYTES];
-    i2c::probe_transfers();
+    i2c::probe_meter();
     let attempts = i2c::attempts(start.port);
     let read =
         i2c::probe_with(start.sequence, || page::read(&mut host, start.port, 0, attempts, &mut buffer));
@@ -179,7 +183,7 @@ fn texts(out: &mut String, start: &Start, end: &End) -> std::fmt::Result {
         Ok(()) => page::judged(&buffer),
         Err(e) => number(&e),
     };
-    let transfers = i2c::probe_transfers();
+    let transfers = i2c::probe_meter().transfers;
     if number != 0 {
         return writeln!(out, "page        failed {number} after {transfers} transfers");
     }

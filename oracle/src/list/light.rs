@@ -10,10 +10,10 @@ use crate::light::*;
 
 const SEQUENCES: [Sequence; 2] = [Sequence::Pulses, Sequence::Rounds];
 /// Byte 92 of an internally and of an externally calibrated module.
-const INSIDE: u8 = MONITORED | INTERNAL;
+pub const INSIDE: u8 = MONITORED | INTERNAL;
 const OUTSIDE: u8 = MONITORED | EXTERNAL;
 /// Rx_PWR(1) is 1, the others are +0.
-const STRAIGHT: [u32; 5] = [ZERO, ZERO, ZERO, ONE, ZERO];
+pub const STRAIGHT: [u32; 5] = [ZERO, ZERO, ZERO, ONE, ZERO];
 /// The number of choices for the temperature and for the count.
 const WORDS: u32 = 4;
 
@@ -36,13 +36,13 @@ pub fn add(list: &mut List) {
     cleared_lights(list);
 }
 
-fn shape(kind: u8, coefficients: [u32; 5]) -> Shape {
+pub fn shape(kind: u8, coefficients: [u32; 5]) -> Shape {
     Shape { kind, temperature: 0, count: 0, coefficients }
 }
 
 impl List {
     /// The call going well.
-    fn light(&mut self, port: (Family, u32, u32), attempts: u32, sequence: usize, shape: Shape) -> Case {
+    pub fn light(&mut self, port: (Family, u32, u32), attempts: u32, sequence: usize, shape: Shape) -> Case {
         let (family, lan, device) = port;
         let call = Call { function: LIGHT, args: [attempts, self.word(), shape.number()] };
         let case = self.over(call, family, lan, device, locks(family, lan));
@@ -55,7 +55,7 @@ impl List {
         self.light(port, attempts(port.0), number / 12, shape)
     }
 
-    fn drawn(&mut self, of: &[u32]) -> u32 {
+    pub fn drawn(&mut self, of: &[u32]) -> u32 {
         of[self.word() as usize % of.len()]
     }
 

@@ -27,7 +27,7 @@ pub fn add(list: &mut List) {
     random_rounds(list);
 }
 
-fn rounds(case: Case) -> Case {
+pub fn rounds(case: Case) -> Case {
     Case { sequence: Sequence::Rounds, ..case }
 }
 

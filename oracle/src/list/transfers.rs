@@ -89,7 +89,7 @@ impl List {
         Call { function: WRITE_COMBINED, args: packed(device, reg, value, lock) }
     }
 
-    fn script(&mut self, phrases: &[Phrase]) -> Call {
+    pub fn script(&mut self, phrases: &[Phrase]) -> Call {
         let seed = self.word();
         script_of(seed, phrases)
     }

@@ -4,7 +4,7 @@ use Rattle.bus.specs.Clear.{accessClear, clearNext, commandOf, restClear
 use Rattle.bus.specs.Command.{jobNext, validJobNext}
 use Rattle.hardware.specs.Prog.{_>>=_, erase, followed, pick}
 use Rattle.hardware.specs.Registers.{byte}
-use Rattle.hardware.proofs.Prog.{going}
+use Rattle.hardware.proofs.Prog.{heard-on}
 use borrow.Author.Needs.{needs}
 use mathlib.Core.Path.{refl}
 use Rattle.bus.proofs.clear.stopped.Statement.{statement}
@@ -31,7 +31,7 @@ returns c = (rw (c .before .before .before .before .before .before .n2 .given .1
 
 returns-2 : tie.Need-returns-2
 unfolding clearNext accessClear restClear restPart jobNext validClearNext validClear validPart commandOf validJobNext pick
-returns-2 c = (rw (c .before .n .given .1) (going _ _ _), λ h. rw (c .before .n .given .1) at h)
+returns-2 c = (rw (c .before .n .given .1) (heard-on _ _ _ _), λ h. rw (c .before .n .given .1) at h)
 
 returns-3 : tie.Need-returns-3
 unfolding followed _>>=_ jobNext orHeld byte quieted orQuiet erase pick clearNext validClearNext

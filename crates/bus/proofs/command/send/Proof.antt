@@ -6,12 +6,12 @@ use borrow.Author.Tests.{le-ltb, lt-ltb}
 use Rattle.bus.proofs.command.send.Statement.{statement}
 use Rattle.bus.proofs.command.send.Tie as tie
 
-sense-requires : tie.Need-sense-requires
-sense-requires c κs = search needs
+ack-requires : tie.Need-ack-requires
+ack-requires c κs = search needs
 
 returns : tie.Need-returns
 unfolding sendCall pick
-returns c = simp (lt-ltb _ _ (c .before .if1 .taken)) (c .sense .ensures)
+returns c = simp (lt-ltb _ _ (c .before .if1 .taken)) (c .ack .ensures)
 
 bit-requires : tie.Need-bit-requires
 bit-requires c κs = search needs
@@ -24,4 +24,4 @@ unfolding sendCall pick
 returns-2 c = simp (le-ltb _ _ (c .before .before .if1 .left)) (rw (c .before .bit .ensures) at (c .out-bit .ensures))
 
 pub send-spec : {M : Type 1} → statement M
-send-spec = tie.close (tie.spec sense-requires returns bit-requires out-bit-requires returns-2)
+send-spec = tie.close (tie.spec ack-requires returns bit-requires out-bit-requires returns-2)

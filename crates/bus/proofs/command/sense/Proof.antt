@@ -27,7 +27,7 @@ unfolding senseCall
 returns-5 c = rw (c .match .keys5)
 
 returns-6 : tie.Need-returns-6
-returns-6 c = sym (sense-first (c .before .args .call) (c .before .args .n) (omega (arith, c .match .rest)))
+returns-6 c = sym (sense-first (c .before .args .n) (omega (arith, c .match .rest)))
 
 pub sense-spec : {M : Type 1} → statement M
 sense-spec = tie.close (tie.spec returns returns-2 returns-3 returns-4 returns-5 returns-6)

@@ -1,6 +1,7 @@
 -- `reach` meets its contract.
+use Rattle.hardware.specs.Marks.{acknowledged}
 use Rattle.bus.specs.Bus.{get, orHeld}
-use Rattle.bus.specs.Line.{accessAt, accessLine, lineNext, reached, restAt, restLine, validGoal, validLine, validLineNext}
+use Rattle.bus.specs.Line.{accessAt, accessLine, lineNext, reached, restAt, restLine, validGoal, validLine, validLineNext, heardAt, heardGoal}
 use Rattle.hardware.specs.Prog.{erase}
 use Rattle.hardware.specs.Registers.{outcome, word}
 use borrow.Author.Needs.{needs}
@@ -43,7 +44,7 @@ unfolding reached validLineNext
 returns c = (λ k. rw (c .before .enum-told .given .1) (c .sda-free .ensures .0 k), λ h. c .sda-free .ensures .1)
 
 returns-2 : tie.Need-returns-2
-unfolding lineNext accessLine accessAt restLine restAt erase reached get validLineNext validLine
+unfolding lineNext acknowledged heardAt heardGoal accessLine accessAt restLine restAt erase reached get validLineNext validLine
 returns-2 c = (λ k. rw (c .before .enum-told2 .given .1, c .at .ensures), λ h. rw (c .at .ensures))
 
 returns-3 : tie.Need-returns-3
@@ -59,7 +60,7 @@ unfolding lineNext orHeld erase outcome word reached validLineNext
 returns-5 c = (λ k. rw (c .enum-told5 .given .1), λ h. refl)
 
 returns-6 : tie.Need-returns-6
-unfolding lineNext accessLine accessAt restLine restAt erase reached get validLineNext validLine validGoal
+unfolding lineNext acknowledged heardAt heardGoal accessLine accessAt restLine restAt erase reached get validLineNext validLine validGoal
 returns-6 c = (λ k. rw (c .before .before .g .given .1, c .at2 .ensures), λ h. rw (c .at2 .ensures) (rw (c .before .before .g .given .1) at h))
 
 returns-7 : tie.Need-returns-7

@@ -16,14 +16,14 @@ enum-told-3 c = search needs
 enum-told-4 : tie.Need-enum-told-4
 enum-told-4 c = search needs
 
-enum-told-5 : tie.Need-enum-told-5
-enum-told-5 c = search needs
-
 enum-known-g : tie.Need-enum-known-g
 enum-known-g c = search needs
 
-enum-told-6 : tie.Need-enum-told-6
-enum-told-6 c = search needs
+enum-known-g-2 : tie.Need-enum-known-g-2
+enum-known-g-2 c = search needs
+
+enum-told-5 : tie.Need-enum-told-5
+enum-told-5 c = search needs
 
 returns : tie.Need-returns
 unfolding validGoal
@@ -43,17 +43,17 @@ returns-4 c = rw (c .enum-told4 .given .1)
 
 returns-5 : tie.Need-returns-5
 unfolding validGoal
-returns-5 c = rw (c .enum-told5 .given .1)
+returns-5 c = rw (c .before .g .given .1)
 
 returns-6 : tie.Need-returns-6
 unfolding validGoal
-returns-6 c = rw (c .before .g .given .1)
+returns-6 c = rw (c .before .g2 .given .1)
 
 returns-7 : tie.Need-returns-7
 unfolding validGoal
-returns-7 c = rw (c .enum-told6 .given .1)
+returns-7 c = rw (c .enum-told5 .given .1)
 
 pub valid-goal-spec : {M : Type 1} → statement M
 valid-goal-spec =
-    tie.close (tie.spec enum-told enum-told-2 enum-told-3 enum-told-4 enum-told-5 enum-known-g enum-told-6 returns
+    tie.close (tie.spec enum-told enum-told-2 enum-told-3 enum-told-4 enum-known-g enum-known-g-2 enum-told-5 returns
     returns-2 returns-3 returns-4 returns-5 returns-6 returns-7)

@@ -1,6 +1,7 @@
 -- `write_seen` meets its contract.
+use Rattle.hardware.specs.Marks.{acknowledged}
 use Rattle.bus.specs.Bus.{flushing, orHeld}
-use Rattle.bus.specs.Line.{accessAt, accessLine, lineNext, restAt, restLine, validLine, validLineNext}
+use Rattle.bus.specs.Line.{accessAt, accessLine, lineNext, restAt, restLine, validLine, validLineNext, heardAt, heardGoal}
 use Rattle.hardware.specs.Prog.{erase}
 use Rattle.hardware.specs.Registers.{outcome, word}
 use borrow.Author.Needs.{needs}
@@ -18,7 +19,7 @@ enum-known-o : tie.Need-enum-known-o
 enum-known-o c = search needs
 
 returns : tie.Need-returns
-unfolding lineNext accessLine accessAt restLine restAt erase orHeld outcome flushing validLineNext validLine
+unfolding lineNext acknowledged heardAt heardGoal accessLine accessAt restLine restAt erase orHeld outcome flushing validLineNext validLine
 returns c = (λ k. rw (c .before .enum-told .given .1, c .at .ensures), λ h. rw (c .at .ensures) h)
 
 returns-2 : tie.Need-returns-2

@@ -1,6 +1,6 @@
 -- `opened` meets its contract.
 use Rattle.bus.proofs.Laws.{picked}
-use Rattle.hardware.proofs.Laws.{opened-valid}
+use Rattle.hardware.proofs.Laws.{held-blank, opened-valid}
 use Rattle.hardware.specs.Asked.{andThen, portOpened, question, yes}
 use Rattle.hardware.proofs.Prog.{over-tally}
 use Rattle.i2c.proofs.Laws.{limit-allows, limit-room}
@@ -36,7 +36,7 @@ told-requires c κs = search needs
 
 returns : tie.Need-returns
 unfolding openTransfer andThen portOpened question transferred validOperands
-returns c = record { yields = rw (← c .before .before .before .before .before .before .before .before .before .open-port .ensures, c .before .before .before .before .before .before .before .p .given .1, ← c .before .before .before .before .before .even .ensures, c .before .before .before .before .if1 .taken, le-leb _ _ (c .before .before .before .if2 .taken)) (c .told .ensures .yields (omega arith) ∙ ap yes (over-tally _ _ _ refl (rw (c .before .before .tries .ensures) at (c .before .«open» .ensures .yields)))); limits = c .told .ensures .limits (picked _ _ (opened-valid _ _ _ (c .before .before .before .before .before .before .before .p .given .1) (c .before .before .before .before .before .before .before .before .before .open-port .ensures)) (rw (← c .before .before .before .before .before .even .ensures) (c .before .before .before .before .if1 .taken))) (c .before .«open» .ensures .limits _ (rw (c .before .before .tries .ensures) (limit-allows (c .before .before .before .before .before .before .before .before .before .before .args .r) (c .before .before .before .before .before .before .before .before .before .before .args .attempts) (c .before .before .before .if2 .taken)))) (limit-room (c .before .before .before .before .before .before .before .before .before .before .args .r) _ (c .before .before .before .before .before .before .before .before .before .before .args .attempts) _ (c .before .before .tries .ensures) (c .before .before .before .if2 .taken) (c .before .«open» .ensures .due)) }
+returns c = record { yields = rw (← c .before .before .before .before .before .before .before .before .before .open-port .ensures, c .before .before .before .before .before .before .before .p .given .1, ← c .before .before .before .before .before .even .ensures, c .before .before .before .before .if1 .taken, le-leb _ _ (c .before .before .before .if2 .taken)) (c .told .ensures .yields (omega arith) ∙ ap yes (over-tally _ _ _ refl (rw (c .before .before .tries .ensures) at (c .before .«open» .ensures .yields)))); limits = c .told .ensures .limits (picked _ _ (held-blank _ (opened-valid _ _ _ (c .before .before .before .before .before .before .before .p .given .1) (c .before .before .before .before .before .before .before .before .before .open-port .ensures))) (rw (← c .before .before .before .before .before .even .ensures) (c .before .before .before .before .if1 .taken))) (c .before .«open» .ensures .limits _ (rw (c .before .before .tries .ensures) (limit-allows (c .before .before .before .before .before .before .before .before .before .before .args .r) (c .before .before .before .before .before .before .before .before .before .before .args .attempts) (c .before .before .before .if2 .taken)))) (limit-room (c .before .before .before .before .before .before .before .before .before .before .args .r) _ (c .before .before .before .before .before .before .before .before .before .before .args .attempts) _ (c .before .before .tries .ensures) (c .before .before .before .if2 .taken) (c .before .«open» .ensures .due)) }
 
 returns-2 : tie.Need-returns-2
 unfolding openTransfer andThen portOpened question saidTransfer standsTransfer

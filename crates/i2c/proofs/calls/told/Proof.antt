@@ -3,7 +3,7 @@ use Rattle.bus.proofs.Laws.{picked}
 use Rattle.hardware.specs.Asked.{yes}
 use Rattle.hardware.specs.Prog.{_>>=_, erase, followed, tally}
 use Rattle.hardware.proofs.Prog.{asked-on, going-on}
-use Rattle.i2c.proofs.Laws.{fits-valid, limit-most}
+use Rattle.i2c.proofs.Laws.{fits-valid, limit-most, operands-on}
 use Rattle.i2c.specs.Calls.{restCall, saidTransfer, standsTransfer, validCall}
 use Rattle.i2c.specs.I2c.{givesValue}
 use Rattle.i2c.specs.Handshake.{dueHandshakeNext, handshakeNext, validHandshakeNext}
@@ -29,7 +29,7 @@ value-requires c κs = search needs
 
 returns : tie.Need-returns
 unfolding saidTransfer restCall handshakeNext standsTransfer validCall validHandshakeNext dueHandshakeNext
-returns c = rw (c .before .before .before .n .given .1, ← c .before .access .ensures, c .meter-on .ensures) (record { yields = λ h. ap yes (asked-on _ _ _ _ h ∙ ap (tally _) (going-on _ _ _ _)); limits = λ p v h. (refl, picked _ _ p (fits-valid _ _ _ _ _ _ _ (limit-most _) v h)) })
+returns c = rw (c .before .before .before .n .given .1, ← c .before .access .ensures, c .meter-on .ensures) (record { yields = λ h. ap yes (asked-on _ _ _ _ h ∙ ap (tally _) (going-on _ _ _ _)); limits = λ p v h. (refl, picked _ _ (operands-on _ _ _ _ p) (fits-valid _ _ _ _ _ _ _ (limit-most _) v h)) })
 
 returns-2 : tie.Need-returns-2
 unfolding saidTransfer handshakeNext followed _>>=_ givesValue erase tally standsTransfer

@@ -44,11 +44,11 @@ returns c =
     let e = c .before .before .enum-told .given .1 in
     let h = rw (c .before .before .before .before .before .before .valid .ensures, c .before .before .before .before .before .access .ensures) at (c .before .before .before .before .admit .ensures) in
     let v = admits-valid _ _ _ e h in
-    let fits = valid-fits _ _ _ _ _ _ (picked-second (validOperands _ _) _ v) in
+    let fits = valid-fits _ _ _ _ _ _ (picked-second (validOperands _ _ _) _ v) in
     rw (c .before .before .before .before .before .before .before .before .s .given .1)
     (record {
-      yields = c .told .ensures .yields (fits-below _ _ _ _ _ _ (limit-most _) (picked-second (validOperands _ _) _ v)) ∙ ap yes (over-tally _ _ _ refl (c .before .step .ensures .yields)) ∙ sym (admits-yes _ _ _ _ e h);
-      limits = c .told .ensures .limits (picked-first (validOperands _ _) _ v) (c .before .step .ensures .limits (limitOf _) (fits .counters)) (omega (arith, fits .all, c .before .step .ensures .due));
+      yields = c .told .ensures .yields (fits-below _ _ _ _ _ _ (limit-most _) (picked-second (validOperands _ _ _) _ v)) ∙ ap yes (over-tally _ _ _ refl (c .before .step .ensures .yields)) ∙ sym (admits-yes _ _ _ _ e h);
+      limits = c .told .ensures .limits (picked-first (validOperands _ _ _) _ v) (c .before .step .ensures .limits (limitOf _) (fits .counters)) (omega (arith, fits .all, c .before .step .ensures .due));
     })
 
 returns-2 : tie.Need-returns-2

@@ -1,5 +1,5 @@
 -- `asked` meets its contract.
-use Rattle.hardware.specs.Marks.{marked, more}
+use Rattle.hardware.specs.Marks.{acknowledged, marked, more}
 use Rattle.hardware.specs.Change.{updateNext}
 use Rattle.hardware.specs.Prog.{_>>=_, erase, followed, orErr, pick}
 use Rattle.hardware.specs.Registers.{outcome}
@@ -28,7 +28,7 @@ enum-known-o : tie.Need-enum-known-o
 enum-known-o c = search needs
 
 returns : tie.Need-returns
-unfolding marked handshakeNext accessHandshake restHandshake validHandshakeNext validHandshake dueHandshakeNext dueHandshake more pick updateNext
+unfolding marked acknowledged handshakeNext accessHandshake restHandshake validHandshakeNext validHandshake dueHandshakeNext dueHandshake more pick updateNext
 returns c = record { yields = λ how. rw (c .before .n .given .1) (going _ _ _); limits = λ most h. h; due = omega arith }
 
 returns-2 : tie.Need-returns-2

@@ -1,5 +1,5 @@
 -- `close` meets its contract.
-use Rattle.hardware.specs.Marks.{marked, more}
+use Rattle.hardware.specs.Marks.{acknowledged, marked, more}
 use Rattle.hardware.specs.Change.{accessUpdate, change, restUpdate}
 use Rattle.hardware.specs.Prog.{_>>=_, erase, pick}
 use Rattle.i2c.specs.I2c.{givenBus}
@@ -13,7 +13,7 @@ has-handshake-requires : tie.Need-has-handshake-requires
 has-handshake-requires c κs = search needs
 
 returns : tie.Need-returns
-unfolding handshakeNext accessHandshake restHandshake marked validHandshakeNext validHandshake dueHandshakeNext dueHandshake more pick closing givenBus change accessUpdate restUpdate erase _>>=_
+unfolding handshakeNext accessHandshake restHandshake marked acknowledged validHandshakeNext validHandshake dueHandshakeNext dueHandshake more pick closing givenBus change accessUpdate restUpdate erase _>>=_
 returns c = record { yields = λ how. rw (← c .before .has-handshake .ensures, c .if1 .taken); limits = λ most. refl; due = refl }
 
 returns-2 : tie.Need-returns-2

@@ -1,5 +1,5 @@
 -- `looked` meets its contract.
-use Rattle.hardware.specs.Marks.{marked, more}
+use Rattle.hardware.specs.Marks.{acknowledged, marked, more}
 use Rattle.bus.proofs.Laws.{picked}
 use Rattle.hardware.specs.Prog.{_>>=_, erase, orErr, pick}
 use Rattle.hardware.specs.Registers.{word}
@@ -20,7 +20,7 @@ none-of-requires : tie.Need-none-of-requires
 none-of-requires c κs = search needs
 
 returns : tie.Need-returns
-unfolding handshakeNext accessHandshake restHandshake marked validHandshakeNext validHandshake dueHandshakeNext dueHandshake more pick lookedAt word orErr granting erase _>>=_ awaitingGrant
+unfolding handshakeNext accessHandshake restHandshake marked acknowledged validHandshakeNext validHandshake dueHandshakeNext dueHandshake more pick lookedAt word orErr granting erase _>>=_ awaitingGrant
 returns c = record { yields = rw (c .before .before .before .w .given .1, ← c .before .none-of .ensures, c .if1 .taken); limits = λ most h g. picked _ _ g (lt-ltb _ _ h); due = omega arith }
 
 enter-requires : tie.Need-enter-requires

@@ -1,5 +1,5 @@
 -- `judge` meets its contract.
-use Rattle.hardware.specs.Marks.{marked, more}
+use Rattle.hardware.specs.Marks.{acknowledged, marked, more}
 use Rattle.bus.proofs.Laws.{picked}
 use Rattle.hardware.specs.Prog.{_>>=_, ask, erase, orErr, pick}
 use Rattle.hardware.specs.Registers.{micros}
@@ -21,7 +21,7 @@ pauses-requires : tie.Need-pauses-requires
 pauses-requires c κs = search needs
 
 returns : tie.Need-returns
-unfolding readJudged retryNext accessRetry accessStage restRetry restStage marked validRetryNext validRetry validStage dueRetryNext dueRetry dueStage more pick erase _>>=_ orErr
+unfolding readJudged retryNext accessRetry accessStage restRetry restStage marked acknowledged validRetryNext validRetry validStage dueRetryNext dueRetry dueStage more pick erase _>>=_ orErr
 returns c = record { yields = λ w. rw (← c .before .before .before .failed .ensures, c .before .before .if1 .taken, ← c .before .pauses .ensures, c .if2 .taken) (ap (λ p. ask (Wait (micros 100000)) (λ a. erase p)) (tries-reads (c .before .before .before .before .args .port) (c .before .before .before .before .args .r) (c .before .before .before .before .args .how) (c .before .before .before .before .args .left) w)); limits = λ tries h. picked _ _ (lt-ltb _ _ h) refl; due = omega arith }
 
 again-requires : tie.Need-again-requires

@@ -1,5 +1,5 @@
 -- `released` meets its contract.
-use Rattle.hardware.specs.Marks.{marked, more}
+use Rattle.hardware.specs.Marks.{acknowledged, marked, more}
 use Rattle.bus.proofs.Laws.{picked}
 use Rattle.hardware.specs.Prog.{_>>=_, erase, followed, orErr, pick}
 use Rattle.hardware.specs.Registers.{outcome}
@@ -30,7 +30,7 @@ enum-known-o : tie.Need-enum-known-o
 enum-known-o c = search needs
 
 returns : tie.Need-returns
-unfolding marked retryNext accessRetry accessStage restRetry restStage validRetryNext validRetry validStage dueRetryNext dueRetry dueStage more pick releaseBitsNext validReleaseBitsNext
+unfolding marked acknowledged retryNext accessRetry accessStage restRetry restStage validRetryNext validRetry validStage dueRetryNext dueRetry dueStage more pick releaseBitsNext validReleaseBitsNext
 returns c = record { yields = rw (c .before .n .given .1) (going _ _ _); limits = λ tries h g. picked _ _ (lt-ltb _ _ h) (rw (c .before .n .given .1) at g); due = omega arith }
 
 returns-2 : tie.Need-returns-2

@@ -1,4 +1,5 @@
 -- `opened` meets its contract.
+use Rattle.hardware.proofs.Laws.{held-blank}
 use Rattle.hardware.specs.Asked.{yes}
 use Rattle.hardware.specs.Prog.{blank, tally}
 use Rattle.hardware.proofs.Prog.{tally-erase}
@@ -18,7 +19,7 @@ returns : tie.Need-returns
 returns c =
     record {
       yields = (c .told .ensures .yields (omega arith) ∙ ap yes (ap (tally blank) (c .before .begin .ensures .yields) ∙ tally-erase blank _));
-      limits = λ p v h. c .told .ensures .limits p (c .before .begin .ensures .limits blank v (omega (arith, h)));
+      limits = λ p v h. c .told .ensures .limits (held-blank _ p) (c .before .begin .ensures .limits blank v (omega (arith, h)));
     }
 
 pub opened-spec : {M : Type 1} → statement M

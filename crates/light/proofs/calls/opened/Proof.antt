@@ -1,4 +1,5 @@
 -- `opened` meets its contract.
+use Rattle.hardware.proofs.Laws.{held-blank}
 use Rattle.hardware.proofs.Prog.{tally-erase}
 use Rattle.hardware.specs.Asked.{question, yes}
 use Rattle.hardware.specs.Prog.{blank, tally}
@@ -30,7 +31,7 @@ unfolding openOn question light
 returns-2 c =
     record {
       yields = rw (le-leb _ _ (c .before .before .if1 .left)) (c .told .ensures .yields (omega arith) ∙ ap yes (ap (tally blank) (c .before .begin .ensures .yields) ∙ tally-erase blank _));
-      limits = λ p. c .told .ensures .limits p (c .before .begin .ensures .limits blank (omega arith) (cap-first _));
+      limits = λ p. c .told .ensures .limits (held-blank _ p) (c .before .begin .ensures .limits blank (omega arith) (cap-first _));
     }
 
 pub opened-spec : {M : Type 1} → statement M

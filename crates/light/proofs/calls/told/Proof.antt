@@ -2,6 +2,7 @@
 use Rattle.bus.proofs.Laws.{picked}
 use Rattle.hardware.specs.Asked.{yes}
 use Rattle.hardware.specs.Prog.{tally}
+use Rattle.hardware.proofs.Laws.{held-on}
 use Rattle.hardware.proofs.Prog.{asked-on}
 use Rattle.light.specs.Calls.{saidLight, standsLight, validCall}
 use Rattle.light.specs.Walk.{lightNext, validLightNext}
@@ -24,7 +25,7 @@ enum-known-n-2 c = search needs
 
 returns : tie.Need-returns
 unfolding saidLight lightNext standsLight validCall validLightNext
-returns c = rw (c .before .before .before .n .given .1, ← c .before .access .ensures, c .meter-on .ensures) (record { yields = λ h. ap yes (asked-on _ _ _ _ h); limits = λ p v. (refl, picked _ _ p v) })
+returns c = rw (c .before .before .before .n .given .1, ← c .before .access .ensures, c .meter-on .ensures) (record { yields = λ h. ap yes (asked-on _ _ _ _ h); limits = λ p v. (refl, picked _ _ (held-on _ _ _ p) v) })
 
 returns-2 : tie.Need-returns-2
 unfolding saidLight lightNext tally standsLight

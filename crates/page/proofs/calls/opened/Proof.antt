@@ -1,4 +1,5 @@
 -- `opened` meets its contract.
+use Rattle.hardware.proofs.Laws.{held-blank}
 use Rattle.hardware.proofs.Prog.{tally-erase}
 use Rattle.hardware.specs.Asked.{question}
 use Rattle.hardware.specs.Lent.{goes, lent}
@@ -35,7 +36,7 @@ unfolding openForm question lent bufferFits page
 returns-3 c =
     record {
       yields = rw (le-leb _ _ (c .before .before .before .if1 .left), le-leb _ _ (c .before .before .if2 .left)) (c .told .ensures .yields _ (omega arith) ∙ ap goes (ap (tally blank) (c .before .begin .ensures .yields _) ∙ tally-erase blank _));
-      limits = λ p. c .told .ensures .limits p (c .before .begin .ensures .limits blank (omega arith) (cap-first _));
+      limits = λ p. c .told .ensures .limits (held-blank _ p) (c .before .begin .ensures .limits blank (omega arith) (cap-first _));
       holds = filled-as _ _ _ _ (c .before .begin .ensures .holds _) (c .told .ensures .holds _);
     }
 

@@ -1,7 +1,7 @@
 -- `page_on` meets its contract.
 use Rattle.hardware.proofs.Laws.{admits-no, admits-valid, admits-yes, both-true}
 use Rattle.hardware.proofs.Prog.{tally-erase}
-use Rattle.hardware.specs.Asked.{validPort}
+use Rattle.hardware.specs.Marks.{validHeld}
 use Rattle.hardware.specs.Lent.{goes, lent}
 use Rattle.hardware.specs.Prog.{tally}
 use Rattle.page.proofs.Laws.{filled-as, valid-below}
@@ -41,7 +41,7 @@ unfolding steppedPage bufferStepped kept lent validCall filledCall
 returns c =
     let e = c .before .before .before .before .before .enum-told .given .1 in
     let h = rw (c .before .before .before .before .before .before .before .before .before .valid .ensures, c .before .before .before .before .before .before .before .before .access .ensures) at (c .before .before .before .before .before .before .before .admit .ensures) in
-    let v = both-true (validPort _) _ (admits-valid _ _ _ e h) in
+    let v = both-true (validHeld _ _) _ (admits-valid _ _ _ e h) in
     record {
       yields = c .told .ensures .yields _ (valid-below _ _ _ _ _ (omega arith) (v .1)) ∙ ap goes (ap (tally _) (c .before .before .before .step .ensures .yields) ∙ tally-erase _ _) ∙ ap (lent _) (sym (admits-yes _ _ _ _ e h));
       holds = c .before .before .before .step .ensures .holds ∙ ap (kept _) (sym (admits-yes _ _ _ _ e h));

@@ -1,5 +1,6 @@
 -- `told` meets its contract.
 use Rattle.bus.proofs.Laws.{picked}
+use Rattle.hardware.proofs.Laws.{held-on}
 use Rattle.hardware.proofs.Prog.{asked-on}
 use Rattle.hardware.specs.Lent.{goes}
 use Rattle.hardware.specs.Prog.{tally}
@@ -24,7 +25,7 @@ enum-known-n-2 c = search needs
 
 returns : tie.Need-returns
 unfolding saidPage pageNext standsPage validCall validPageNext FilledAs filledCall filledNext
-returns c = rw (c .before .before .before .n .given .1, ← c .before .access .ensures, c .meter-on .ensures) (record { yields = λ l h. ap goes (asked-on _ _ _ _ h); limits = λ p v. (refl, picked _ _ p v); holds = λ b l. refl })
+returns c = rw (c .before .before .before .n .given .1, ← c .before .access .ensures, c .meter-on .ensures) (record { yields = λ l h. ap goes (asked-on _ _ _ _ h); limits = λ p v. (refl, picked _ _ (held-on _ _ _ p) v); holds = λ b l. refl })
 
 returns-2 : tie.Need-returns-2
 unfolding saidPage pageNext tally standsPage FilledAs filledNext

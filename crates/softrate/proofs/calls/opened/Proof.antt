@@ -1,4 +1,5 @@
 -- `opened` meets its contract.
+use Rattle.hardware.proofs.Laws.{held-blank}
 use Rattle.hardware.specs.Asked.{yes}
 use Rattle.hardware.specs.Prog.{blank, erase, pick, tally}
 use Rattle.hardware.proofs.Prog.{tally-erase}
@@ -21,7 +22,7 @@ unfolding validSpot capAt before upTo triesAt pick
 returns c =
     record {
       yields = (c .told .ensures .yields (omega arith) ∙ ap yes (ap (tally blank) (c .before .begin .ensures .yields ∙ ap erase (first-placed _ _ _)) ∙ tally-erase blank _));
-      limits = λ p. c .told .ensures .limits p (c .before .begin .ensures .limits blank refl (omega arith));
+      limits = λ p. c .told .ensures .limits (held-blank _ p) (c .before .begin .ensures .limits blank refl (omega arith));
     }
 
 pub opened-spec : {M : Type 1} → statement M

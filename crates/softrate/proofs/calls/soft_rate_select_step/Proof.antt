@@ -1,7 +1,8 @@
 -- `soft_rate_select_step` meets its contract.
 use Rattle.bus.proofs.Laws.{picked-first, picked-second}
 use Rattle.hardware.proofs.Laws.{admits-no, admits-valid, admits-yes}
-use Rattle.hardware.specs.Asked.{validPort, yes}
+use Rattle.hardware.specs.Asked.{yes}
+use Rattle.hardware.specs.Marks.{validHeld}
 use Rattle.hardware.specs.Prog.{tally}
 use Rattle.hardware.proofs.Prog.{tally-erase}
 use Rattle.softrate.proofs.Laws.{valid-below}
@@ -46,8 +47,8 @@ returns c =
     let v = admits-valid _ _ _ e h in
     rw (c .before .before .before .before .before .before .before .before .s .given .1)
     (record {
-      yields = c .told .ensures .yields (valid-below _ _ _ _ (picked-second (validPort _) _ v)) ∙ ap yes (ap (tally _) (c .before .step .ensures .yields) ∙ tally-erase _ _) ∙ sym (admits-yes _ _ _ _ e h);
-      limits = c .told .ensures .limits (picked-first (validPort _) _ v) (c .before .step .ensures .limits _ (picked-second (validPort _) _ v));
+      yields = c .told .ensures .yields (valid-below _ _ _ _ (picked-second (validHeld _ _) _ v)) ∙ ap yes (ap (tally _) (c .before .step .ensures .yields) ∙ tally-erase _ _) ∙ sym (admits-yes _ _ _ _ e h);
+      limits = c .told .ensures .limits (picked-first (validHeld _ _) _ v) (c .before .step .ensures .limits _ (picked-second (validHeld _ _) _ v));
     })
 
 returns-2 : tie.Need-returns-2

@@ -2,8 +2,8 @@
 use Rattle.bus.specs.Clear.{clearNext, validClearNext}
 use Rattle.hardware.specs.Failures.{failureOf}
 use Rattle.hardware.specs.Prog.{_>>=_, erase, followed}
-use Rattle.hardware.proofs.Prog.{going}
-use Rattle.transfer.specs.Attempt.{accessAttempt, attemptNext, awaiting, cleared, got, orCleared, restAttempt, validAttempt, validAttemptNext}
+use Rattle.hardware.proofs.Prog.{heard-on}
+use Rattle.transfer.specs.Attempt.{accessAttempt, heardAttempt, attemptNext, awaiting, cleared, got, orCleared, restAttempt, validAttempt, validAttemptNext}
 use Rattle.transfer.specs.Left.{attemptNextLeft, attemptLeft}
 use borrow.Author.Needs.{needs}
 use mathlib.Core.Path.{refl}
@@ -27,10 +27,10 @@ clear-done-requires : tie.Need-clear-done-requires
 clear-done-requires c κs = search needs
 
 returns : tie.Need-returns
-unfolding attemptNext awaiting accessAttempt restAttempt validAttemptNext validAttempt clearNext validClearNext attemptNextLeft attemptLeft
+unfolding attemptNext awaiting heardAttempt accessAttempt restAttempt validAttemptNext validAttempt clearNext validClearNext attemptNextLeft attemptLeft
 returns c =
     record {
-      yields = λ m q s. rw (c .before .n .given .1) (going _ _ _);
+      yields = λ m q s. rw (c .before .n .given .1) (heard-on _ _ _ _);
       limits = λ s h. rw (c .before .n .given .1) at h;
       within = rw (c .before .n .given .1) (omega arith);
     }

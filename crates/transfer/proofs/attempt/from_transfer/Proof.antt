@@ -1,8 +1,8 @@
 -- `from_transfer` meets its contract.
 use Rattle.hardware.specs.Prog.{_>>=_, erase, followed}
-use Rattle.hardware.proofs.Prog.{going}
+use Rattle.hardware.proofs.Prog.{heard-on}
 use Rattle.transfer.proofs.Laws.{told-on}
-use Rattle.transfer.specs.Attempt.{accessAttempt, attemptNext, awaiting, got, orTried, restAttempt, tried, validAttempt, validAttemptNext}
+use Rattle.transfer.specs.Attempt.{accessAttempt, heardAttempt, attemptNext, awaiting, got, orTried, restAttempt, tried, validAttempt, validAttemptNext}
 use Rattle.transfer.specs.Transfer.{asking, transferNext, validTransferNext}
 use Rattle.transfer.specs.Left.{attemptNextLeft, attemptLeft, transferNextLeft}
 use borrow.Author.Needs.{needs}
@@ -30,19 +30,19 @@ failed-requires : tie.Need-failed-requires
 failed-requires c κs = search needs
 
 returns : tie.Need-returns
-unfolding attemptNext awaiting accessAttempt restAttempt validAttemptNext validAttempt transferNext asking validTransferNext attemptNextLeft attemptLeft transferNextLeft
+unfolding attemptNext awaiting heardAttempt accessAttempt restAttempt validAttemptNext validAttempt transferNext asking validTransferNext attemptNextLeft attemptLeft transferNextLeft
 returns c =
     record {
-      yields = λ m s. rw (c .before .n .given .1) (going _ _ _);
+      yields = λ m s. rw (c .before .n .given .1) (heard-on _ _ _ _);
       limits = λ s h. rw (c .before .n .given .1) at h;
       within = rw (c .before .n .given .1) (omega arith);
     }
 
 returns-2 : tie.Need-returns-2
-unfolding attemptNext awaiting accessAttempt restAttempt validAttemptNext validAttempt transferNext asking validTransferNext attemptNextLeft attemptLeft transferNextLeft
+unfolding attemptNext awaiting heardAttempt accessAttempt restAttempt validAttemptNext validAttempt transferNext asking validTransferNext attemptNextLeft attemptLeft transferNextLeft
 returns-2 c =
     record {
-      yields = λ m s. rw (c .before .n2 .given .1) (told-on m _ _ _ _);
+      yields = λ m s. rw (c .before .n2 .given .1) (told-on m _ _ _ _ _);
       limits = λ s h. rw (c .before .n2 .given .1) at h;
       within = rw (c .before .n2 .given .1) (omega arith);
     }

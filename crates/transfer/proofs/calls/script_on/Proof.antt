@@ -1,6 +1,8 @@
 -- `script_on` meets its contract.
 use Rattle.hardware.proofs.Laws.{admits-fits, admits-typed, admits-no, admits-valid, admits-yes, both-true}
-use Rattle.hardware.specs.Asked.{validPort, yes}
+use lib.Dec.{eqb}
+use Rattle.hardware.specs.Asked.{yes}
+use Rattle.hardware.specs.Marks.{validHeld}
 use Rattle.transfer.proofs.Laws.{script-rest}
 use Rattle.transfer.specs.Calls.{saidScript, standsScript, steppedScript, validScript}
 use Rattle.transfer.specs.Transfer.{handing}
@@ -9,6 +11,7 @@ use Rattle.transfer.proofs.Left.{attempt-some}
 use native.Mathlib.Omega.{arith}
 use Rattle.transfer.specs.Left.{callLeft, scriptLeft}
 use borrow.Author.Needs.{needs}
+use borrow.Author.Tests.{eqb-true}
 use mathlib.Core.Path.{_∙_, ap, sym}
 use Rattle.transfer.proofs.calls.script_on.Statement.{statement}
 use Rattle.transfer.proofs.calls.script_on.Tie as tie
@@ -47,10 +50,12 @@ returns c =
     let l = c .before .before .before .before .before .before .before .before .layout-of .ensures in
     let e = c .before .before .before .enum-told .given .1 in
     let h = rw (c .before .before .before .before .before .before .before .valid .ensures, c .before .before .before .before .before .before .access .ensures, l) at (c .before .before .before .before .before .admit .ensures) in
-    let v = both-true (validPort _) _ (admits-valid _ _ _ e h) in
+    let v = both-true (validHeld _ _) _ (admits-valid _ _ _ e h) in
+    let w = both-true (eqb (args .m .transfers) 1) _ (v .1) in
+    let one = eqb-true (args .m .transfers) 1 (w .0) in
     record {
-      yields = c .told .ensures .yields (args .script .now) ∙ ap yes (script-rest (args .port) (args .script .now) (args .t) (args .a) _ (rw (l, c .before .before .device .ensures) at (c .before .step .ensures .yields handing))) ∙ sym (admits-yes _ _ _ _ e h);
-      limits = λ f. c .told .ensures .limits (args .script .now) (v .0) (rw l at (c .before .step .ensures .limits f (rw l (v .1))));
+      yields = c .told .ensures .yields (args .script .now) one ∙ ap yes (script-rest (args .port) (args .m) (args .script .now) (args .t) (args .a) _ (rw (l, c .before .before .device .ensures) at (c .before .step .ensures .yields handing))) ∙ sym (admits-yes _ _ _ _ e h);
+      limits = λ f. c .told .ensures .limits (args .script .now) (v .0) one (rw l at (c .before .step .ensures .limits f (rw l (w .1))));
       within = λ g. omega (arith, c .told .ensures .within, rw l at (c .before .step .ensures .within g (rw l (admits-fits _ _ _ e h)) (admits-typed _ _ _ e h)));
     }
 

@@ -1,6 +1,7 @@
 -- `script_open` meets its contract.
-use Rattle.hardware.proofs.Laws.{opened-valid}
+use Rattle.hardware.proofs.Laws.{held-blank, opened-valid}
 use Rattle.hardware.specs.Asked.{andThen, portOpened, yes}
+use Rattle.hardware.specs.Marks.{validHeld}
 use Rattle.transfer.proofs.Laws.{judged-accepted, judged-no, judged-yes, script-begins}
 use Rattle.transfer.specs.Attempt.{validAttempt, validAttemptNext}
 use Rattle.transfer.specs.Calls.{openScript, saidScript, standsScript}
@@ -33,8 +34,8 @@ enum-known-q-2 : tie.Need-enum-known-q-2
 enum-known-q-2 c = search needs
 
 returns : tie.Need-returns
-unfolding openScript andThen portOpened validAttemptNext validAttempt attemptNextLeft attemptLeft
-returns c = record { yields = rw (← c .before .before .before .before .before .before .before .open-port .ensures, c .before .before .before .before .before .p .given .1) (c .told .ensures .yields (c .before .before .before .before .before .before .before .before .before .args .script .now) ∙ ap yes (script-begins _ (c .before .before .before .before .before .before .before .before .before .args .script .now)) ∙ sym (judged-yes (c .before .before .before .before .before .before .before .before .before .args .script .now) _ (judged-accepted (c .before .before .before .before .before .before .before .before .before .args .script .now) (c .before .enum-told .given .1) (c .before .before .before .judge .ensures)))); limits = c .told .ensures .limits (c .before .before .before .before .before .before .before .before .before .args .script .now) (opened-valid _ _ _ (c .before .before .before .before .before .p .given .1) (c .before .before .before .before .before .before .before .open-port .ensures)) refl; within = c .told .ensures .within }
+unfolding openScript andThen portOpened validAttemptNext validAttempt attemptNextLeft attemptLeft validHeld
+returns c = record { yields = rw (← c .before .before .before .before .before .before .before .open-port .ensures, c .before .before .before .before .before .p .given .1) (c .told .ensures .yields (c .before .before .before .before .before .before .before .before .before .args .script .now) refl ∙ ap yes (script-begins _ (c .before .before .before .before .before .before .before .before .before .args .script .now)) ∙ sym (judged-yes (c .before .before .before .before .before .before .before .before .before .args .script .now) _ (judged-accepted (c .before .before .before .before .before .before .before .before .before .args .script .now) (c .before .enum-told .given .1) (c .before .before .before .judge .ensures)))); limits = c .told .ensures .limits (c .before .before .before .before .before .before .before .before .before .args .script .now) (held-blank _ (opened-valid _ _ _ (c .before .before .before .before .before .p .given .1) (c .before .before .before .before .before .before .before .open-port .ensures))) refl refl; within = c .told .ensures .within }
 
 returns-2 : tie.Need-returns-2
 unfolding openScript andThen portOpened saidScript standsScript scriptLeft

@@ -30,7 +30,7 @@ returns-2 : tie.Need-returns-2
 unfolding transferNext asking validTransferNext transferNextLeft
 returns-2 c =
     record {
-      yields = λ m l device s. rw (c .before .n2 .given .1) (told-twice m _ _ _ _);
+      yields = λ m l device s. rw (c .before .n2 .given .1) (told-twice m _ _ _ _ _);
       limits = λ l s h. rw (c .before .n2 .given .1) at h;
       within = λ l. rw (c .before .n2 .given .1);
     }

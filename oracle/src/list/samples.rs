@@ -70,7 +70,7 @@ fn slow_failures(list: &mut List) {
 }
 
 /// Every byte acknowledged at a sample, but one not at all, once: the bus is
-/// cleared, and the next attempt goes well.
+/// cleared, and the next attempt goes well where the call has one.
 fn slow_clears(list: &mut List) {
     for sample in 1..=SAMPLES {
         for case in calls(list, 5 + sample as usize) {

@@ -23,13 +23,12 @@ ghost use Rattle.hardware.specs.Asked.{yes};
 ghost use Rattle.hardware.specs.Marks.{hears, meterOn, validHeld};
 ghost use Rattle.hardware.specs.Promise.{Bounds};
 ghost use Rattle.hardware.specs.Prog.{tally, followed};
-ghost use Rattle.hardware.specs.Registers.{outcome};
 ghost use Rattle.bus.specs.Layout.{layoutOf};
 ghost use Rattle.script.specs.Script.{device, onCommand};
 ghost use Rattle.transfer.specs.declared.attempt.Sequence.the-variants.{Pulses};
 ghost use Rattle.transfer.specs.Transfer.{handing};
 ghost use Rattle.transfer.specs.Attempt.{got, heardAttempt, attemptNext, validAttemptNext};
-ghost use Rattle.transfer.specs.Calls.{without, dropped, openScript, validScript, steppedScript, stepScript, saidScript, standsScript};
+ghost use Rattle.transfer.specs.Calls.{dropped, openScript, validScript, steppedScript, stepScript, saidScript, standsScript};
 ghost use Rattle.transfer.specs.Left.{COMMANDS-STEPS, attemptNextLeft, callLeft, scriptLeft};
 
 pub enum ScriptCall {
@@ -45,12 +44,13 @@ pub enum ScriptTold {
     Refused(Refusal),
 }
 
-fn outcome_of(g: Got) -> Outcome
-    ensures { λ r. ⌜ outcome r ≡ without (got g) ⌝ }
+// The end of a script, the meter beside its result: what was metered before a failure counts.
+fn ended(g: Got, m: Meter) -> ScriptTold
+    ensures { λ r. ⌜ Bounds ((s : List ℕ) → saidScript r s ≡ yes (tally m (dropped (got g)))) ((s : List ℕ) → standsScript r s) (scriptLeft r ≡ 0) ⌝ }
 {
     match g {
-        Got::Ok(_) => Outcome::Ok,
-        Got::Err(e) => Outcome::Err(e),
+        Got::Ok(_) => ScriptTold::End(Outcome::Ok, m),
+        Got::Err(e) => ScriptTold::End(Outcome::Err(e), m),
     }
 }
 
@@ -72,7 +72,7 @@ fn told(port: Port, m: Meter, n: AttemptNext) -> ScriptTold
         AttemptNext::Read(b, t) => {
             ScriptTold::Read(b, crate::attempt::access(l, t), going(port, m, t))
         }
-        AttemptNext::End(g) => ScriptTold::End(outcome_of(g), m),
+        AttemptNext::End(g) => ended(g, m),
     }
 }
 

@@ -1,6 +1,6 @@
 -- `told` meets its contract.
 use Rattle.hardware.specs.Asked.{yes}
-use Rattle.hardware.specs.Prog.{_>>=_, erase, followed, tally}
+use Rattle.hardware.specs.Prog.{_>>=_, erase, followed}
 use Rattle.bus.proofs.Laws.{picked}
 use Rattle.hardware.proofs.Laws.{held-on}
 use Rattle.transfer.proofs.Laws.{heard-tally, hears-one, told-tally}
@@ -38,8 +38,8 @@ going-requires-2 c κs = search needs
 enum-known-n-3 : tie.Need-enum-known-n-3
 enum-known-n-3 c = search needs
 
-outcome-of-requires : tie.Need-outcome-of-requires
-outcome-of-requires c κs = search needs
+ended-requires : tie.Need-ended-requires
+ended-requires c κs = search needs
 
 returns : tie.Need-returns
 unfolding saidScript restScript attemptNext awaiting standsScript validAttemptNext validScript scriptLeft callLeft attemptNextLeft
@@ -62,15 +62,15 @@ returns-2 c =
     }
 
 returns-3 : tie.Need-returns-3
-unfolding saidScript attemptNext followed _>>=_ erase dropped tally standsScript scriptLeft
+unfolding attemptNext followed _>>=_ erase dropped
 returns-3 c =
     record {
-      yields = λ s h. rw (c .before .before .n3 .given .1, c .outcome-of .ensures);
-      limits = λ s p h v. tt;
-      within = omega arith;
+      yields = λ s h. rw (c .before .before .n3 .given .1) (c .ended .ensures .yields s);
+      limits = λ s p h v. c .ended .ensures .limits s;
+      within = omega (arith, c .ended .ensures .within);
     }
 
 pub told-spec : {M : Type 1} → statement M
 told-spec =
     tie.close (tie.spec layout-of-requires enum-known-n access-requires going-requires enum-known-n-2
-    access-requires-2 going-requires-2 enum-known-n-3 outcome-of-requires returns returns-2 returns-3)
+    access-requires-2 going-requires-2 enum-known-n-3 ended-requires returns returns-2 returns-3)

@@ -1,0 +1,13 @@
+pub mod Pick
+pub mod Hardware
+pub mod I2c
+pub mod Transfer
+pub mod Sync
+pub mod Bus
+pub mod Sfp
+pub mod Identify
+pub mod Softrate
+pub mod Light
+pub mod Hostif
+pub mod Acquire
+pub mod Page

@@ -1,0 +1,7 @@
+pub mod Next
+pub mod Shown
+pub mod Tells
+pub mod Decibels
+pub mod Kept
+pub mod Open
+pub mod Step

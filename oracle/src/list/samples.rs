@@ -46,7 +46,8 @@ fn in_turn(list: &mut List, number: usize) -> Vec<Case> {
     sent(list, number).into_iter().enumerate().map(named).collect()
 }
 
-/// Each call with each sequence: the halves differ in how the bus is cleared.
+/// Each call with each sequence, at two ports: the halves differ in how the
+/// bus is cleared, in the port, the lock and the seed.
 fn in_both(list: &mut List, number: usize) -> Vec<Case> {
     let mut all = sent(list, number);
     let others = sent(list, number + 1).into_iter().filter(|case| case.function != SCRIPT);

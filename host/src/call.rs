@@ -118,8 +118,15 @@ pub enum Next<T> {
 
 /// What a call gives where it succeeds.
 pub trait Value: Sized {
+    /// Of an end, kind 3.
     #[doc(hidden)]
     fn of(next: &abi::Next) -> Self;
+
+    /// Of a failure, kind 4, whose number is of this call alone.
+    #[doc(hidden)]
+    fn failed(_number: u32) -> Option<Self> {
+        None
+    }
 }
 
 impl Value for () {
@@ -208,22 +215,27 @@ impl<T: Value, L> Call<T, L> {
             1 => Next::Ask(Access::Write { register: next.first, value: next.second }),
             2 => Next::Ask(Access::Wait { micros: next.first }),
             5 => Next::Refused(next.first),
-            _ => Next::End(self.end(|| ())),
+            // 3 and 4.
+            _ => Next::End(self.end(Some(()))),
         }
     }
 
-    /// What came of a call that is over; `io` gives the error of an access that failed.
-    fn end<E>(&self, io: impl FnOnce() -> E) -> Metered<R<T, E>> {
+    /// What came of a call that is over; `io` is the error of the access by which it failed.
+    fn end<E>(&self, io: Option<E>) -> Metered<R<T, E>> {
         let next = &self.block.next;
+        let unknown = Error::Refused { number: next.first };
         let result = match (next.kind, next.first) {
-            (4, 20) => Err(Error::Io(io())),
+            (3, _) => Ok(T::of(next)),
+            // There is an error: 20 comes only where an access failed.
+            (4, 20) => Err(io.map_or(unknown, Error::Io)),
             (4, 21) => Err(Error::Removed),
             (4, 22) => Err(Error::Semaphore { held: next.second }),
             (4, 23) => Err(Error::I2c { device: next.second as u8 }),
             (4, 24) => Err(Error::HostInterface { hicr: next.second }),
             (4, 25) => Err(Error::Firmware { command: next.second as u8, status: next.third as u8 }),
-            // 3, and 4 with a number that is of one call alone.
-            _ => Ok(T::of(next)),
+            (4, number) => T::failed(number).ok_or(unknown),
+            // No kind of this crate's archive.
+            _ => Err(unknown),
         };
         Metered { result, transfers: next.transfers, slowest: next.slowest }
     }
@@ -244,8 +256,7 @@ impl<T: Value, L> Call<T, L> {
         loop {
             let access = match self.next() {
                 Next::Ask(access) => access,
-                // A call has an `Io` only where an access failed.
-                Next::End(_) => return self.end(|| failure.expect("an access failed")),
+                Next::End(_) => return self.end(failure),
                 Next::Refused(number) => {
                     return Metered { result: Err(refused(number)), transfers: 0, slowest: 0 };
                 }

@@ -95,9 +95,10 @@ pub enum Error<E> {
         len: usize,
     },
     /// The call did not take its arguments; no access was made. See [`Next::Refused`](crate::Next::Refused) for the numbers;
-    /// 2 appears as [`InvalidPort`](Error::InvalidPort).
+    /// 2 appears as [`InvalidPort`](Error::InvalidPort). Or a failure that this crate does not know, which an archive that is
+    /// not its own can give; the numbers of failures are 20 and above.
     Refused {
-        /// The number of the question that was answered with no.
+        /// The number of the question that was answered with no, or of the failure.
         number: u32,
     },
 }

@@ -26,6 +26,13 @@
 //! The archive is linked statically. It needs no other symbol, keeps nothing between calls, and takes numbers by value and
 //! slices that are lent for one step. It is for x86-64, has the System V calling convention on every target, and uses the red
 //! zone below its stack pointer: an interrupt handler that runs on the same stack must leave that alone.
+//!
+//! # Linking
+//!
+//! The archive holds an ELF object, which an ELF linker takes. The linker of `x86_64-unknown-uefi` (`lld-link`) does not take it
+//! as it is. It was linked there after it had been put into one section, by `ld -T` with a script that has `.text*` and
+//! `.rodata*` in one `.text` and discards the rest, and converted by `objcopy -O pe-x86-64 --strip-debug`; tried by loading the
+//! image on Linux, not under UEFI.
 #![no_std]
 #![deny(missing_docs)]
 

@@ -40,16 +40,20 @@ pub enum NotFinite {
 
 impl Value for Result<Measures, NotFinite> {
     fn of(next: &abi::Next) -> Self {
-        match (next.kind, next.first) {
-            (4, 28) => Err(NotFinite::Coefficient),
-            (4, 29) => Err(NotFinite::Power),
-            _ => Ok(Measures {
-                temperature: next.temperature,
-                voltage: next.first as u16,
-                bias: next.second as u16,
-                sent: next.third as u16,
-                reading: reading(next.fourth, next.fifth),
-            }),
+        Ok(Measures {
+            temperature: next.temperature,
+            voltage: next.first as u16,
+            bias: next.second as u16,
+            sent: next.third as u16,
+            reading: reading(next.fourth, next.fifth),
+        })
+    }
+
+    fn failed(number: u32) -> Option<Self> {
+        match number {
+            28 => Some(Err(NotFinite::Coefficient)),
+            29 => Some(Err(NotFinite::Power)),
+            _ => None,
         }
     }
 }
@@ -58,6 +62,7 @@ fn reading(kind: u32, value: u32) -> Reading {
     match kind {
         0 => Reading::Internal(value as u16),
         1 => Reading::Calibrated(f32::from_bits(value)),
+        // 2; only an archive that is not this crate's has others.
         _ => Reading::Absent,
     }
 }

@@ -40,6 +40,7 @@ impl Kind {
             6 => Kind::Bx10g,
             7 => Kind::Bx1g,
             8 => Kind::Unknown,
+            // 9; only an archive that is not this crate's has others.
             _ => Kind::NotPresent,
         }
     }

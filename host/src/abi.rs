@@ -96,8 +96,6 @@ pub struct Decibels {
 
 // No pointer crosses, and every value of the arguments is allowed. The archive has the System V convention on every target.
 unsafe extern "sysv64" {
-    pub safe fn sulfryk_level(count: u16) -> Decibels;
-    pub safe fn sulfryk_failure_kept(state: State) -> bool;
     pub safe fn sulfryk_read_byte_open(family: u32, device: u16, lan: u32, address: u8, offset: u8, attempts: u32, lock: bool, sequence: u32) -> Block;
     pub safe fn sulfryk_write_byte_open(family: u32, device: u16, lan: u32, address: u8, offset: u8, value: u8, lock: bool, sequence: u32) -> Block;
     pub safe fn sulfryk_read_combined_open(family: u32, device: u16, lan: u32, address: u8, reg: u16, lock: bool, sequence: u32) -> Block;
@@ -111,6 +109,8 @@ unsafe extern "sysv64" {
     pub safe fn sulfryk_release_open(family: u32, device: u16, lan: u32, mask: u32) -> Block;
     pub safe fn sulfryk_token_open(family: u32, device: u16, lan: u32, take: bool) -> Block;
     pub safe fn sulfryk_step(state: State, kind: u32, value: u32) -> Block;
+    pub safe fn sulfryk_failure_kept(state: State) -> bool;
+    pub safe fn sulfryk_level(count: u16) -> Decibels;
 }
 
 // A pointer and a length are a slice that is lent for the call.

@@ -158,7 +158,7 @@ fn page(choice: &mut Choice) -> [u8; 256] {
 fn sfp(choice: &mut Choice, a0: &mut [u8; 256]) {
     a0[0] = choice.mostly(85, &[0x03]);
     a0[3] = choice.mostly(90, &[0x00, 0x00, 0x00, 0x10, 0x20, 0x30, 0xcf]);
-    a0[6] = choice.mostly(90, &[0x00, 0x00, 0x40, 0x40, 0x01, 0x02, 0x03, 0x08, 0x0b, 0xb4]);
+    a0[6] = choice.mostly(90, &[0x00, 0x00, 0x40, 0x40, 0x01, 0x02, 0x02, 0x03, 0x08, 0x0b, 0xb4]);
     a0[8] = choice.mostly(90, &[0x00, 0x00, 0x00, 0x00, 0xf3, 0x04, 0x08, 0x0c]);
     a0[12] = choice.mostly(90, &[0x67, 0x67, 0x67, 0x66, 0x68]);
     a0[14] = choice.mostly(50, &[0x00]);
@@ -204,8 +204,8 @@ fn coefficients(choice: &mut Choice) -> [u8; 20] {
         (0x807f_ffff, 0x7f80_0001),
         (0x8000_0000, 0x7f80_0000),
     ];
-    // Mostly without what is not finite.
-    let of = if choice.percent(75) { 10 } else { 12 };
+    // In half of the cases without what is not finite.
+    let of = if choice.flip() { 10 } else { 12 };
     let mut bytes = [0; 20];
     for four in bytes.chunks_mut(4) {
         let (stay, set) = CHOICES[choice.below(of) as usize];

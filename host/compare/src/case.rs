@@ -127,8 +127,8 @@ pub const NAMES: [&str; 17] = [
     "script",
 ];
 
-/// How often each of `NAMES` is drawn, in 1,000.
-const WEIGHTS: [u32; 17] = [130, 90, 70, 70, 20, 60, 40, 40, 140, 90, 50, 110, 60, 3, 3, 9, 60];
+/// How often each of `NAMES` is drawn beside the others. Pages and light take long.
+const WEIGHTS: [u32; 17] = [130, 90, 70, 70, 20, 80, 40, 40, 140, 90, 50, 110, 60, 8, 8, 25, 60];
 
 pub const FAMILIES: [Family; 5] = [Family::F82599, Family::X540, Family::X550, Family::X552, Family::X553];
 

@@ -3,6 +3,8 @@
 use std::collections::BTreeMap;
 use std::time::Instant;
 
+use sulfryk::light::NotFinite;
+use sulfryk::pages::WrongSum;
 use sulfryk::{Error, R};
 
 use crate::answers::Answers;
@@ -15,8 +17,33 @@ use crate::{port, reference};
 /// Differing runs that are shown.
 const SHOWN: u64 = 10;
 
+/// From so many runs on, every case that is named by `missing` must come up.
+const ENOUGH: u64 = 20_000;
+
 const KINDS: [&str; 10] =
     ["DaCu", "DaActiveLimiting", "SrLr", "Cu1g", "Sx1g", "Lx1g", "Bx10g", "Bx1g", "Unknown", "NotPresent"];
+
+/// The ends besides the kinds: the errors of the calls, that of a body under `locked`, and the values.
+const ENDS: [&str; 18] = [
+    "Io",
+    "Removed",
+    "Semaphore",
+    "I2c",
+    "HostInterface",
+    "Firmware",
+    "the body's",
+    "ok",
+    "false",
+    "true",
+    "right sums",
+    "wrong first sum",
+    "wrong second sum",
+    "coefficient not finite",
+    "power not finite",
+    "internal",
+    "calibrated",
+    "absent",
+];
 
 /// The kind of an end.
 fn end(result: &R<Value, u32>) -> &'static str {
@@ -24,8 +51,10 @@ fn end(result: &R<Value, u32>) -> &'static str {
         Ok(Value::Module([kind, ..])) => KINDS[usize::from(*kind)],
         Ok(Value::Flag(flag)) => ["false", "true"][usize::from(*flag)],
         Ok(Value::Sums(Ok(()))) => "right sums",
-        Ok(Value::Sums(Err(_))) => "wrong sum",
-        Ok(Value::Light(Err(_))) => "not finite",
+        Ok(Value::Sums(Err(WrongSum::First))) => "wrong first sum",
+        Ok(Value::Sums(Err(WrongSum::Second))) => "wrong second sum",
+        Ok(Value::Light(Err(NotFinite::Coefficient))) => "coefficient not finite",
+        Ok(Value::Light(Err(NotFinite::Power))) => "power not finite",
         Ok(Value::Light(Ok([_, _, _, _, kind, _]))) => ["internal", "calibrated", "absent"][*kind as usize],
         Ok(_) => "ok",
         Err(Error::Io(_)) => "Io",
@@ -117,6 +146,22 @@ impl Tally {
         }
     }
 
+    fn runs(&self) -> u64 {
+        self.figures.iter().map(|f| f.runs).sum()
+    }
+
+    /// The cases that no run met: calls, ends, states of the bench module, slowest samples, an error that was kept.
+    fn missing(&self) -> Vec<String> {
+        let calls =
+            NAMES.iter().zip(&self.figures).filter(|(_, f)| f.runs == 0).map(|(name, _)| name.to_string());
+        let met = |end: &str| self.figures.iter().any(|f| f.ends.contains_key(end));
+        let ends = KINDS.iter().chain(&ENDS).filter(|end| !met(end)).map(|end| format!("the end {end}"));
+        let states = (0..STATES).filter(|n| self.states[*n] == 0).map(|n| format!("bench state {n}"));
+        let slowest = (0..=10).filter(|n| self.slowest[*n] == 0).map(|n| format!("slowest sample {n}"));
+        let kept = (self.kept == 0).then(|| "an error of a body kept over its release's".to_string());
+        calls.chain(ends).chain(states).chain(slowest).chain(kept).collect()
+    }
+
     fn print(&self) {
         let listed = |counts: &BTreeMap<String, u64>| {
             counts.iter().map(|(of, count)| format!("{of} {count}")).collect::<Vec<_>>().join(", ")
@@ -164,7 +209,7 @@ fn recorded(case: &Case, answers: &mut Answers) -> Came {
     copy
 }
 
-/// The number of differing runs.
+/// The number of differing runs, and of cases that enough runs did not meet.
 pub fn compared(seed: u64, count: u64) -> u64 {
     let began = Instant::now();
     let mut choice = Choice::new(seed);
@@ -187,10 +232,15 @@ pub fn compared(seed: u64, count: u64) -> u64 {
     tally.print();
     let accesses: u64 = tally.figures.iter().map(|f| f.accesses).sum();
     let seconds = began.elapsed().as_secs_f64();
+    let missing = if count < ENOUGH { Vec::new() } else { tally.missing() };
+    if !missing.is_empty() {
+        println!("seed {seed}: no run met {}", missing.join(", "));
+    }
     println!(
-        "seed {seed}: {count} runs, {accesses} accesses, {:.2} million a second, {} differences",
+        "seed {seed}: {} runs, {accesses} accesses, {:.2} million a second, {} differences",
+        tally.runs(),
         accesses as f64 / seconds / 1e6,
         tally.differences
     );
-    tally.differences
+    tally.differences + missing.len() as u64
 }

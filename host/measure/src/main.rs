@@ -4,9 +4,11 @@
 //! were made, and how many microseconds they wait.
 
 mod bench;
+#[rustfmt::skip]
 #[path = "../../compare/src/driver.rs"]
 mod driver;
 #[allow(dead_code)]
+#[rustfmt::skip]
 #[path = "../../../oracle/src/bench/module.rs"]
 mod module;
 

@@ -2,6 +2,7 @@
 
 use sulfryk::{Error, Registers};
 
+#[rustfmt::skip]
 #[path = "../../compare/src/driver.rs"]
 mod driver;
 use driver::Port;

@@ -185,7 +185,7 @@ fn summed(choice: &mut Choice, page: &mut [u8]) {
 
 /// Byte 92.
 fn monitoring(choice: &mut Choice) -> u8 {
-    choice.mostly(85, &[0x60, 0x50, 0x50, 0x70, 0x40, 0x00])
+    choice.mostly(85, &[0x60, 0x60, 0x50, 0x50, 0x50, 0x70, 0x70, 0x40, 0x00])
 }
 
 /// Rx_PWR(4) first: of the random bits those that stay, and those that are set.

@@ -5,3 +5,4 @@ pub mod Decibels
 pub mod Kept
 pub mod Open
 pub mod Step
+pub mod Direct

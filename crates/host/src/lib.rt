@@ -3,6 +3,7 @@
 use flat::State;
 
 pub mod decibels;
+pub mod direct;
 pub mod kept;
 pub mod numbers;
 pub mod open;

@@ -5,7 +5,9 @@ use acquire::calls::AcquireCall;
 use acquire::calls::AcquireTold;
 use acquire::calls::ReleaseCall;
 use acquire::calls::ReleaseTold;
+use bus::job::Job;
 use flat::State;
+use hardware::Access;
 use hardware::BLANK;
 use hardware::Refusal;
 use hostif::calls::CommandCall;
@@ -28,12 +30,21 @@ use transfer::calls::ScriptCall;
 use transfer::calls::ScriptTold;
 ghost use mathlib.Core.Path.{_≡_};
 ghost use Rattle.hardware.specs.Numbers.{refusalNumber};
+ghost use Rattle.host.specs.Direct.{withJob};
+ghost use Rattle.host.specs.Next.{askedOf};
 ghost use Rattle.host.specs.Shown.{blockOf, refusedBlock, overTransfer, shownTransfer, overSetup, shownSetup, overIdentify, shownIdentify, overRate, shownRate, overLight, shownLight, overAcquire, shownAcquire, overRelease, shownRelease, overToken, shownToken, overCommand, shownCommand, overScript, shownScript, overPage, shownPage};
 
 fn block(next: Next, state: State) -> Block
     ensures { λ b. ⌜ b ≡ blockOf next state ⌝ }
 {
     Block { next, state }
+}
+
+// The next access of a state whose job moved.
+pub fn moved(x: Access, s: State, j: Job) -> Block
+    ensures { λ b. ⌜ b ≡ blockOf (askedOf x 0) (withJob s j) ⌝ }
+{
+    block(crate::numbers::asked(x, 0), crate::direct::with_job(s, j))
 }
 
 // Refused with a number, the state as it was.

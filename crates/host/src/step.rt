@@ -2,6 +2,7 @@
 // read, 1 done, 2 failed; any other kind is refused with 12, before every question. A state of a call that is lent something
 // else is refused with 10.
 use crate::Block;
+use crate::direct::Moved;
 use flat::State;
 use hardware::Answer;
 ghost use mathlib.Core.Path.{_≡_};
@@ -95,15 +96,43 @@ fn token(old: State, a: Answer) -> Block
     )
 }
 
+// The direct way where there is one, else the plain one.
+fn transfer_on(old: State, a: Answer) -> Block
+    ensures { λ b. ⌜ (old .call ≡ 0 → SteppedTransfer old a b) ⌝ }
+{
+    match crate::direct::transfer(old, a) {
+        Moved::On(x, j) => crate::shown::moved(x, old, j),
+        Moved::Slow => transfer(old, a),
+    }
+}
+
+fn identify_on(old: State, a: Answer) -> Block
+    ensures { λ b. ⌜ (old .call ≡ 2 → SteppedIdentify old a b) ⌝ }
+{
+    match crate::direct::identify(old, a) {
+        Moved::On(x, j) => crate::shown::moved(x, old, j),
+        Moved::Slow => identify(old, a),
+    }
+}
+
+fn rate_on(old: State, a: Answer) -> Block
+    ensures { λ b. ⌜ (old .call ≡ 3 → SteppedRate old a b) ⌝ }
+{
+    match crate::direct::rate(old, a) {
+        Moved::On(x, j) => crate::shown::moved(x, old, j),
+        Moved::Slow => rate(old, a),
+    }
+}
+
 fn stepped(old: State, a: Answer) -> Block
     ensures { λ b. ⌜ Stepped old a b ⌝ }
 {
     let call = old.call;
     match call {
-        0 => transfer(old, a),
+        0 => transfer_on(old, a),
         1 => setup(old, a),
-        2 => identify(old, a),
-        3 => rate(old, a),
+        2 => identify_on(old, a),
+        3 => rate_on(old, a),
         4 => light(old, a),
         5 => acquire(old, a),
         6 => release(old, a),

@@ -7,17 +7,17 @@ use borrow.Author.Needs.{needs}
 use Rattle.host.proofs.step.stepped.Statement.{statement}
 use Rattle.host.proofs.step.stepped.Tie as tie
 
-transfer-requires : tie.Need-transfer-requires
-transfer-requires c κs = search needs
+transfer-on-requires : tie.Need-transfer-on-requires
+transfer-on-requires c κs = search needs
 
 setup-requires : tie.Need-setup-requires
 setup-requires c κs = search needs
 
-identify-requires : tie.Need-identify-requires
-identify-requires c κs = search needs
+identify-on-requires : tie.Need-identify-on-requires
+identify-on-requires c κs = search needs
 
-rate-requires : tie.Need-rate-requires
-rate-requires c κs = search needs
+rate-on-requires : tie.Need-rate-on-requires
+rate-on-requires c κs = search needs
 
 light-requires : tie.Need-light-requires
 light-requires c κs = search needs
@@ -36,7 +36,7 @@ refused-requires c κs = search needs
 
 returns : tie.Need-returns
 unfolding Stepped SteppedAs
-returns c = subst (λ (n : ℕ). SteppedAs n (c .before .before .args .old) (c .before .before .args .a) (c .transfer .result)) (sym (c .before .match .keys1)) (c .transfer .ensures)
+returns c = subst (λ (n : ℕ). SteppedAs n (c .before .before .args .old) (c .before .before .args .a) (c .transfer-on .result)) (sym (c .before .match .keys1)) (c .transfer-on .ensures (c .before .match .keys1))
 
 returns-2 : tie.Need-returns-2
 unfolding Stepped SteppedAs
@@ -44,11 +44,11 @@ returns-2 c = subst (λ (n : ℕ). SteppedAs n (c .before .before .args .old) (c
 
 returns-3 : tie.Need-returns-3
 unfolding Stepped SteppedAs
-returns-3 c = subst (λ (n : ℕ). SteppedAs n (c .before .before .args .old) (c .before .before .args .a) (c .identify .result)) (sym (c .before .match .keys3)) (c .identify .ensures)
+returns-3 c = subst (λ (n : ℕ). SteppedAs n (c .before .before .args .old) (c .before .before .args .a) (c .identify-on .result)) (sym (c .before .match .keys3)) (c .identify-on .ensures (c .before .match .keys3))
 
 returns-4 : tie.Need-returns-4
 unfolding Stepped SteppedAs
-returns-4 c = subst (λ (n : ℕ). SteppedAs n (c .before .before .args .old) (c .before .before .args .a) (c .rate .result)) (sym (c .before .match .keys4)) (c .rate .ensures)
+returns-4 c = subst (λ (n : ℕ). SteppedAs n (c .before .before .args .old) (c .before .before .args .a) (c .rate-on .result)) (sym (c .before .match .keys4)) (c .rate-on .ensures (c .before .match .keys4))
 
 returns-5 : tie.Need-returns-5
 unfolding Stepped SteppedAs
@@ -74,10 +74,10 @@ pub stepped-spec : {M : Type 1} → statement M
 stepped-spec =
     tie.close
     (tie.spec
-    transfer-requires
+    transfer-on-requires
     setup-requires
-    identify-requires
-    rate-requires
+    identify-on-requires
+    rate-on-requires
     light-requires
     acquire-requires
     release-requires

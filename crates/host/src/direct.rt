@@ -1,5 +1,5 @@
-// The direct way through a step that stays inside a command: it works on the numbers of a state, and only the job of the command
-// is read from them and put back. It never refuses: where it says `Slow`, the step goes the plain way.
+// The direct way through a step that stays inside a command: it reads from the numbers of a state what such a step goes by, and
+// puts back the job alone. It never refuses: where it says `Slow`, the step goes the plain way.
 use bus::Layout;
 use bus::command::Command;
 use bus::job::Job;

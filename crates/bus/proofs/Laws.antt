@@ -21,6 +21,11 @@ use Rattle.bus.specs.declared.command.Command.the-variants.{Start, Send,
 use Rattle.bus.specs.declared.command.Piece.{Piece}
 use Rattle.bus.specs.declared.command.Piece.the-variants.{Pulses, Probe, Lower, Pull}
 use Rattle.bus.specs.Command.{pulseCall, outBitCall, senseCall, ackCall, startCall, stopCall, endCall, sendCall, readCall, pulsesCall, probeCall, freeCall, callAt, stopCount, freeCount, callCount, callsLeft}
+use Rattle.hardware.specs.declared.Access.{Access}
+use Rattle.bus.specs.declared.job.Job.{Job}
+use Rattle.bus.specs.declared.quick.Moved.{Moved}
+use Rattle.bus.specs.declared.quick.Moved.the-variants.{On, Slow}
+use Rattle.bus.specs.Quick.{MovedBy}
 use Rattle.bus.specs.Line.{validCall, called, ackDown, settled, accessLine, accessAt, restLine, restAt, lineNext, heardAt, heardGoal}
 
 -- what an answer was taken for is the Rust's reading of it
@@ -243,3 +248,9 @@ nonzero n h e = omega (arith, h, e)
 
 pub itself : (n : ℕ) → leb n n ≡ true
 itself n = le-leb n n (omega arith)
+
+-- what the direct way promises may be weakened
+pub moved-map : (P Q : Access → Job → Type 0) → ((x : Access) (j : Job) → P x j → Q x j) → (m : Moved) → MovedBy P m → MovedBy Q m
+unfolding MovedBy
+moved-map P Q f (On x j) h = f x j h
+moved-map P Q f Slow h = tt

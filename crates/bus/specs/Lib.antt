@@ -5,3 +5,4 @@ pub mod Command
 pub mod Clear
 pub mod Steps
 pub mod Left
+pub mod Quick

@@ -10,6 +10,7 @@ pub mod clear;
 pub mod command;
 pub mod job;
 pub mod line;
+pub mod quick;
 pub mod rounds;
 
 // I2CCTL: its register and the masks of its bits. Only the X552 and X553 have the last three: two active-low output

@@ -66,7 +66,7 @@ pub enum LineNext {
     End(u32, u8, Outcome),
 }
 
-fn settle_us(g: Goal) -> u32
+pub(crate) fn settle_us(g: Goal) -> u32
     ensures { λ r. ⌜ r ≡ settleUs g ⌝ }
 {
     match g {
@@ -131,7 +131,7 @@ pub fn heard(line: Line) -> u8
 }
 
 // SDA reads high.
-fn sda_level(l: Layout, v: u32) -> bool
+pub(crate) fn sda_level(l: Layout, v: u32) -> bool
     ensures { λ r. ⌜ r ≡ sdaLevel l v ⌝ }
 {
     if hardware::none_of(v, l.sdain) {
@@ -141,7 +141,7 @@ fn sda_level(l: Layout, v: u32) -> bool
 }
 
 // One more bit, from the right.
-fn shift(bits: u8, bit: bool) -> u8
+pub(crate) fn shift(bits: u8, bit: bool) -> u8
     ensures { λ r. ⌜ r ≡ shifted bits bit ⌝ }
 {
     let left = (bits as u16 * 2 & 254) as u8;
@@ -151,7 +151,7 @@ fn shift(bits: u8, bit: bool) -> u8
     left
 }
 
-fn at(ctl: u32, bits: u8, line: Line) -> LineState
+pub(crate) fn at(ctl: u32, bits: u8, line: Line) -> LineState
     ensures { λ r. ⌜ r ≡ record { ctl = ctl; bits = bits; line = line } ⌝ }
 {
     LineState { ctl, bits, line }
@@ -181,6 +181,7 @@ fn sample_seen(l: Layout, ctl: u32, bits: u8, w: Word) -> LineNext
 fn down(l: Layout, ctl: u32, bits: u8, left: u8) -> LineState
     ensures { λ r. ⌜ ((k : ℕ → Bus) → lineNext l (LineNext.Going r) k ≡ erase (heard left (sclLow l (k bits)) ctl)) ⌝ }
     ensures { λ r. ⌜ (leb left 10 ≡ true → validLine (r .line) ≡ true) ⌝ }
+    ensures { λ r. ⌜ heardAt (r .line) ≡ left ⌝ }
 {
     at(
         ctl & !(l.sclout | l.scloen),
@@ -341,6 +342,7 @@ pub fn step(l: Layout, s: LineState, a: Answer) -> LineNext
 fn sda(l: Layout, ctl: u32, bits: u8, high: bool) -> LineState
     ensures { λ r. ⌜ ((k : ℕ → Bus) → lineNext l (LineNext.Going r) k ≡ erase (sda l high (k bits) ctl)) ⌝ }
     ensures { λ r. ⌜ validLine (r .line) ≡ true ⌝ }
+    ensures { λ r. ⌜ heardAt (r .line) ≡ 10 ⌝ }
 {
     if high {
         return at((ctl | l.sdaout) & !l.sdaoen, bits, Line::Write(Goal::High));
@@ -351,6 +353,7 @@ fn sda(l: Layout, ctl: u32, bits: u8, high: bool) -> LineState
 pub fn open(l: Layout, call: Call, ctl: u32, bits: u8) -> LineState
     ensures { λ r. ⌜ ((k : ℕ → Bus) → lineNext l (LineNext.Going r) k ≡ erase (called l call bits k ctl)) ⌝ }
     ensures { λ r. ⌜ (validCall call ≡ true → validLine (r .line) ≡ true) ⌝ }
+    ensures { λ r. ⌜ heardAt (r .line) ≡ 10 ⌝ }
 {
     match call {
         Call::Look => at(ctl, bits, Line::Look),
@@ -373,7 +376,7 @@ pub fn open(l: Layout, call: Call, ctl: u32, bits: u8) -> LineState
     }
 }
 
-fn valid_goal(g: Goal) -> bool
+pub(crate) fn valid_goal(g: Goal) -> bool
     ensures { λ r. ⌜ r ≡ validGoal g ⌝ }
 {
     match g {

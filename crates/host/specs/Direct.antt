@@ -1,86 +1,34 @@
--- The direct way through a step that stays inside a command.
-use Prim.Native.Nat.{ℕ, _+_}
+-- The direct way through a step that stays inside a command, over the numbers of a state.
+use Prim.Native.Nat.{ℕ}
 use mathlib.Core.Path.{_≡_}
 use mathlib.Core.Bool.{Bool, true, false}
-use lib.Dec.{eqb, leb, ltb}
+use lib.Dec.{eqb}
 use Rattle.hardware.specs.declared.Access.{Access}
-use Rattle.hardware.specs.declared.Answer.{Answer}
 use Rattle.hardware.specs.declared.Meter.{Meter}
 use Rattle.hardware.specs.declared.Port.{Port}
-use Rattle.hardware.specs.Asked.{fits}
-use Rattle.hardware.specs.Prog.{erase, pick}
-use Rattle.bus.specs.declared.Layout.{Layout}
+use Rattle.hardware.specs.Prog.{pick}
 use Rattle.bus.specs.declared.Taken.{Taken}
-use Rattle.bus.specs.declared.command.Command.{Command}
 use Rattle.bus.specs.declared.job.Job.{Job}
-use Rattle.bus.specs.declared.job.JobNext.the-variants.{Going as JobGoing}
-use Rattle.bus.specs.Bus.{Bus}
-use Rattle.bus.specs.Command.{accessJob, heardJob, jobNext, restJob, validJob}
-use Rattle.bus.specs.Layout.{layoutOf}
-use Rattle.script.specs.Script.{commandAt, onCommand}
-use Rattle.transfer.specs.declared.attempt.Attempt.the-variants.{Moving}
 use Rattle.i2c.specs.declared.once.Request.{Request}
-use Rattle.i2c.specs.declared.retry.Stage.the-variants.{Trying}
 use Rattle.i2c.specs.declared.handshake.Handshake.{Handshake}
-use Rattle.i2c.specs.declared.handshake.Handshake.the-variants.{Inside}
-use Rattle.i2c.specs.I2c.{deviceOf, scriptOf}
-use Rattle.i2c.specs.Handshake.{validRequest}
-use Rattle.i2c.specs.Calls.{stepTransfer}
+use Rattle.i2c.specs.Calls.{limitOf, validOperands}
+use Rattle.i2c.specs.Direct.{carrying}
 use Rattle.identify.specs.declared.place.Place.{Place}
-use Rattle.identify.specs.Calls.{stepIdentify}
+use Rattle.identify.specs.Place.{requestAt, triesAt, capAt, validPlace}
 use Rattle.softrate.specs.declared.spot.Spot.{Spot}
-use Rattle.softrate.specs.Calls.{stepRate}
+use Rattle.softrate.specs.Spot.{requestAt as requestOn, triesAt as triesOn, capAt as capOn, validSpot}
 use Rattle.flat.specs.declared.State.{State}
 use Rattle.flat.specs.Hardware.{thePort, theMeter}
 use Rattle.flat.specs.Bus.{flatJob, theJob, theTaken}
-use Rattle.flat.specs.I2c.{theRequest, theTransferCall}
-use Rattle.flat.specs.Identify.{thePlace, theIdentifyCall}
-use Rattle.flat.specs.Softrate.{theSpot, theRateCall}
-use Rattle.host.specs.declared.direct.Found.{Found}
-use Rattle.host.specs.declared.direct.Found.the-variants.{On as FoundOn, Off}
-use Rattle.host.specs.declared.direct.Moved.{Moved}
-use Rattle.host.specs.declared.direct.Moved.the-variants.{On, Slow}
+use Rattle.flat.specs.I2c.{theRequest}
+use Rattle.flat.specs.Identify.{thePlace}
+use Rattle.flat.specs.Pick.{set}
+use Rattle.flat.specs.Softrate.{theSpot}
+use Rattle.host.specs.declared.Block.{Block}
+use Rattle.host.specs.declared.direct.Terms.{Terms}
 use Rattle.host.specs.Next.{askedOf}
-use Rattle.host.specs.Shown.{Shows, ShownIdentify, ShownRate, ShownTransfer, blockOf}
-use Rattle.host.specs.Tells.{TellsIdentify, TellsRate, TellsTransfer}
-
--- a request whose attempt carries out the command at a position, with so many attempts left
-abbrev pub carrying : ℕ → ℕ → Taken → Job → Handshake
-carrying left at taken job = Inside (record { left = left; stage = Trying (Moving (record { at = at; taken = taken; job = job })) })
-
--- the command that a request's script has at a position
-unfoldable pub FoundAt : Request → ℕ → Found → Type 0
-FoundAt r at (FoundOn c) = (onCommand (scriptOf r) at ≡ true) × (commandAt (scriptOf r) at ≡ c)
-FoundAt r at Off = Unit {0}
-
--- the direct way promises something where it goes
-unfoldable pub MovedBy : (Access → Job → Type 0) → Moved → Type 0
-MovedBy Goes (On x next) = Goes x next
-MovedBy Goes Slow = Unit {0}
-
--- a job is handed on with its access, and no byte was acknowledged just before
-pub record Kept (l : Layout) (job : Job) (x : Access) (next : Job) : Type 0 where
-  pub same : next ≡ job
-  pub access : x ≡ accessJob l job
-  pub unheard : heardJob job ≡ 10
-
--- the job of a command goes on: it was within its limits, the answer of the awaited kind
-pub record JobMoves (l : Layout) (device : ℕ) (c : Command) (job : Job) (a : Answer) (x : Access) (next : Job) : Type 0 where
-  pub valid : validJob l c job ≡ true
-  pub kind : fits (accessJob l job) a ≡ true
-  pub yields : (k : ℕ → Bus) → jobNext l device c (JobGoing next) k ≡ erase (restJob l device c job a k)
-  pub limits : validJob l c next ≡ true
-  pub access : x ≡ accessJob l next
-  pub unheard : heardJob next ≡ 10
-
-unfoldable pub within : ℕ → ℕ → ℕ → ℕ → Bool
-within tries cap made left = pick (ltb left tries) (leb (made + left) cap) false
-
--- so does a request, whatever bytes it has taken
-pub record Moves (port : Port) (r : Request) (tries cap : ℕ) (m : Meter) (left at : ℕ) (job : Job) (a : Answer) (x : Access) (next : Job) : Type 0 where
-  pub valid : (taken : Taken) → validRequest port r tries cap m (carrying left at taken job) ≡ true
-  pub limits : (taken : Taken) → validRequest port r tries cap m (carrying left at taken next) ≡ true
-  pub moves : JobMoves (layoutOf (port .family)) (deviceOf r) (commandAt (scriptOf r) at) job a x next
+use Rattle.host.specs.Shown.{blockOf}
+use Rattle.host.specs.Step.{choose}
 
 -- a call that is not over, its request inside the bus, in an attempt, in a command
 unfoldable pub shape : State → Bool
@@ -158,15 +106,31 @@ withJob s j =
       z0 = s .z0;
     }
 
--- a call's step: what the direct way gives is what its step tells
-unfoldable pub TransferMoves : State → Answer → Access → Job → Type 0
-TransferMoves s a x next =
-    s .call ≡ 0 → Shows (TellsTransfer (stepTransfer (theTransferCall s) a)) ShownTransfer s (blockOf (askedOf x 0) (withJob s next))
+-- the block with the next access of a state whose job moved
+abbrev pub movedBlock : State → Access → Job → Block
+movedBlock s x next = blockOf (askedOf x 0) (withJob s next)
 
-unfoldable pub IdentifyMoves : State → Answer → Access → Job → Type 0
-IdentifyMoves s a x next =
-    s .call ≡ 2 → Shows (TellsIdentify (stepIdentify (theIdentifyCall s) a)) ShownIdentify s (blockOf (askedOf x 0) (withJob s next))
+-- a call's request with its limits
+pub record TermsAs (v : Bool) (r : Request) (most all : ℕ) (t : Terms) : Type 0 where
+  pub held : t .held ≡ v
+  pub request : t .request ≡ r
+  pub tries : t .tries ≡ most
+  pub cap : t .cap ≡ all
 
-unfoldable pub RateMoves : State → Answer → Access → Job → Type 0
-RateMoves s a x next =
-    s .call ≡ 3 → Shows (TellsRate (stepRate (theRateCall s) a)) ShownRate s (blockOf (askedOf x 0) (withJob s next))
+abbrev pub TransferTerms : Port → Meter → State → Terms → Type 0
+TransferTerms port m s t = TermsAs (validOperands port (requestIn s) m) (requestIn s) (limitOf (requestIn s)) (limitOf (requestIn s)) t
+
+abbrev pub IdentifyTerms : Port → State → Terms → Type 0
+IdentifyTerms port s t = TermsAs (validPlace (placeIn s)) (requestAt (placeIn s)) (triesAt port (placeIn s)) (capAt port (placeIn s)) t
+
+abbrev pub RateTerms : Port → State → Terms → Type 0
+RateTerms port s t = TermsAs (validSpot (spotIn s)) (requestOn (set (s .b23)) (spotIn s)) (triesOn port (spotIn s .place)) (capOn port (spotIn s)) t
+
+-- by the number of the call; of the others there are none
+unfoldable pub TermsOf : ℕ → Port → Meter → State → Terms → Type 0
+TermsOf call port m s t =
+    choose (eqb call 0) (TransferTerms port m s t)
+    (choose (eqb call 1) (t .held ≡ false)
+    (choose (eqb call 2) (IdentifyTerms port s t)
+    (choose (eqb call 3) (RateTerms port s t)
+    (t .held ≡ false))))

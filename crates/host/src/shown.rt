@@ -30,8 +30,7 @@ use transfer::calls::ScriptCall;
 use transfer::calls::ScriptTold;
 ghost use mathlib.Core.Path.{_≡_};
 ghost use Rattle.hardware.specs.Numbers.{refusalNumber};
-ghost use Rattle.host.specs.Direct.{withJob};
-ghost use Rattle.host.specs.Next.{askedOf};
+ghost use Rattle.host.specs.Direct.{movedBlock};
 ghost use Rattle.host.specs.Shown.{blockOf, refusedBlock, overTransfer, shownTransfer, overSetup, shownSetup, overIdentify, shownIdentify, overRate, shownRate, overLight, shownLight, overAcquire, shownAcquire, overRelease, shownRelease, overToken, shownToken, overCommand, shownCommand, overScript, shownScript, overPage, shownPage};
 
 fn block(next: Next, state: State) -> Block
@@ -42,7 +41,7 @@ fn block(next: Next, state: State) -> Block
 
 // The next access of a state whose job moved.
 pub fn moved(x: Access, s: State, j: Job) -> Block
-    ensures { λ b. ⌜ b ≡ blockOf (askedOf x 0) (withJob s j) ⌝ }
+    ensures { λ b. ⌜ b ≡ movedBlock s x j ⌝ }
 {
     block(crate::numbers::asked(x, 0), crate::direct::with_job(s, j))
 }

@@ -2,7 +2,7 @@
 // read, 1 done, 2 failed; any other kind is refused with 12, before every question. A state of a call that is lent something
 // else is refused with 10.
 use crate::Block;
-use crate::direct::Moved;
+use bus::quick::Moved;
 use flat::State;
 use hardware::Answer;
 ghost use mathlib.Core.Path.{_≡_};
@@ -27,10 +27,7 @@ fn answered(kind: u32, value: u32) -> Given
 fn transfer(old: State, a: Answer) -> Block
     ensures { λ b. ⌜ SteppedTransfer old a b ⌝ }
 {
-    crate::shown::transfer(
-        old,
-        i2c::calls::transfer_step(flat::of_i2c::transfer_call(old), a),
-    )
+    crate::shown::transfer(old, i2c::calls::plain(flat::of_i2c::transfer_call(old), a))
 }
 
 fn setup(old: State, a: Answer) -> Block
@@ -47,7 +44,7 @@ fn identify(old: State, a: Answer) -> Block
 {
     crate::shown::identify(
         old,
-        identify::calls::identify_step(flat::of_identify::identify_call(old), a),
+        identify::calls::plain(flat::of_identify::identify_call(old), a),
     )
 }
 
@@ -56,17 +53,14 @@ fn rate(old: State, a: Answer) -> Block
 {
     crate::shown::rate(
         old,
-        softrate::calls::soft_rate_select_step(flat::of_softrate::rate_call(old), a),
+        softrate::calls::plain(flat::of_softrate::rate_call(old), a),
     )
 }
 
 fn light(old: State, a: Answer) -> Block
     ensures { λ b. ⌜ SteppedLight old a b ⌝ }
 {
-    crate::shown::light(
-        old,
-        light::calls::light_step(flat::of_light::light_call(old), a),
-    )
+    crate::shown::light(old, light::calls::plain(flat::of_light::light_call(old), a))
 }
 
 fn acquire(old: State, a: Answer) -> Block
@@ -96,48 +90,26 @@ fn token(old: State, a: Answer) -> Block
     )
 }
 
-// The direct way where there is one, else the plain one.
-fn transfer_on(old: State, a: Answer) -> Block
-    ensures { λ b. ⌜ (old .call ≡ 0 → SteppedTransfer old a b) ⌝ }
+// By the number of the state's call.
+fn stepped(old: State, kind: u32, value: u32) -> Block
+    ensures { λ b. ⌜ AnsweredBy (answered kind value) (λ a. Stepped old a) old b ⌝ }
 {
-    match crate::direct::transfer(old, a) {
-        Moved::On(x, j) => crate::shown::moved(x, old, j),
-        Moved::Slow => transfer(old, a),
-    }
-}
-
-fn identify_on(old: State, a: Answer) -> Block
-    ensures { λ b. ⌜ (old .call ≡ 2 → SteppedIdentify old a b) ⌝ }
-{
-    match crate::direct::identify(old, a) {
-        Moved::On(x, j) => crate::shown::moved(x, old, j),
-        Moved::Slow => identify(old, a),
-    }
-}
-
-fn rate_on(old: State, a: Answer) -> Block
-    ensures { λ b. ⌜ (old .call ≡ 3 → SteppedRate old a b) ⌝ }
-{
-    match crate::direct::rate(old, a) {
-        Moved::On(x, j) => crate::shown::moved(x, old, j),
-        Moved::Slow => rate(old, a),
-    }
-}
-
-fn stepped(old: State, a: Answer) -> Block
-    ensures { λ b. ⌜ Stepped old a b ⌝ }
-{
-    let call = old.call;
-    match call {
-        0 => transfer_on(old, a),
-        1 => setup(old, a),
-        2 => identify_on(old, a),
-        3 => rate_on(old, a),
-        4 => light(old, a),
-        5 => acquire(old, a),
-        6 => release(old, a),
-        7 => token(old, a),
-        _ => crate::shown::refused(10, old),
+    match answered(kind, value) {
+        Given::Known(a) => {
+            let call = old.call;
+            match call {
+                0 => transfer(old, a),
+                1 => setup(old, a),
+                2 => identify(old, a),
+                3 => rate(old, a),
+                4 => light(old, a),
+                5 => acquire(old, a),
+                6 => release(old, a),
+                7 => token(old, a),
+                _ => crate::shown::refused(10, old),
+            }
+        }
+        Given::Unknown => crate::shown::refused(12, old),
     }
 }
 
@@ -145,9 +117,13 @@ fn stepped(old: State, a: Answer) -> Block
 pub extern "C" fn sulfryk_step(state: State, kind: u32, value: u32) -> Block
     ensures { λ b. ⌜ AnsweredBy (answered kind value) (λ a. Stepped state a) state b ⌝ }
 {
-    match answered(kind, value) {
-        Given::Known(a) => stepped(state, a),
-        Given::Unknown => crate::shown::refused(12, state),
+    // The direct way where there is one, else the plain one.
+    match crate::direct::moved(state, answered(kind, value)) {
+        Moved::On(x, j) => crate::shown::moved(x, state, j),
+        Moved::Slow => {
+            let b = stepped(state, kind, value);
+            b
+        }
     }
 }
 
@@ -209,7 +185,7 @@ fn page_on(old: State, buffer: &mut [u8], a: Answer) -> Block
     match call {
         10 => crate::shown::page(
             old,
-            page::calls::page_step(flat::of_page::page_call(old), buffer, a),
+            page::calls::plain(flat::of_page::page_call(old), buffer, a),
         ),
         _ => crate::shown::refused(10, old),
     }

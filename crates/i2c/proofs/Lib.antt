@@ -13,3 +13,4 @@ pub mod Phases
 pub mod Shown
 pub mod Asks
 pub mod Request
+pub mod Moves

@@ -1,5 +1,6 @@
 // The stepwise calls of `read_byte`, `write_byte`, `read_combined` and `write_combined`, and of `qsfp_setup`.
 use crate::How;
+use crate::direct::Went;
 use crate::handshake::Handshake;
 use crate::handshake::HandshakeNext;
 use crate::once::Request;
@@ -30,6 +31,7 @@ ghost use Rattle.hardware.specs.Change.{updateNext, change};
 ghost use Rattle.i2c.specs.I2c.{making, byDefault, givesValue, setupBus};
 ghost use Rattle.i2c.specs.Handshake.{handshakeNext, dueHandshakeNext, validHandshakeNext};
 ghost use Rattle.i2c.specs.Calls.{limitOf, triesOf, evenDevice, validOperands, validCall, openTransfer, stepTransfer, saidTransfer, standsTransfer, stepSetup, saidSetup, standsSetup};
+ghost use Rattle.i2c.specs.Direct.{WentBy};
 
 // The request, how it is made and the meter stand beside the state.
 pub enum TransferCall {
@@ -56,7 +58,7 @@ pub enum SetupTold {
 }
 
 // The most attempts of a call.
-fn limit(r: Request) -> u32
+pub fn limit(r: Request) -> u32
     ensures { λ n. ⌜ n ≡ limitOf r ⌝ }
 {
     match r {
@@ -305,7 +307,7 @@ pub fn write_combined_open_with(
 }
 
 // A state's port and device are such as an opening gives, and its meter's sample is one of ten.
-fn valid_operands(port: Port, r: Request, m: Meter) -> bool
+pub fn valid_operands(port: Port, r: Request, m: Meter) -> bool
     ensures { λ b. ⌜ b ≡ validOperands port r m ⌝ }
 {
     if hardware::valid_held(port, m) {
@@ -324,8 +326,19 @@ fn valid(port: Port, r: Request, m: Meter, t: Handshake) -> bool
     false
 }
 
-// Questions 10 to 12, of each of the four.
-pub fn transfer_step(s: TransferCall, a: Answer) -> TransferTold
+// A step inside a command.
+fn direct(port: Port, r: Request, m: Meter, t: Handshake, a: Answer) -> Went
+    ensures { λ w. ⌜ WentBy (λ x g. (how : How) → Keeps (saidTransfer (TransferTold.Ask x (TransferCall.Going port r how m g)) ≡ stepTransfer (TransferCall.Going port r how m t) a) (standsTransfer (TransferTold.Ask x (TransferCall.Going port r how m g)))) w ⌝ }
+{
+    if valid_operands(port, r, m) {
+        let most = limit(r);
+        return crate::direct::request(port, r, most, most, m, t, a);
+    }
+    Went::Slow
+}
+
+// Questions 10 to 12, of each of the four, one after the other.
+pub fn plain(s: TransferCall, a: Answer) -> TransferTold
     ensures { λ t. ⌜ Keeps (saidTransfer t ≡ stepTransfer s a) (standsTransfer t) ⌝ }
 {
     match s {
@@ -337,6 +350,24 @@ pub fn transfer_step(s: TransferCall, a: Answer) -> TransferTold
         }
         TransferCall::Over => TransferTold::Refused(Refusal::Finished),
     }
+}
+
+// The same: the direct way where there is one, else the plain one.
+pub fn transfer_step(s: TransferCall, a: Answer) -> TransferTold
+    ensures { λ t. ⌜ Keeps (saidTransfer t ≡ stepTransfer s a) (standsTransfer t) ⌝ }
+{
+    let whole = s;
+    match whole {
+        TransferCall::Going(port, r, how, m, t) => match direct(port, r, m, t, a) {
+            Went::On(x, g) => {
+                return TransferTold::Ask(x, TransferCall::Going(port, r, how, m, g));
+            }
+            Went::Slow => {}
+        },
+        TransferCall::Over => {}
+    }
+    let n = plain(s, a);
+    n
 }
 
 fn setup_bus() -> Change

@@ -6,6 +6,7 @@ use hardware::Port;
 use transfer::attempt::Sequence;
 
 pub mod calls;
+pub mod direct;
 pub mod handshake;
 pub mod once;
 pub mod retry;

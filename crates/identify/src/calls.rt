@@ -11,6 +11,7 @@ use hardware::Meter;
 use hardware::Opening;
 use hardware::Port;
 use hardware::Refusal;
+use i2c::direct::Went;
 use transfer::attempt::Sequence;
 ghost use Prim.Native.Nat.{_<_, _≤_};
 ghost use mathlib.Core.Path.{_≡_};
@@ -20,6 +21,7 @@ ghost use Rattle.hardware.specs.Promise.{Keeps};
 ghost use Rattle.hardware.specs.Prog.{blank, tally};
 ghost use Rattle.hardware.specs.Marks.{FULL, validHeld};
 ghost use Rattle.i2c.specs.I2c.{standard};
+ghost use Rattle.i2c.specs.Direct.{WentBy};
 ghost use Rattle.identify.specs.Place.{triesAt, capAt, validPlace, placed};
 ghost use Rattle.identify.specs.Walk.{identifyNext, validIdentifyNext};
 ghost use Rattle.identify.specs.Calls.{openIdentify, openQsfp, validCall, stepIdentify, saidIdentify, standsIdentify};
@@ -102,8 +104,30 @@ fn valid(port: Port, m: Meter, t: Identify) -> bool
     false
 }
 
-// Questions 10 to 12, of both.
-pub fn identify_step(s: IdentifyCall, a: Answer) -> IdentifyTold
+// A step inside a command.
+fn direct(port: Port, m: Meter, t: Identify, a: Answer) -> Went
+    ensures { λ w. ⌜ WentBy (λ x g. (q : Sequence) → Keeps (saidIdentify (IdentifyTold.Ask x (IdentifyCall.Going port q m (record { place = t .place; request = g }))) ≡ stepIdentify (IdentifyCall.Going port q m t) a) (standsIdentify (IdentifyTold.Ask x (IdentifyCall.Going port q m (record { place = t .place; request = g }))))) w ⌝ }
+{
+    let p = t.place;
+    let h = t.request;
+    if hardware::valid_held(port, m) {
+        if crate::place::valid(p) {
+            return i2c::direct::request(
+                port,
+                crate::place::request(p),
+                crate::place::tries(port, p) as u32,
+                crate::place::cap(port, p),
+                m,
+                h,
+                a,
+            );
+        }
+    }
+    Went::Slow
+}
+
+// Questions 10 to 12, of both, one after the other.
+pub fn plain(s: IdentifyCall, a: Answer) -> IdentifyTold
     ensures { λ t. ⌜ Keeps (saidIdentify t ≡ stepIdentify s a) (standsIdentify t) ⌝ }
 {
     match s {
@@ -115,4 +139,26 @@ pub fn identify_step(s: IdentifyCall, a: Answer) -> IdentifyTold
         }
         IdentifyCall::Over => IdentifyTold::Refused(Refusal::Finished),
     }
+}
+
+// The same: the direct way where there is one, else the plain one.
+pub fn identify_step(s: IdentifyCall, a: Answer) -> IdentifyTold
+    ensures { λ t. ⌜ Keeps (saidIdentify t ≡ stepIdentify s a) (standsIdentify t) ⌝ }
+{
+    let whole = s;
+    match whole {
+        IdentifyCall::Going(port, q, m, t) => match direct(port, m, t, a) {
+            Went::On(x, g) => {
+                let place = t.place;
+                return IdentifyTold::Ask(
+                    x,
+                    IdentifyCall::Going(port, q, m, Identify { place, request: g }),
+                );
+            }
+            Went::Slow => {}
+        },
+        IdentifyCall::Over => {}
+    }
+    let n = plain(s, a);
+    n
 }

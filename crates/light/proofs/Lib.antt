@@ -7,3 +7,4 @@ pub mod Results
 pub mod Spreads
 pub mod Ends
 pub mod Runs
+pub mod Moves

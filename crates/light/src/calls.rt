@@ -11,6 +11,7 @@ use hardware::Meter;
 use hardware::Opening;
 use hardware::Port;
 use hardware::Refusal;
+use i2c::direct::Went;
 use transfer::attempt::Sequence;
 ghost use Prim.Native.Nat.{_<_};
 ghost use mathlib.Core.Path.{_≡_};
@@ -20,6 +21,7 @@ ghost use Rattle.hardware.specs.Marks.{FULL, validHeld};
 ghost use Rattle.hardware.specs.Promise.{Keeps};
 ghost use Rattle.hardware.specs.Prog.{tally};
 ghost use Rattle.i2c.specs.I2c.{standard};
+ghost use Rattle.i2c.specs.Direct.{WentBy};
 ghost use Rattle.light.specs.Walk.{lightNext, validLightNext};
 ghost use Rattle.light.specs.Calls.{openOn, openLight, validCall, stepLight, saidLight, standsLight};
 
@@ -97,8 +99,30 @@ fn valid(port: Port, tries: u8, m: Meter, t: Light) -> bool
     false
 }
 
-// Questions 10 to 12.
-pub fn light_step(s: LightCall, a: Answer) -> LightTold
+// A step inside a command.
+fn direct(port: Port, tries: u8, m: Meter, t: Light, a: Answer) -> Went
+    ensures { λ w. ⌜ WentBy (λ x g. (q : Sequence) → Keeps (saidLight (LightTold.Ask x (LightCall.Going port q tries m (record { left = t .left; sensed = t .sensed; request = g }))) ≡ stepLight (LightCall.Going port q tries m t) a) (standsLight (LightTold.Ask x (LightCall.Going port q tries m (record { left = t .left; sensed = t .sensed; request = g }))))) w ⌝ }
+{
+    let left = t.left;
+    let h = t.request;
+    if hardware::valid_held(port, m) {
+        if left <= 30 {
+            return i2c::direct::request(
+                port,
+                crate::walk::request(left),
+                tries as u32,
+                crate::walk::cap(tries, left),
+                m,
+                h,
+                a,
+            );
+        }
+    }
+    Went::Slow
+}
+
+// Questions 10 to 12, one after the other.
+pub fn plain(s: LightCall, a: Answer) -> LightTold
     ensures { λ t. ⌜ Keeps (saidLight t ≡ stepLight s a) (standsLight t) ⌝ }
 {
     match s {
@@ -110,4 +134,36 @@ pub fn light_step(s: LightCall, a: Answer) -> LightTold
         }
         LightCall::Over => LightTold::Refused(Refusal::Finished),
     }
+}
+
+// The same: the direct way where there is one, else the plain one.
+pub fn light_step(s: LightCall, a: Answer) -> LightTold
+    ensures { λ t. ⌜ Keeps (saidLight t ≡ stepLight s a) (standsLight t) ⌝ }
+{
+    let whole = s;
+    match whole {
+        LightCall::Going(port, q, tries, m, t) => match direct(port, tries, m, t, a) {
+            Went::On(x, g) => {
+                let sensed = t.sensed;
+                return LightTold::Ask(
+                    x,
+                    LightCall::Going(
+                        port,
+                        q,
+                        tries,
+                        m,
+                        Light {
+                            left: t.left,
+                            request: g,
+                            sensed,
+                        },
+                    ),
+                );
+            }
+            Went::Slow => {}
+        },
+        LightCall::Over => {}
+    }
+    let n = plain(s, a);
+    n
 }

@@ -64,7 +64,7 @@ fn offset(left: u8) -> u8
     56 + (19 - left)
 }
 
-fn request(left: u8) -> Request
+pub(crate) fn request(left: u8) -> Request
     ensures { λ r. ⌜ r ≡ requestAt left ⌝ }
 {
     Request::ReadByte(device(left), offset(left))
@@ -84,7 +84,7 @@ fn last(kind: u8, left: u8) -> bool
 }
 
 // The most transfers up to the byte that is read now, its own included.
-fn cap(tries: u8, left: u8) -> u32
+pub(crate) fn cap(tries: u8, left: u8) -> u32
     requires { ⌜ left ≤ 30 ⌝ }
     ensures { λ r. ⌜ r ≡ capAt tries left ⌝ }
 {

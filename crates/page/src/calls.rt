@@ -11,6 +11,7 @@ use hardware::Meter;
 use hardware::Opening;
 use hardware::Port;
 use hardware::Refusal;
+use i2c::direct::Went;
 use transfer::attempt::Sequence;
 ghost use Prim.Native.Nat.{ℕ, _<_, _≤_};
 ghost use mathlib.Core.Path.{_≡_};
@@ -22,6 +23,7 @@ ghost use Rattle.hardware.specs.Lent.{lent, goes};
 ghost use Rattle.hardware.specs.Marks.{FULL, validHeld};
 ghost use Rattle.hardware.specs.Promise.{Stores};
 ghost use Rattle.hardware.specs.Prog.{tally};
+ghost use Rattle.i2c.specs.Direct.{WentBy};
 ghost use Rattle.page.specs.Walk.{Fills, pageNext, filledFrom, filledNext, validPageNext};
 ghost use Rattle.i2c.specs.I2c.{standard};
 ghost use Rattle.page.specs.Calls.{openForm, validCall, kept, bufferStepped, bufferAfter, filledCall, FilledAs, steppedPage, openPage, openQsfpPage, stepPage, saidPage, standsPage};
@@ -151,8 +153,30 @@ fn page_on(
     }
 }
 
+// A step inside a command: nothing is stored.
+fn direct(port: Port, form: Form, tries: u8, m: Meter, t: Page, a: Answer) -> Went
+    ensures { λ w. ⌜ WentBy (λ x g. (q : Sequence) (buffer : List ℕ) → Fills (saidPage (PageTold.Ask x (PageCall.Going port q form tries m (record { left = t .left; request = g }))) buffer ≡ lent buffer (steppedPage (PageCall.Going port q form tries m t) buffer a)) (standsPage (PageTold.Ask x (PageCall.Going port q form tries m (record { left = t .left; request = g })))) (buffer ≡ kept buffer (bufferStepped (PageCall.Going port q form tries m t) buffer a)) (FilledAs (PageTold.Ask x (PageCall.Going port q form tries m (record { left = t .left; request = g }))) buffer (λ l. filledCall (PageCall.Going port q form tries m t) buffer (a ∷ l)))) w ⌝ }
+{
+    let left = t.left;
+    let h = t.request;
+    if hardware::valid_held(port, m) {
+        if left < 96 {
+            return i2c::direct::request(
+                port,
+                crate::walk::request(form, left),
+                tries as u32,
+                crate::walk::cap(tries, left),
+                m,
+                h,
+                a,
+            );
+        }
+    }
+    Went::Slow
+}
+
 // Questions 9, and then 10 to 12, of both.
-pub fn page_step(s: PageCall, buffer: &mut [u8], a: Answer) -> PageTold
+pub fn plain(s: PageCall, buffer: &mut [u8], a: Answer) -> PageTold
     ensures { λ t. ⌜ Fills (saidPage t (now (buffer .exit)) ≡ stepPage s (now (buffer .entry)) a) (standsPage t) (now (buffer .exit) ≡ bufferAfter s (now (buffer .entry)) a) (FilledAs t (now (buffer .exit)) (λ l. filledCall s (now (buffer .entry)) (a ∷ l))) ⌝ }
 {
     if buffer.len() < 96 {
@@ -169,6 +193,38 @@ pub fn page_step(s: PageCall, buffer: &mut [u8], a: Answer) -> PageTold
             buffer,
             a,
         ),
+        PageCall::Over => PageTold::Refused(Refusal::Finished),
+    }
+}
+
+// The same: the direct way where there is one, else the plain one.
+pub fn page_step(s: PageCall, buffer: &mut [u8], a: Answer) -> PageTold
+    ensures { λ t. ⌜ Fills (saidPage t (now (buffer .exit)) ≡ stepPage s (now (buffer .entry)) a) (standsPage t) (now (buffer .exit) ≡ bufferAfter s (now (buffer .entry)) a) (FilledAs t (now (buffer .exit)) (λ l. filledCall s (now (buffer .entry)) (a ∷ l))) ⌝ }
+{
+    if buffer.len() < 96 {
+        return PageTold::Refused(Refusal::Buffer);
+    }
+    match s {
+        PageCall::Going(port, q, form, tries, m, t) => match direct(port, form, tries, m, t, a) {
+            Went::On(x, g) => PageTold::Ask(
+                x,
+                PageCall::Going(
+                    port,
+                    q,
+                    form,
+                    tries,
+                    m,
+                    Page {
+                        left: t.left,
+                        request: g,
+                    },
+                ),
+            ),
+            Went::Slow => {
+                let n = plain(s, buffer, a);
+                n
+            }
+        },
         PageCall::Over => PageTold::Refused(Refusal::Finished),
     }
 }

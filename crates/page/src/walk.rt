@@ -64,14 +64,14 @@ fn offset(form: Form, place: u8) -> u8
     }
 }
 
-fn request(form: Form, left: u8) -> Request
+pub(crate) fn request(form: Form, left: u8) -> Request
     ensures { λ r. ⌜ r ≡ requestAt form left ⌝ }
 {
     Request::ReadByte(EEPROM, offset(form, place(left)))
 }
 
 // The most transfers up to the byte that is read now, its own included.
-fn cap(tries: u8, left: u8) -> u32
+pub(crate) fn cap(tries: u8, left: u8) -> u32
     ensures { λ r. ⌜ r ≡ capAt tries left ⌝ }
 {
     (place(left) as u32 + 1) * tries as u32

@@ -12,6 +12,7 @@ use hardware::Meter;
 use hardware::Opening;
 use hardware::Port;
 use hardware::Refusal;
+use i2c::direct::Went;
 use transfer::attempt::Sequence;
 ghost use Prim.Native.Nat.{_<_};
 ghost use mathlib.Core.Path.{_≡_};
@@ -21,6 +22,7 @@ ghost use Rattle.hardware.specs.Promise.{Keeps};
 ghost use Rattle.hardware.specs.Prog.{blank, tally};
 ghost use Rattle.hardware.specs.Marks.{FULL, validHeld};
 ghost use Rattle.i2c.specs.I2c.{standard};
+ghost use Rattle.i2c.specs.Direct.{WentBy};
 ghost use Rattle.sfp.specs.Rate.{softRateSelect};
 ghost use Rattle.softrate.specs.Walk.{rateNext, validRateNext};
 ghost use Rattle.softrate.specs.Calls.{openRate, validCall, stepRate, saidRate, standsRate};
@@ -94,8 +96,31 @@ fn valid(port: Port, ten: bool, m: Meter, t: Rate) -> bool
     false
 }
 
-// Questions 10 to 12.
-pub fn soft_rate_select_step(s: RateCall, a: Answer) -> RateTold
+// A step inside a command.
+fn direct(port: Port, ten: bool, m: Meter, t: Rate, a: Answer) -> Went
+    ensures { λ w. ⌜ WentBy (λ x g. (q : Sequence) → Keeps (saidRate (RateTold.Ask x (RateCall.Going port q ten m (record { spot = t .spot; request = g }))) ≡ stepRate (RateCall.Going port q ten m t) a) (standsRate (RateTold.Ask x (RateCall.Going port q ten m (record { spot = t .spot; request = g }))))) w ⌝ }
+{
+    let spot = t.spot;
+    let place = spot.place;
+    let h = t.request;
+    if hardware::valid_held(port, m) {
+        if crate::spot::valid(spot) {
+            return i2c::direct::request(
+                port,
+                crate::spot::request(ten, spot),
+                crate::spot::tries(port, place) as u32,
+                crate::spot::cap(port, spot),
+                m,
+                h,
+                a,
+            );
+        }
+    }
+    Went::Slow
+}
+
+// Questions 10 to 12, one after the other.
+pub fn plain(s: RateCall, a: Answer) -> RateTold
     ensures { λ t. ⌜ Keeps (saidRate t ≡ stepRate s a) (standsRate t) ⌝ }
 {
     match s {
@@ -107,4 +132,26 @@ pub fn soft_rate_select_step(s: RateCall, a: Answer) -> RateTold
         }
         RateCall::Over => RateTold::Refused(Refusal::Finished),
     }
+}
+
+// The same: the direct way where there is one, else the plain one.
+pub fn soft_rate_select_step(s: RateCall, a: Answer) -> RateTold
+    ensures { λ t. ⌜ Keeps (saidRate t ≡ stepRate s a) (standsRate t) ⌝ }
+{
+    let whole = s;
+    match whole {
+        RateCall::Going(port, q, ten, m, t) => match direct(port, ten, m, t, a) {
+            Went::On(x, g) => {
+                let spot = t.spot;
+                return RateTold::Ask(
+                    x,
+                    RateCall::Going(port, q, ten, m, Rate { spot, request: g }),
+                );
+            }
+            Went::Slow => {}
+        },
+        RateCall::Over => {}
+    }
+    let n = plain(s, a);
+    n
 }

@@ -20,7 +20,7 @@ unfolding jobNext accessJob restJob lineNext validJob jobLeft
 returns c =
     record {
       yields = λ device k. rw (c .before .call .ensures) at (c .«open» .ensures .0 (callsLeft (c .before .before .args .l) device (c .before .before .args .c) (c .before .before .args .left) k));
-      limits = λ h. picked _ _ h (c .«open» .ensures .1 (rw (c .before .call .ensures) (valid-calls (c .before .before .args .l) (c .before .before .args .c) (c .before .before .args .left))));
+      limits = λ h. picked _ _ h (c .«open» .ensures .1 .0 (rw (c .before .call .ensures) (valid-calls (c .before .before .args .l) (c .before .before .args .c) (c .before .before .args .left))));
       within = omega (arith, line-opens (c .before .before .args .l) _ (c .before .before .args .ctl) (c .before .before .args .bits) _ (c .«open» .ensures .0));
     }
 

@@ -24,7 +24,7 @@ down-requires c κs = search needs
 
 returns : tie.Need-returns
 unfolding orHeld word ackSeen pick sensed validLineNext
-returns c = (λ k. rw (c .before .before .before .before .before .w .given .1, ← c .before .before .before .none-of .ensures, c .before .before .if1 .taken, ← c .before .shift .ensures) (c .down .ensures .0 k), λ h. c .down .ensures .1 (ltb-leb (c .before .before .before .before .before .before .before .args .left) 10 h))
+returns c = (λ k. rw (c .before .before .before .before .before .w .given .1, ← c .before .before .before .none-of .ensures, c .before .before .if1 .taken, ← c .before .shift .ensures) (c .down .ensures .0 k), λ h. c .down .ensures .1 .0 (ltb-leb (c .before .before .before .before .before .before .before .args .left) 10 h))
 
 at-requires : tie.Need-at-requires
 at-requires c κs = search needs

@@ -16,7 +16,7 @@ down-requires c κs = search needs
 
 returns : tie.Need-returns
 unfolding acknowledged ackTries sensed validLineNext
-returns c = (λ k. rw (c .before .before .if1 .taken, ← c .before .shift .ensures) (c .down .ensures .0 k), λ h. c .down .ensures .1 refl)
+returns c = (λ k. rw (c .before .before .if1 .taken, ← c .before .shift .ensures) (c .down .ensures .0 k), λ h. c .down .ensures .1 .0 refl)
 
 sub-t9 : tie.Need-sub-t9
 sub-t9 c = search needs

@@ -12,7 +12,7 @@ at-requires c κs = search needs
 
 returns : tie.Need-returns
 unfolding lineNext heardAt heardGoal accessLine accessAt restLine restAt erase sclLow put settled validLine validGoal
-returns c = (λ k. rw (c .at .ensures) (erase-heard _ _), λ h. rw (c .at .ensures) h)
+returns c = (λ k. rw (c .at .ensures) (erase-heard _ _), (λ h. rw (c .at .ensures) h, rw (c .at .ensures)))
 
 pub down-spec : {M : Type 1} → statement M
 down-spec = tie.close (tie.spec at-requires returns)

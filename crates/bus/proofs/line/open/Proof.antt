@@ -65,39 +65,39 @@ at-requires-7 c κs = search needs
 
 returns : tie.Need-returns
 unfolding lineNext acknowledged heardAt heardGoal accessLine accessAt restLine restAt erase called look get validLine
-returns c = (λ k. rw (c .before .enum-told .given .1, c .at .ensures), λ h. rw (c .at .ensures))
+returns c = (λ k. rw (c .before .enum-told .given .1, c .at .ensures), (λ h. rw (c .at .ensures), rw (c .at .ensures)))
 
 returns-2 : tie.Need-returns-2
 unfolding called
-returns-2 c = (λ k. rw (c .before .before .call .given .1) (c .sda .ensures .0 k), λ h. c .sda .ensures .1)
+returns-2 c = (λ k. rw (c .before .before .call .given .1) (c .sda .ensures .0 k), (λ h. c .sda .ensures .1 .0, c .sda .ensures .1 .1))
 
 returns-3 : tie.Need-returns-3
 unfolding lineNext acknowledged heardAt heardGoal accessLine accessAt restLine restAt erase called releaseSda put settled validLine validGoal
-returns-3 c = (λ k. rw (c .before .before .enum-told2 .given .1, c .at2 .ensures), λ h. rw (c .at2 .ensures))
+returns-3 c = (λ k. rw (c .before .before .enum-told2 .given .1, c .at2 .ensures), (λ h. rw (c .at2 .ensures), rw (c .at2 .ensures)))
 
 returns-4 : tie.Need-returns-4
-unfolding called validLine validGoal
-returns-4 c = (λ k. rw (c .before .before .before .enum-told3 .given .1, c .at3 .ensures) (scl-open _ _ _ k), λ h. rw (c .at3 .ensures))
+unfolding called validLine validGoal heardAt heardGoal
+returns-4 c = (λ k. rw (c .before .before .before .enum-told3 .given .1, c .at3 .ensures) (scl-open _ _ _ k), (λ h. rw (c .at3 .ensures), rw (c .at3 .ensures)))
 
 returns-5 : tie.Need-returns-5
 unfolding called acknowledged
-returns-5 c = (λ k. rw (c .before .enum-told4 .given .1) (c .down .ensures .0 k), λ h. c .down .ensures .1 refl)
+returns-5 c = (λ k. rw (c .before .enum-told4 .given .1) (c .down .ensures .0 k), (λ h. c .down .ensures .1 .0 refl, c .down .ensures .1 .1))
 
 returns-6 : tie.Need-returns-6
 unfolding lineNext acknowledged heardAt heardGoal accessLine accessAt restLine restAt erase called wait validLine validCall
-returns-6 c = (λ k. rw (c .before .before .call2 .given .1, c .at4 .ensures), λ h. rw (c .at4 .ensures) (rw (c .before .before .call2 .given .1) at h))
+returns-6 c = (λ k. rw (c .before .before .call2 .given .1, c .at4 .ensures), (λ h. rw (c .at4 .ensures) (rw (c .before .before .call2 .given .1) at h), rw (c .at4 .ensures)))
 
 returns-7 : tie.Need-returns-7
 unfolding lineNext acknowledged heardAt heardGoal accessLine accessAt restLine restAt erase called sample get validLine
-returns-7 c = (λ k. rw (c .before .enum-told5 .given .1, c .at5 .ensures), λ h. rw (c .at5 .ensures))
+returns-7 c = (λ k. rw (c .before .enum-told5 .given .1, c .at5 .ensures), (λ h. rw (c .at5 .ensures), rw (c .at5 .ensures)))
 
 returns-8 : tie.Need-returns-8
-unfolding called validLine
-returns-8 c = (λ k. rw (c .before .enum-told6 .given .1, c .at6 .ensures) (ack-open _ _ _ k), λ h. rw (c .at6 .ensures))
+unfolding called validLine heardAt
+returns-8 c = (λ k. rw (c .before .enum-told6 .given .1, c .at6 .ensures) (ack-open _ _ _ k), (λ h. rw (c .at6 .ensures), rw (c .at6 .ensures)))
 
 returns-9 : tie.Need-returns-9
 unfolding lineNext acknowledged heardAt heardGoal accessLine accessAt restLine restAt erase called close put settled validLine validGoal
-returns-9 c = (λ k. rw (c .before .before .before .enum-told7 .given .1, c .at7 .ensures), λ h. rw (c .at7 .ensures))
+returns-9 c = (λ k. rw (c .before .before .before .enum-told7 .given .1, c .at7 .ensures), (λ h. rw (c .at7 .ensures), rw (c .at7 .ensures)))
 
 pub open-spec : {M : Type 1} → statement M
 open-spec =

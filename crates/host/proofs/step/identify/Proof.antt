@@ -9,16 +9,16 @@ use Rattle.host.proofs.step.identify.Tie as tie
 identify-call-requires : tie.Need-identify-call-requires
 identify-call-requires c κs = search needs
 
-identify-step-requires : tie.Need-identify-step-requires
-identify-step-requires c κs = search needs
+plain-requires : tie.Need-plain-requires
+plain-requires c κs = search needs
 
 identify-requires : tie.Need-identify-requires
 identify-requires c κs = search needs
 
 returns : tie.Need-returns
 unfolding SteppedIdentify Shows
-returns c = (c .before .identify-step .result, rw (c .before .before .identify-call .ensures) at (c .before .identify-step .ensures), showsIdentify (c .before .before .before .args .old) (c .before .identify-step .result) (c .identify .result) (c .identify .ensures))
+returns c = (c .before .plain .result, rw (c .before .before .identify-call .ensures) at (c .before .plain .ensures), showsIdentify (c .before .before .before .args .old) (c .before .plain .result) (c .identify .result) (c .identify .ensures))
 
 pub identify-spec : {M : Type 1} → statement M
 identify-spec =
-    tie.close (tie.spec identify-call-requires identify-step-requires identify-requires returns)
+    tie.close (tie.spec identify-call-requires plain-requires identify-requires returns)

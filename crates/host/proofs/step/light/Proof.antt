@@ -9,15 +9,15 @@ use Rattle.host.proofs.step.light.Tie as tie
 light-call-requires : tie.Need-light-call-requires
 light-call-requires c κs = search needs
 
-light-step-requires : tie.Need-light-step-requires
-light-step-requires c κs = search needs
+plain-requires : tie.Need-plain-requires
+plain-requires c κs = search needs
 
 light-requires : tie.Need-light-requires
 light-requires c κs = search needs
 
 returns : tie.Need-returns
 unfolding SteppedLight Shows
-returns c = (c .before .light-step .result, rw (c .before .before .light-call .ensures) at (c .before .light-step .ensures), showsLight (c .before .before .before .args .old) (c .before .light-step .result) (c .light .result) (c .light .ensures))
+returns c = (c .before .plain .result, rw (c .before .before .light-call .ensures) at (c .before .plain .ensures), showsLight (c .before .before .before .args .old) (c .before .plain .result) (c .light .result) (c .light .ensures))
 
 pub light-spec : {M : Type 1} → statement M
-light-spec = tie.close (tie.spec light-call-requires light-step-requires light-requires returns)
+light-spec = tie.close (tie.spec light-call-requires plain-requires light-requires returns)

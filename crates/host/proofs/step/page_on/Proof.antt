@@ -11,8 +11,8 @@ use Rattle.host.proofs.step.page_on.Tie as tie
 page-call-requires : tie.Need-page-call-requires
 page-call-requires c κs = search needs
 
-page-step-requires : tie.Need-page-step-requires
-page-step-requires c κs = search needs
+plain-requires : tie.Need-plain-requires
+plain-requires c κs = search needs
 
 page-requires : tie.Need-page-requires
 page-requires c κs = search needs
@@ -25,7 +25,7 @@ same-length c = search needs
 
 returns : tie.Need-returns
 unfolding PageStepped Shows
-returns c = rw (eq-eqb (c .before .before .before .before .before .before .before .before .args .old .call) 10 (c .before .before .before .before .before .before .match .keys1)) (c .before .before .before .page-step .result, rw (c .before .before .before .before .before .page-call .ensures) at (c .before .before .before .page-step .ensures), showsPage (c .before .before .before .before .before .before .before .before .args .old) (c .before .before .before .page-step .result) (c .page .result) (c .page .ensures))
+returns c = rw (eq-eqb (c .before .before .before .before .before .before .before .before .args .old .call) 10 (c .before .before .before .before .before .before .match .keys1)) (c .before .before .before .plain .result, rw (c .before .before .before .before .before .page-call .ensures) at (c .before .before .before .plain .ensures), showsPage (c .before .before .before .before .before .before .before .before .args .old) (c .before .before .before .plain .result) (c .page .result) (c .page .ensures))
 
 returns-2 : tie.Need-returns-2
 unfolding PageStepped
@@ -36,7 +36,7 @@ page-on-spec =
     tie.close
     (tie.spec
     page-call-requires
-    page-step-requires
+    plain-requires
     page-requires
     refused-requires
     same-length

@@ -8,7 +8,6 @@ use Rattle.hardware.specs.declared.Answer.{Answer}
 use Rattle.hardware.specs.declared.Access.{Access}
 use Rattle.hardware.specs.Marks.{validHeld}
 use Rattle.bus.proofs.Laws.{picked-first, picked-second}
-use Rattle.bus.specs.declared.Taken.{Taken}
 use Rattle.bus.specs.declared.job.Job.{Job}
 use Rattle.i2c.specs.declared.calls.TransferCall.the-variants.{Going as TransferGoing}
 use Rattle.i2c.specs.declared.calls.TransferTold.the-variants.{Ask as TransferAsk}
@@ -22,7 +21,7 @@ use Rattle.softrate.specs.declared.calls.RateTold.the-variants.{Ask as RateAsk}
 use Rattle.softrate.proofs.Moves.{rate-on}
 use Rattle.flat.specs.declared.State.{State}
 use Rattle.flat.specs.declared.of_i2c.HandshakeFlat.{HandshakeFlat}
-use Rattle.flat.specs.Bus.{flatJob, theJob, theTaken, backJob}
+use Rattle.flat.specs.Bus.{theJob, theTaken, backJob}
 use Rattle.flat.specs.Transfer.{theSequence, theTransfer, theAttempt}
 use Rattle.flat.specs.I2c.{theHow, theStage, theRetry, theHandshake, theTransferCall}
 use Rattle.flat.specs.Identify.{theIdentify, theIdentifyCall}
@@ -30,8 +29,8 @@ use Rattle.flat.specs.Pick.{set}
 use Rattle.flat.specs.Softrate.{theRate, theRateCall}
 use Rattle.host.specs.declared.Block.{Block}
 use Rattle.host.specs.declared.direct.Terms.{Terms}
-use Rattle.host.specs.Direct.{carryingIn, shape, portIn, meterIn, takenIn, jobIn, requestIn, placeIn, spotIn, withJob, movedBlock, TransferTerms, IdentifyTerms, RateTerms, TermsOf}
-use Rattle.host.specs.Shown.{Shows, Carries, ShownIdentify, ShownRate, ShownTransfer}
+use Rattle.host.specs.Direct.{carryingIn, shape, portIn, meterIn, takenIn, requestIn, placeIn, spotIn, withJob, movedBlock, TransferTerms, IdentifyTerms, RateTerms, TermsOf}
+use Rattle.host.specs.Shown.{Shows, ShownIdentify, ShownRate, ShownTransfer}
 use Rattle.host.specs.Step.{choose, Stepped, SteppedAs, SteppedTransfer, SteppedIdentify, SteppedRate}
 
 -- the numbers of a request that carries out a command

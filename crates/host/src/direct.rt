@@ -19,7 +19,7 @@ ghost use Rattle.bus.specs.Quick.{MovedBy};
 ghost use Rattle.host.specs.Direct.{shape, portIn, meterIn, jobIn, withJob, movedBlock, TransferTerms, IdentifyTerms, RateTerms, TermsOf};
 ghost use Rattle.host.specs.Step.{AnsweredBy, Stepped};
 
-// A call's request with its limits. held: what stands beside them in the call's state is within its own.
+// A call's request with its limits. held: the rest of what question 10 asks of the call's state.
 pub struct Terms {
     pub held: bool,
     pub request: Request,
@@ -164,7 +164,7 @@ fn terms_of(p: Port, m: Meter, s: State) -> Terms
     }
 }
 
-// A step whose answer is one.
+// A step with an answer of a kind that there is.
 fn inside(s: State, a: Answer) -> Moved
     ensures { λ m. ⌜ MovedBy (λ x next. Stepped s a (movedBlock s x next)) m ⌝ }
 {

@@ -41,12 +41,14 @@ pub enum AcquireNext {
 }
 
 // The mask's bits of SW_FW_SYNC.
+#[tactic(auto, unfolding(crate::specs::Acquire::acquire_next, crate::specs::Acquire::access_acquire, crate::specs::Acquire::access_acquire_at, crate::specs::Acquire::rest_acquire, crate::specs::Acquire::rest_acquire_at, crate::specs::Acquire::release_next, crate::specs::Acquire::access_release, crate::specs::Acquire::rest_release, sync::specs::Resource::acquire_bits_next, sync::specs::Resource::release_bits_next, hostif::specs::Hostif::token_next, hardware::specs::Prog::followed, hardware::specs::Prog::erase, hardware::specs::Prog::or_err, hardware::specs::Prog::pick, hardware::specs::Registers::outcome, hardware::specs::Registers::flag, hostif::specs::Acquire::hw_of, hostif::specs::Acquire::with_bits, hostif::specs::Acquire::acquired_all, hostif::specs::Acquire::not_granted, hostif::specs::Acquire::given_back, hostif::specs::Acquire::token_seen, hostif::specs::Acquire::gave, hostif::specs::Acquire::give_bits, hostif::specs::Acquire::token_given, hostif::specs::Acquire::acquire, hostif::specs::Acquire::release, crate::specs::Acquire::valid_acquire_at, crate::specs::Acquire::valid_acquire, crate::specs::Acquire::valid_release, crate::specs::Calls::said_acquire, crate::specs::Calls::said_release, crate::specs::Calls::step_acquire, crate::specs::Calls::step_release, crate::specs::Calls::open_acquire, crate::specs::Calls::open_release, hardware::specs::Asked::question, hardware::specs::Asked::and_then, hardware::specs::Asked::port_opened))]
 pub fn hw(mask: u32) -> u32
     ensures { result ≡ hw_of mask }
 {
     mask & !TOKEN
 }
 
+#[tactic(auto, unfolding(hostif::specs::Acquire::not_granted, hardware::specs::Registers::flag, hardware::specs::Registers::outcome, hardware::specs::Prog::erase, crate::specs::Acquire::acquire_next, crate::specs::Acquire::access_acquire, crate::specs::Acquire::access_acquire_at, crate::specs::Acquire::rest_acquire, crate::specs::Acquire::rest_acquire_at, crate::specs::Acquire::valid_acquire_next, crate::specs::Acquire::valid_acquire, crate::specs::Acquire::valid_acquire_at, hardware::specs::Prog::pick))]
 fn token_refused(port: Port, hw: u32, left: u32, g: Flag) -> AcquireNext
     ensures result_value { acquire_next port hw result ≡ erase (not_granted (λ _. acquire_token port hw left) (flag g)) }
     ensures result_value_2 { left < TOKEN_TRIES → valid_acquire_next port result ≡ true }
@@ -60,6 +62,7 @@ fn token_refused(port: Port, hw: u32, left: u32, g: Flag) -> AcquireNext
     }
 }
 
+#[tactic(auto, using(hardware::proofs::Prog::going), unfolding(crate::specs::Acquire::acquire_next, crate::specs::Acquire::access_acquire, crate::specs::Acquire::access_acquire_at, crate::specs::Acquire::rest_acquire, crate::specs::Acquire::rest_acquire_at, crate::specs::Acquire::release_next, crate::specs::Acquire::access_release, crate::specs::Acquire::rest_release, sync::specs::Resource::acquire_bits_next, sync::specs::Resource::release_bits_next, hostif::specs::Hostif::token_next, crate::specs::Acquire::valid_acquire_next, crate::specs::Acquire::valid_acquire, crate::specs::Acquire::valid_acquire_at, hardware::specs::Prog::pick, sync::specs::Resource::valid_release_bits_next, hardware::specs::Prog::followed, hardware::specs::Prog::or_err, hardware::specs::Registers::outcome, hardware::specs::Prog::erase))]
 fn releasing(port: Port, hw: u32, left: u32, g: Flag, n: ReleaseBitsNext) -> AcquireNext
     ensures result_value { acquire_next port hw result ≡ followed (release_bits_next port hw n) (or_err (λ _. not_granted (λ _. acquire_token port hw left) (flag g))) }
     ensures result_value_2 { left < TOKEN_TRIES → valid_release_bits_next n ≡ true → valid_acquire_next port result ≡ true }
@@ -77,6 +80,7 @@ fn releasing(port: Port, hw: u32, left: u32, g: Flag, n: ReleaseBitsNext) -> Acq
 }
 
 // The token did not come: the bits go back first.
+#[tactic(auto, using(hardware::proofs::Prog::over), unfolding(hostif::specs::Acquire::given_back, hostif::specs::Acquire::with_bits, hardware::specs::Prog::pick, hardware::specs::Prog::or_err))]
 fn give_back(port: Port, hw: u32, left: u32, g: Flag) -> AcquireNext
     ensures result_value { acquire_next port hw result ≡ erase (given_back port hw (λ _. acquire_token port hw left) (flag g)) }
     ensures result_value_2 { left < TOKEN_TRIES → valid_acquire_next port result ≡ true }
@@ -87,6 +91,7 @@ fn give_back(port: Port, hw: u32, left: u32, g: Flag) -> AcquireNext
     releasing(port, hw, left, g, sync::release_bits::open(port, hw))
 }
 
+#[tactic(auto, unfolding(hardware::specs::Registers::flag, hostif::specs::Acquire::token_seen, hostif::specs::Acquire::acquired_all, hardware::specs::Prog::erase, crate::specs::Acquire::acquire_next, hardware::specs::Registers::outcome, crate::specs::Acquire::valid_acquire_next))]
 fn token_done(port: Port, hw: u32, left: u32, g: Flag) -> AcquireNext
     ensures result_value { acquire_next port hw result ≡ erase (token_seen port hw (λ _. acquire_token port hw left) (flag g)) }
     ensures result_value_2 { left < TOKEN_TRIES → valid_acquire_next port result ≡ true }
@@ -102,6 +107,7 @@ fn token_done(port: Port, hw: u32, left: u32, g: Flag) -> AcquireNext
     }
 }
 
+#[tactic(auto, using(hardware::proofs::Prog::going), unfolding(crate::specs::Acquire::acquire_next, crate::specs::Acquire::access_acquire, crate::specs::Acquire::access_acquire_at, crate::specs::Acquire::rest_acquire, crate::specs::Acquire::rest_acquire_at, crate::specs::Acquire::release_next, crate::specs::Acquire::access_release, crate::specs::Acquire::rest_release, sync::specs::Resource::acquire_bits_next, sync::specs::Resource::release_bits_next, hostif::specs::Hostif::token_next, crate::specs::Acquire::valid_acquire_next, crate::specs::Acquire::valid_acquire, crate::specs::Acquire::valid_acquire_at, hardware::specs::Prog::pick, hostif::specs::Hostif::valid_token_next, hardware::specs::Prog::followed))]
 fn token(port: Port, hw: u32, left: u32, n: TokenNext) -> AcquireNext
     ensures result_value { acquire_next port hw result ≡ followed (token_next port true n) (token_seen port hw (λ _. acquire_token port hw left)) }
     ensures result_value_2 { left < TOKEN_TRIES → valid_token_next port n ≡ true → valid_acquire_next port result ≡ true }
@@ -115,6 +121,7 @@ fn token(port: Port, hw: u32, left: u32, n: TokenNext) -> AcquireNext
     }
 }
 
+#[tactic(auto, using(hardware::proofs::Prog::over), unfolding(crate::specs::Acquire::rest_acquire, crate::specs::Acquire::rest_acquire_at, crate::specs::Acquire::access_acquire, crate::specs::Acquire::access_acquire_at, crate::specs::Acquire::rest_release, crate::specs::Acquire::access_release, hostif::specs::Acquire::try_token, crate::specs::Acquire::valid_acquire_at, crate::specs::Acquire::valid_release, crate::specs::Calls::step_acquire, crate::specs::Calls::step_release, crate::specs::Calls::open_acquire, crate::specs::Calls::open_release, hardware::specs::Asked::question, hardware::specs::Asked::and_then, hardware::specs::Asked::port_opened, sync::specs::Resource::acquire_bits, hostif::specs::Acquire::token_given, hostif::specs::Acquire::gave))]
 fn try_token(port: Port, hw: u32, left: u32) -> AcquireNext
     ensures result_value { acquire_next port hw result ≡ erase (try_token port hw left) }
     ensures result_value_2 { left < TOKEN_TRIES → valid_acquire_next port result ≡ true }
@@ -123,6 +130,7 @@ fn try_token(port: Port, hw: u32, left: u32) -> AcquireNext
 }
 
 // token: whether it comes after the bits.
+#[tactic(auto, using(hardware::proofs::Prog::going), unfolding(hardware::specs::Prog::followed, hardware::specs::Prog::or_err, hardware::specs::Registers::outcome, sync::specs::Resource::acquire_bits_next, hostif::specs::Acquire::after_bits, hardware::specs::Prog::pick, crate::specs::Acquire::acquire_next, crate::specs::Acquire::access_acquire, crate::specs::Acquire::access_acquire_at, crate::specs::Acquire::rest_acquire, crate::specs::Acquire::rest_acquire_at, crate::specs::Acquire::valid_acquire_next, crate::specs::Acquire::valid_acquire, crate::specs::Acquire::valid_acquire_at, sync::specs::Resource::valid_acquire_bits_next, hostif::specs::Acquire::acquired_all, hardware::specs::Prog::erase))]
 fn bits(port: Port, hw: u32, left: u32, token: bool, n: AcquireBitsNext) -> AcquireNext
     ensures result_value { acquire_next port hw result ≡ followed (acquire_bits_next port hw n) (or_err (λ _. after_bits port hw left token)) }
     ensures result_value_2 { left < TOKEN_TRIES → valid_acquire_bits_next port.family n ≡ true → valid_acquire_next port result ≡ true }
@@ -144,6 +152,7 @@ fn bits(port: Port, hw: u32, left: u32, token: bool, n: AcquireBitsNext) -> Acqu
     }
 }
 
+#[tactic(auto, unfolding(sync::specs::Resource::acquire_bits))]
 fn first(port: Port, hw: u32) -> AcquireBitsNext
     ensures result_value { acquire_bits_next port hw result ≡ erase (acquire_bits port hw) }
     ensures result_value_2 { valid_acquire_bits_next port.family result ≡ true }
@@ -153,6 +162,7 @@ fn first(port: Port, hw: u32) -> AcquireBitsNext
 }
 
 // A try for the bits and the token.
+#[tactic(auto, using(crate::proofs::Laws::token_alone, crate::proofs::Laws::token_bits, hardware::proofs::Laws::one_less, hardware::proofs::Prog::over), unfolding(hostif::specs::Acquire::acquire_token, hardware::specs::Prog::erase, crate::specs::Acquire::acquire_next, hardware::specs::Registers::outcome, crate::specs::Acquire::valid_acquire_next, hardware::specs::Failures::failure_of, hostif::specs::Acquire::after_bits, hardware::specs::Prog::pick))]
 fn open_token(port: Port, hw: u32, tries: u32) -> AcquireNext
     ensures result_value { acquire_next port hw result ≡ erase (acquire_token port hw tries) }
     ensures result_value_2 { tries ≤ TOKEN_TRIES → valid_acquire_next port result ≡ true }
@@ -169,6 +179,7 @@ fn open_token(port: Port, hw: u32, tries: u32) -> AcquireNext
     bits(port, hw, tries - 1, true, first(port, hw))
 }
 
+#[tactic(auto, using(hardware::proofs::Prog::over), unfolding(hostif::specs::Acquire::acquire, hostif::specs::Acquire::after_bits, hardware::specs::Prog::pick, hardware::specs::Prog::erase))]
 pub fn open(port: Port, mask: u32) -> AcquireNext
     ensures result_value { acquire_next port (hw_of mask) result ≡ erase (acquire port mask) }
     ensures result_value_2 { valid_acquire_next port result ≡ true }
@@ -180,6 +191,7 @@ pub fn open(port: Port, mask: u32) -> AcquireNext
     open_token(port, m, TOKEN_TRIES)
 }
 
+#[tactic(auto, unfolding(crate::specs::Acquire::access_acquire_at))]
 fn stage_access(port: Port, hw: u32, s: Stage) -> Access
     ensures { result ≡ access_acquire_at port hw s }
 {
@@ -191,6 +203,7 @@ fn stage_access(port: Port, hw: u32, s: Stage) -> Access
     }
 }
 
+#[tactic(auto, unfolding(crate::specs::Acquire::rest_acquire, crate::specs::Acquire::rest_acquire_at, crate::specs::Acquire::access_acquire, crate::specs::Acquire::access_acquire_at, crate::specs::Acquire::rest_release, crate::specs::Acquire::access_release, hostif::specs::Acquire::try_token, crate::specs::Acquire::valid_acquire_at, crate::specs::Acquire::valid_release, crate::specs::Calls::step_acquire, crate::specs::Calls::step_release, crate::specs::Calls::open_acquire, crate::specs::Calls::open_release, hardware::specs::Asked::question, hardware::specs::Asked::and_then, hardware::specs::Asked::port_opened, sync::specs::Resource::acquire_bits, hostif::specs::Acquire::token_given, hostif::specs::Acquire::gave))]
 pub fn access(port: Port, hw: u32, s: Acquire) -> Access
     ensures { result ≡ access_acquire port hw s }
 {
@@ -198,6 +211,7 @@ pub fn access(port: Port, hw: u32, s: Acquire) -> Access
     stage_access(port, hw, stage)
 }
 
+#[tactic(auto, using(hardware::proofs::Prog::over), unfolding(crate::specs::Acquire::rest_acquire_at, crate::specs::Acquire::valid_acquire_at))]
 fn stage_step(port: Port, hw: u32, left: u32, s: Stage, a: Answer) -> AcquireNext
     ensures result_value { acquire_next port hw result ≡ erase (rest_acquire_at port hw left s a) }
     ensures result_value_2 { left < TOKEN_TRIES → valid_acquire_at port s ≡ true → valid_acquire_next port result ≡ true }
@@ -222,6 +236,7 @@ fn stage_step(port: Port, hw: u32, left: u32, s: Stage, a: Answer) -> AcquireNex
     }
 }
 
+#[tactic(auto, using(hardware::proofs::Laws::both_true), unfolding(crate::specs::Acquire::rest_acquire, crate::specs::Acquire::rest_acquire_at, crate::specs::Acquire::access_acquire, crate::specs::Acquire::access_acquire_at, crate::specs::Acquire::rest_release, crate::specs::Acquire::access_release, hostif::specs::Acquire::try_token, crate::specs::Acquire::valid_acquire_at, crate::specs::Acquire::valid_release, crate::specs::Calls::step_acquire, crate::specs::Calls::step_release, crate::specs::Calls::open_acquire, crate::specs::Calls::open_release, hardware::specs::Asked::question, hardware::specs::Asked::and_then, hardware::specs::Asked::port_opened, sync::specs::Resource::acquire_bits, hostif::specs::Acquire::token_given, hostif::specs::Acquire::gave, crate::specs::Acquire::valid_acquire))]
 pub fn step(port: Port, hw: u32, s: Acquire, a: Answer) -> AcquireNext
     ensures result_value { acquire_next port hw result ≡ erase (rest_acquire port hw s a) }
     ensures result_value_2 { valid_acquire port s ≡ true → valid_acquire_next port result ≡ true }
@@ -230,6 +245,7 @@ pub fn step(port: Port, hw: u32, s: Acquire, a: Answer) -> AcquireNext
     stage_step(port, hw, s.left, stage, a)
 }
 
+#[tactic(auto, unfolding(crate::specs::Acquire::valid_acquire_at))]
 fn stage_valid(port: Port, s: Stage) -> bool
     ensures { result ≡ valid_acquire_at port s }
 {
@@ -242,6 +258,7 @@ fn stage_valid(port: Port, s: Stage) -> bool
     }
 }
 
+#[tactic(auto, unfolding(crate::specs::Acquire::valid_acquire, hardware::specs::Prog::pick))]
 pub fn valid(port: Port, s: Acquire) -> bool
     ensures { result ≡ valid_acquire port s }
 {

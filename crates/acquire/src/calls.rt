@@ -36,6 +36,7 @@ pub enum ReleaseTold {
     Refused(Refusal),
 }
 
+#[tactic(auto, unfolding(crate::specs::Calls::said_acquire, crate::specs::Acquire::acquire_next, crate::specs::Calls::stands_acquire, crate::specs::Acquire::valid_acquire_next, crate::specs::Calls::valid_acquire_call, hardware::specs::Prog::pick))]
 fn acquire_told(port: Port, hw: u32, n: AcquireNext) -> AcquireTold
     ensures { Keeps (said_acquire result ≡ yes (acquire_next port hw n)) (valid_port port ≡ true → valid_acquire_next port n ≡ true → stands_acquire result) }
 {
@@ -48,6 +49,7 @@ fn acquire_told(port: Port, hw: u32, n: AcquireNext) -> AcquireTold
     }
 }
 
+#[tactic(auto, using(hardware::proofs::Laws::opened_valid), unfolding(crate::specs::Calls::open_acquire, hardware::specs::Asked::and_then, hardware::specs::Asked::port_opened, crate::specs::Calls::said_acquire, crate::specs::Calls::stands_acquire))]
 pub fn acquire_open(family: u32, device: u16, lan: u32, mask: u32) -> AcquireTold
     ensures { Keeps (said_acquire result ≡ open_acquire family device lan mask) (stands_acquire result) }
 {
@@ -61,6 +63,7 @@ pub fn acquire_open(family: u32, device: u16, lan: u32, mask: u32) -> AcquireTol
     }
 }
 
+#[tactic(auto, unfolding(crate::specs::Calls::valid_acquire_call, hardware::specs::Prog::pick))]
 fn valid_acquire(port: Port, t: Acquire) -> bool
     ensures { result ≡ valid_acquire_call port t }
 {
@@ -70,6 +73,7 @@ fn valid_acquire(port: Port, t: Acquire) -> bool
     false
 }
 
+#[tactic(auto, using(hardware::proofs::Laws::admits_no, hardware::proofs::Laws::admits_valid, hardware::proofs::Laws::admits_yes, hardware::proofs::Laws::both_true), unfolding(crate::specs::Calls::step_acquire, crate::specs::Calls::valid_acquire_call, crate::specs::Calls::said_acquire, crate::specs::Calls::stands_acquire))]
 pub fn acquire_step(s: AcquireCall, a: Answer) -> AcquireTold
     ensures { Keeps (said_acquire result ≡ step_acquire s a) (stands_acquire result) }
 {
@@ -88,6 +92,7 @@ pub fn acquire_step(s: AcquireCall, a: Answer) -> AcquireTold
     }
 }
 
+#[tactic(auto, unfolding(crate::specs::Calls::said_release, crate::specs::Acquire::release_next, crate::specs::Calls::stands_release, crate::specs::Acquire::valid_release_next, crate::specs::Calls::valid_release_call, hardware::specs::Prog::pick))]
 fn release_told(port: Port, hw: u32, n: ReleaseNext) -> ReleaseTold
     ensures { Keeps (said_release result ≡ yes (release_next port hw n)) (valid_port port ≡ true → valid_release_next port n ≡ true → stands_release result) }
 {
@@ -100,6 +105,7 @@ fn release_told(port: Port, hw: u32, n: ReleaseNext) -> ReleaseTold
     }
 }
 
+#[tactic(auto, using(hardware::proofs::Laws::opened_valid), unfolding(crate::specs::Calls::open_release, hardware::specs::Asked::and_then, hardware::specs::Asked::port_opened, crate::specs::Calls::said_release, crate::specs::Calls::stands_release))]
 pub fn release_open(family: u32, device: u16, lan: u32, mask: u32) -> ReleaseTold
     ensures { Keeps (said_release result ≡ open_release family device lan mask) (stands_release result) }
 {
@@ -113,6 +119,7 @@ pub fn release_open(family: u32, device: u16, lan: u32, mask: u32) -> ReleaseTol
     }
 }
 
+#[tactic(auto, unfolding(crate::specs::Calls::valid_release_call, hardware::specs::Prog::pick))]
 fn valid_release(port: Port, t: Release) -> bool
     ensures { result ≡ valid_release_call port t }
 {
@@ -122,6 +129,7 @@ fn valid_release(port: Port, t: Release) -> bool
     false
 }
 
+#[tactic(auto, using(hardware::proofs::Laws::admits_no, hardware::proofs::Laws::admits_valid, hardware::proofs::Laws::admits_yes, hardware::proofs::Laws::both_true), unfolding(crate::specs::Calls::step_release, crate::specs::Calls::valid_release_call, crate::specs::Calls::said_release, crate::specs::Calls::stands_release))]
 pub fn release_step(s: ReleaseCall, a: Answer) -> ReleaseTold
     ensures { Keeps (said_release result ≡ step_release s a) (stands_release result) }
 {

@@ -7,6 +7,7 @@ use hardware::{Access, Answer};
 // SWSM, in which SWESMBI is set and SMBI clear; SDP1 of ESDP is set likewise.
 const SWSM: u32 = 0x1_0140;
 
+#[tactic(auto, unfolding(crate::specs::AtOnce::at_once_at, hardware::specs::Prog::pick))]
 fn at_once_at(register: u32) -> u32
     ensures { result ≡ at_once_at register }
 {
@@ -19,6 +20,7 @@ fn at_once_at(register: u32) -> u32
     0
 }
 
+#[tactic(auto, unfolding(crate::specs::AtOnce::at_once))]
 pub fn at_once(x: Access) -> Answer
     ensures { result ≡ at_once x }
 {

@@ -1,4 +1,6 @@
 // The bench module: a pluggable module's two pages and its receiver, on the two lines that I2CCTL drives.
+#![tactic(auto)]
+
 ghost use Rattle.std.specs.Prelude.{◌≡◌, true, slice_set};
 ghost use Rattle.bench.specs.Bench.{next_offset, under, acted, page_of, with_page, takes_edge, pulls_low};
 ghost use Rattle.bench.specs.Edges.{edge_of};
@@ -27,6 +29,7 @@ pub struct Bench {
 }
 
 // The byte at the page's offset.
+#[tactic(auto, unfolding(crate::specs::Bench::under))]
 pub fn under(page: Page) -> u8
     ensures { result ≡ under page }
 {
@@ -44,6 +47,7 @@ fn at(page: Page, offset: u8) -> Page
 }
 
 // After offset 255 comes offset 0.
+#[tactic(auto, unfolding(crate::specs::Bench::next_offset))]
 fn next_offset(offset: u8) -> u8
     ensures { result ≡ next_offset offset }
 {
@@ -61,6 +65,7 @@ fn stored(page: Page, byte: u8) -> Page
 }
 
 // What the receiver asked of the page.
+#[tactic(auto, unfolding(crate::specs::Bench::acted))]
 pub fn acted(act: Act, page: Page) -> Page
     ensures { result ≡ acted act page }
 {
@@ -73,6 +78,7 @@ pub fn acted(act: Act, page: Page) -> Page
 }
 
 // The page chosen.
+#[tactic(auto, unfolding(crate::specs::Bench::page_of))]
 pub fn current(b: Bench) -> Page
     ensures { result ≡ page_of b.receiver.page b }
 {
@@ -84,6 +90,7 @@ pub fn current(b: Bench) -> Page
     }
 }
 
+#[tactic(auto, unfolding(crate::specs::Bench::with_page))]
 fn with_page(chosen: Chosen, act: Act, receiver: Receiver, b: Bench) -> Bench
     ensures { result ≡ with_page chosen act receiver b }
 {
@@ -102,6 +109,7 @@ fn with_page(chosen: Chosen, act: Act, receiver: Receiver, b: Bench) -> Bench
 }
 
 // One edge of the lines.
+#[tactic(auto, unfolding(crate::specs::Bench::takes_edge))]
 pub fn take(e: Edge, b: Bench) -> Bench
     ensures { result ≡ takes_edge (edge_of e) b }
 {
@@ -114,6 +122,7 @@ pub fn take(e: Edge, b: Bench) -> Bench
 }
 
 // Whether the module pulls SDA low.
+#[tactic(auto, unfolding(crate::specs::Bench::pulls_low))]
 pub fn pulls_low(b: Bench) -> bool
     ensures { result ≡ pulls_low b }
 {

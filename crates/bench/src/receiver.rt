@@ -86,12 +86,14 @@ fn fresh(r: Receiver, stage: Stage) -> Receiver
     }
 }
 
+#[tactic(auto, unfolding(crate::specs::Receiver::started))]
 pub fn start(r: Receiver) -> Receiver
     ensures { result ≡ started r }
 {
     fresh(r, Stage::Address(0))
 }
 
+#[tactic(auto, unfolding(crate::specs::Receiver::stopped))]
 pub fn stop(r: Receiver) -> Receiver
     ensures { result ≡ stopped r }
 {
@@ -99,6 +101,7 @@ pub fn stop(r: Receiver) -> Receiver
 }
 
 // One more bit, of eight.
+#[tactic(auto, unfolding(crate::specs::Receiver::taken, hardware::specs::Prog::pick))]
 fn taken(bits: u8, sda: bool) -> u8
     ensures { result ≡ taken bits sda }
 {
@@ -137,6 +140,7 @@ fn notes(r: Receiver, sda: bool) -> Receiver
 }
 
 // SCL rises.
+#[tactic(auto, using(crate::proofs::Laws::rise_at_lem), unfolding(crate::specs::Receiver::rise_at, hardware::specs::Prog::pick))]
 pub fn rise(r: Receiver, sda: bool) -> Receiver
     ensures { result ≡ rise sda r }
 {
@@ -175,6 +179,7 @@ fn chose(r: Receiver, stage: Stage, page: Chosen) -> Receiver
 }
 
 // The address is taken.
+#[tactic(auto, unfolding(crate::specs::Receiver::addressed, hardware::specs::Prog::pick))]
 fn addressed(r: Receiver) -> Receiver
     ensures { result ≡ addressed r }
 {
@@ -202,6 +207,7 @@ fn byte_taken(r: Receiver) -> Receiver
     }
 }
 
+#[tactic(auto, unfolding(hardware::specs::Prog::pick))]
 fn byte_asks(r: Receiver) -> Act
     ensures { result ≡ pick r.first (Act.Offset r.bits) (Act.Store r.bits) }
 {
@@ -222,6 +228,7 @@ fn quiet(r: Receiver) -> Moved
 }
 
 // SCL falls.
+#[tactic(auto, using(crate::proofs::Laws::asks_at_lem, crate::proofs::Laws::fall_at_lem, crate::proofs::Laws::pick_false, crate::proofs::Laws::pick_true), unfolding(crate::specs::Receiver::fall_at, crate::specs::Receiver::asks_at, hardware::specs::Prog::pick))]
 pub fn fall(r: Receiver) -> Moved
     ensures { (result.receiver ≡ fall r) × (result.act ≡ asks r) }
 {
@@ -261,6 +268,7 @@ pub fn fall(r: Receiver) -> Moved
     }
 }
 
+#[tactic(auto, unfolding(crate::specs::Receiver::edged, crate::specs::Receiver::asks_on, crate::specs::Edges::edge_of))]
 pub fn edged(r: Receiver, e: Edge) -> Moved
     ensures { (result.receiver ≡ edged (edge_of e) r) × (result.act ≡ asks_on (edge_of e) r) }
 {
@@ -273,6 +281,7 @@ pub fn edged(r: Receiver, e: Edge) -> Moved
 }
 
 // The bit of a byte at a place, the highest at 0, 7 and above being the lowest.
+#[tactic(auto, using(crate::proofs::Laws::lowest), unfolding(bus::specs::Bus::bit_of))]
 fn bit(byte: u8, place: u8) -> bool
     ensures { result ≡ bit_of byte (7 - place) }
 {
@@ -283,6 +292,7 @@ fn bit(byte: u8, place: u8) -> bool
 }
 
 // Whether SDA is pulled low, by the byte at the offset of the page chosen.
+#[tactic(auto, unfolding(crate::specs::Receiver::pulls, crate::specs::Receiver::pulls_at))]
 pub fn pulls(r: Receiver, byte: u8) -> bool
     ensures { result ≡ pulls r byte }
 {

@@ -30,6 +30,7 @@ pub struct Reply {
     pub state: BenchState,
 }
 
+#[tactic(auto, unfolding(wire::specs::Lines::banging))]
 fn banging(l: Layout, w: u32) -> bool
     ensures { result ≡ banging l w }
 {
@@ -39,6 +40,7 @@ fn banging(l: Layout, w: u32) -> bool
     !hardware::none_of(w, l.bben)
 }
 
+#[tactic(auto, unfolding(wire::specs::Lines::pulling))]
 fn pulling(l: Layout, oen: u32, out: u32, w: u32) -> bool
     ensures { result ≡ pulling l oen out w }
 {
@@ -51,6 +53,7 @@ fn pulling(l: Layout, oen: u32, out: u32, w: u32) -> bool
 }
 
 // Whether SDA is high with this word, where the module pulls it or not.
+#[tactic(auto, using(crate::proofs::Laws::or_false, crate::proofs::Laws::or_true), unfolding(wire::specs::Lines::pulls_sda))]
 fn sda_high(l: Layout, w: u32, pulled: bool) -> bool
     ensures { result ≡ not (pulls_sda l w || pulled) }
 {
@@ -61,6 +64,7 @@ fn sda_high(l: Layout, w: u32, pulled: bool) -> bool
 }
 
 // Whether SCL is high with this word; the module never pulls it.
+#[tactic(auto, using(crate::proofs::Laws::or_false), unfolding(wire::specs::Lines::pulls_scl))]
 fn scl_high(l: Layout, w: u32) -> bool
     ensures { result ≡ not (pulls_scl l w || false) }
 {
@@ -68,6 +72,7 @@ fn scl_high(l: Layout, w: u32) -> bool
 }
 
 // The same as the module sees them, the master felt or not.
+#[tactic(auto, unfolding(crate::specs::Mux::across, hardware::specs::Prog::pick, wire::specs::Lines::levels, wire::specs::Lines::master))]
 fn sees_sda(l: Layout, joined: bool, w: u32, pulled: bool) -> bool
     ensures { result ≡ not ((across joined (master l w)).sda || pulled) }
 {
@@ -77,6 +82,7 @@ fn sees_sda(l: Layout, joined: bool, w: u32, pulled: bool) -> bool
     !pulled
 }
 
+#[tactic(auto, unfolding(crate::specs::Mux::across, hardware::specs::Prog::pick, wire::specs::Lines::levels, wire::specs::Lines::master))]
 fn sees_scl(l: Layout, joined: bool, w: u32) -> bool
     ensures { result ≡ not ((across joined (master l w)).scl || false) }
 {
@@ -86,6 +92,7 @@ fn sees_scl(l: Layout, joined: bool, w: u32) -> bool
     true
 }
 
+#[tactic(auto, unfolding(crate::specs::Mux::takes_edges, wire::specs::Lines::scl_edge, crate::specs::Edges::edge_of))]
 fn scl_moves(before: bool, after: bool, sda: bool, b: Bench) -> Bench
     ensures { result ≡ takes_edges (scl_edge before after sda) b }
 {
@@ -101,6 +108,7 @@ fn scl_moves(before: bool, after: bool, sda: bool, b: Bench) -> Bench
     b
 }
 
+#[tactic(auto, unfolding(crate::specs::Mux::takes_edges, wire::specs::Lines::sda_edge, crate::specs::Edges::edge_of))]
 fn sda_moves(scl: bool, before: bool, after: bool, b: Bench) -> Bench
     ensures { result ≡ takes_edges (sda_edge scl before after) b }
 {
@@ -121,6 +129,7 @@ fn sda_moves(scl: bool, before: bool, after: bool, b: Bench) -> Bench
 
 // What the module makes of a write: the word and whether the master is felt, before and after it. It sees SCL move first, at
 // the old SDA.
+#[tactic(auto, using(crate::proofs::Mux::edges_append), unfolding(crate::specs::Mux::moved, crate::specs::Mux::sees, wire::specs::Lines::edge, wire::specs::Lines::levels))]
 fn moves(l: Layout, old: u32, felt: bool, new: u32, feels: bool, b: Bench) -> Bench
     ensures { result ≡ moved (sees felt (master l old) b) (sees feels (master l new) b) b }
 {
@@ -131,6 +140,7 @@ fn moves(l: Layout, old: u32, felt: bool, new: u32, feels: bool, b: Bench) -> Be
     sda_moves(scl, sda, sees_sda(l, feels, new, pulled), between)
 }
 
+#[tactic(auto, unfolding(wire::specs::Lines::input))]
 fn input(mask: u32, high: bool, w: u32) -> u32
     ensures { result ≡ input mask high w }
 {
@@ -141,6 +151,7 @@ fn input(mask: u32, high: bool, w: u32) -> u32
 }
 
 // Whether the port reaches its module through a mux: the X552's port 1.
+#[tactic(auto, unfolding(crate::specs::Mux::has_mux))]
 pub fn has_mux(port: Port) -> bool
     ensures { result ≡ has_mux port }
 {
@@ -152,6 +163,7 @@ pub fn has_mux(port: Port) -> bool
 }
 
 // The mux is on while bit 1 of ESDP is set.
+#[tactic(auto, unfolding(crate::specs::Mux::joins))]
 fn joins(mux: bool, esdp: u32) -> bool
     ensures { result ≡ joins mux esdp }
 {
@@ -162,6 +174,7 @@ fn joins(mux: bool, esdp: u32) -> bool
 }
 
 // Whether the master feels SDA pulled.
+#[tactic(auto, unfolding(crate::specs::Mux::across, hardware::specs::Prog::pick))]
 fn pull_felt(joined: bool, b: Bench) -> bool
     ensures { drawn result false ≡ across joined (drawn (pulls_low b) false) }
 {
@@ -171,6 +184,7 @@ fn pull_felt(joined: bool, b: Bench) -> bool
     false
 }
 
+#[tactic(auto, unfolding(wire::specs::Machine::reading, wire::specs::Lines::inputs, wire::specs::Lines::levels, wire::specs::Lines::master))]
 fn reading(l: Layout, mux: bool, d: BenchState) -> u32
     ensures { result ≡ reading l (side mux) (world d) }
 {
@@ -180,6 +194,7 @@ fn reading(l: Layout, mux: bool, d: BenchState) -> u32
     input(l.sdain, sda_high(l, d.word, pulled), with_scl)
 }
 
+#[tactic(auto, using(crate::proofs::Mux::turn_moves), unfolding(wire::specs::Machine::wrote))]
 fn write(l: Layout, mux: bool, d: BenchState, v: u32) -> BenchState
     ensures { result ≡ bench_state (wrote l (side mux) v (world d)) }
 {
@@ -193,6 +208,7 @@ fn write(l: Layout, mux: bool, d: BenchState, v: u32) -> BenchState
     }
 }
 
+#[tactic(auto, unfolding(wire::specs::Machine::switched, crate::specs::Mux::switched_to))]
 fn switch(l: Layout, mux: bool, d: BenchState, v: u32) -> BenchState
     ensures { result ≡ bench_state (switched l (side mux) v (world d)) }
 {
@@ -235,6 +251,7 @@ fn at_mux(mux: bool, register: u32) -> bool
     false
 }
 
+#[tactic(auto, unfolding(crate::specs::Register::accessed, wire::specs::Machine::modelled, wire::specs::Machine::models, wire::specs::Machine::at_lines, wire::specs::Machine::reply, wire::specs::Machine::after, hardware::specs::Prog::pick))]
 fn read_at(l: Layout, mux: bool, register: u32, d: BenchState) -> Reply
     ensures { result ≡ accessed l mux (Access.Read register) d }
 {
@@ -247,6 +264,7 @@ fn read_at(l: Layout, mux: bool, register: u32, d: BenchState) -> Reply
     elsewhere(d)
 }
 
+#[tactic(auto, unfolding(crate::specs::Register::accessed, wire::specs::Machine::modelled, wire::specs::Machine::models, wire::specs::Machine::at_lines, wire::specs::Machine::reply, wire::specs::Machine::after, hardware::specs::Prog::pick))]
 fn write_at(l: Layout, mux: bool, register: u32, v: u32, d: BenchState) -> Reply
     ensures { result ≡ accessed l mux (Access.Write register v) d }
 {
@@ -271,6 +289,7 @@ fn elsewhere(d: BenchState) -> Reply
 
 // A step of the bench: an access to I2CCTL, or to ESDP where the port has a mux, is answered and the module moved, any other
 // is left to the caller.
+#[tactic(auto, unfolding(crate::specs::Register::accessed, wire::specs::Machine::modelled, hardware::specs::Prog::pick))]
 pub fn access(port: Port, d: BenchState, x: Access) -> Reply
     ensures { result ≡ accessed (layout_of port.family) (has_mux port) x d }
 {
@@ -285,6 +304,7 @@ pub fn access(port: Port, d: BenchState, x: Access) -> Reply
 }
 
 // Whether I2CCTL is one that the driver may begin with: on the X552 layout BB_EN is set or both enables are off.
+#[tactic(auto, unfolding(wire::specs::Lines::ready))]
 pub fn ready(family: Family, word: u32) -> bool
     ensures { result ≡ ready (layout_of family) word }
 {
@@ -299,6 +319,7 @@ pub fn ready(family: Family, word: u32) -> bool
 }
 
 // Whether both lines are released.
+#[tactic(auto, unfolding(crate::specs::Register::released, wire::specs::Lines::levels, wire::specs::Lines::master))]
 pub fn released(family: Family, d: BenchState) -> bool
     ensures { result ≡ released (layout_of family) d }
 {

@@ -7,6 +7,7 @@ ghost use Rattle.bench.specs.View.{within, viewed, view, view_at};
 use hardware::Refusal;
 
 // Whether a part lies in the page, which ends with the bytes lent.
+#[tactic(auto, using(crate::proofs::Laws::left_fits), unfolding(crate::specs::View::within))]
 fn within(page: &[u8], first: usize, size: usize) -> bool
     ensures { result ≡ within page.now first size }
 {
@@ -17,6 +18,7 @@ fn within(page: &[u8], first: usize, size: usize) -> bool
 }
 
 // The number of the refusal, or 0 where `view` hands the part back.
+#[tactic(auto, unfolding(crate::specs::View::viewed, hardware::specs::Prog::pick))]
 pub fn viewed(a0: &[u8], a2: &[u8], device: u8, first: usize, size: usize) -> u8
     ensures { result ≡ viewed a0.now a2.now device first size }
 {
@@ -27,6 +29,7 @@ pub fn viewed(a0: &[u8], a2: &[u8], device: u8, first: usize, size: usize) -> u8
     }
 }
 
+#[tactic(auto, unfolding(hardware::specs::Prog::pick))]
 fn number(fits: bool) -> u8
     ensures { result ≡ pick fits 0 (refusal_number Refusal.Buffer) }
 {
@@ -37,6 +40,7 @@ fn number(fits: bool) -> u8
 }
 
 // The part requested; refused, the empty part at the head of A0.
+#[tactic(auto, using(crate::proofs::Laws::page_a0, crate::proofs::Laws::page_a2, crate::proofs::Laws::part_size, crate::proofs::Laws::viewed_fits), unfolding(crate::specs::View::view, crate::specs::View::view_at, hardware::specs::Prog::pick))]
 pub fn view<'a>(a0: &'a [u8], a2: &'a [u8], device: u8, first: usize, size: usize) -> &'a [u8]
     ensures result_value { result.now ≡ view a0.now a2.now device first size }
     ensures ref_ptr_value { result.ref_ptr ≡ view_at a0.entry.ref_ptr a2.entry.ref_ptr (viewed a0.now a2.now device first size) device first }

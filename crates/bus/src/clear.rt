@@ -38,6 +38,7 @@ pub enum ClearNext {
     End(u32, Outcome),
 }
 
+#[tactic(auto, using(hardware::proofs::Prog::heard_on), unfolding(hardware::specs::Prog::followed, crate::specs::Command::job_next, crate::specs::Bus::or_held, hardware::specs::Registers::byte, crate::specs::Bus::quieted, crate::specs::Bus::or_quiet, hardware::specs::Prog::erase, hardware::specs::Prog::pick, crate::specs::Clear::clear_next, crate::specs::Clear::valid_clear_next, crate::specs::Clear::access_clear, crate::specs::Clear::rest_clear, crate::specs::Clear::rest_part, crate::specs::Clear::valid_clear, crate::specs::Clear::valid_part, crate::specs::Clear::command_of, crate::specs::Command::valid_job_next))]
 fn stopped(l: Layout, n: JobNext) -> ClearNext
     ensures result_value { clear_next l result ≡ followed (job_next l 0 StopCommand n (λ _. done none)) (quieted (done none)) }
     ensures result_value_2 { valid_job_next l StopCommand n ≡ true → valid_clear_next l result ≡ true }
@@ -59,6 +60,7 @@ fn stopped(l: Layout, n: JobNext) -> ClearNext
     }
 }
 
+#[tactic(auto, using(crate::proofs::Commands::job_stop, hardware::proofs::Prog::over), unfolding(crate::specs::Bus::clear_stop, crate::specs::Bus::quiet, crate::specs::Command::valid_job_next))]
 pub fn stop(l: Layout, ctl: u32) -> ClearNext
     ensures result_value { clear_next l result ≡ erase (clear_stop l ctl) }
     ensures result_value_2 { valid_clear_next l result ≡ true }
@@ -66,6 +68,7 @@ pub fn stop(l: Layout, ctl: u32) -> ClearNext
     stopped(l, JobNext::Going(crate::job::open(l, Command::Stop, ctl)))
 }
 
+#[tactic(auto, using(hardware::proofs::Prog::heard_on), unfolding(hardware::specs::Prog::followed, crate::specs::Command::job_next, crate::specs::Bus::or_held, hardware::specs::Registers::byte, crate::specs::Bus::quieted, crate::specs::Bus::or_quiet, hardware::specs::Prog::erase, hardware::specs::Prog::pick, crate::specs::Clear::valid_clear_next, crate::specs::Clear::clear_next, crate::specs::Clear::access_clear, crate::specs::Clear::rest_clear, crate::specs::Clear::rest_part, crate::specs::Clear::valid_clear, crate::specs::Clear::valid_part, crate::specs::Clear::command_of, crate::specs::Command::valid_job_next))]
 fn started(l: Layout, n: JobNext) -> ClearNext
     ensures result_value { clear_next l result ≡ followed (job_next l 0 StartCommand n (λ _. done none)) (quieted (clear_stop l)) }
     ensures result_value_2 { valid_job_next l StartCommand n ≡ true → valid_clear_next l result ≡ true }
@@ -87,6 +90,7 @@ fn started(l: Layout, n: JobNext) -> ClearNext
     }
 }
 
+#[tactic(auto, using(crate::proofs::Commands::job_start, hardware::proofs::Prog::over), unfolding(crate::specs::Bus::clear_again, crate::specs::Bus::quiet, crate::specs::Command::valid_job_next))]
 fn again(l: Layout, ctl: u32) -> ClearNext
     ensures result_value { clear_next l result ≡ erase (clear_again l ctl) }
     ensures result_value_2 { valid_clear_next l result ≡ true }
@@ -94,6 +98,7 @@ fn again(l: Layout, ctl: u32) -> ClearNext
     started(l, JobNext::Going(crate::job::open(l, Command::Start, ctl)))
 }
 
+#[tactic(auto, unfolding(crate::specs::Clear::clear_next, crate::specs::Clear::access_clear, crate::specs::Clear::rest_clear, crate::specs::Clear::rest_part, crate::specs::Command::job_next, crate::specs::Clear::valid_clear_next, crate::specs::Clear::valid_clear, crate::specs::Clear::valid_part, crate::specs::Clear::command_of, crate::specs::Command::valid_job_next, hardware::specs::Prog::pick, crate::specs::Bus::or_held, hardware::specs::Registers::byte, hardware::specs::Prog::erase))]
 fn freed(l: Layout, n: JobNext) -> ClearNext
     ensures result_value { clear_next l result ≡ job_next l 0 (FreeCommand Pulses) n (λ _. clear_again l) }
     ensures result_value_2 { valid_job_next l (FreeCommand Pulses) n ≡ true → valid_clear_next l result ≡ true }
@@ -110,6 +115,7 @@ fn freed(l: Layout, n: JobNext) -> ClearNext
     }
 }
 
+#[tactic(auto, using(crate::proofs::Commands::job_free), unfolding(crate::specs::Bus::clear_free, crate::specs::Command::freed, crate::specs::Command::valid_job_next))]
 fn free(l: Layout, ctl: u32) -> ClearNext
     ensures result_value { clear_next l result ≡ erase (clear_free l ctl) }
     ensures result_value_2 { valid_clear_next l result ≡ true }
@@ -120,6 +126,7 @@ fn free(l: Layout, ctl: u32) -> ClearNext
     )
 }
 
+#[tactic(auto, using(hardware::proofs::Prog::heard_on), unfolding(hardware::specs::Prog::followed, crate::specs::Command::job_next, crate::specs::Bus::or_held, hardware::specs::Registers::byte, crate::specs::Bus::quieted, crate::specs::Bus::or_quiet, hardware::specs::Prog::erase, hardware::specs::Prog::pick, crate::specs::Clear::valid_clear_next, crate::specs::Clear::clear_next, crate::specs::Clear::access_clear, crate::specs::Clear::rest_clear, crate::specs::Clear::rest_part, crate::specs::Clear::valid_clear, crate::specs::Clear::valid_part, crate::specs::Clear::command_of, crate::specs::Command::valid_job_next))]
 fn first(l: Layout, n: JobNext) -> ClearNext
     ensures result_value { clear_next l result ≡ followed (job_next l 0 StartCommand n (λ _. done none)) (quieted (clear_free l)) }
     ensures result_value_2 { valid_job_next l StartCommand n ≡ true → valid_clear_next l result ≡ true }
@@ -141,6 +148,7 @@ fn first(l: Layout, n: JobNext) -> ClearNext
     }
 }
 
+#[tactic(auto, using(crate::proofs::Commands::job_start, hardware::proofs::Prog::over), unfolding(crate::specs::Bus::clear, crate::specs::Bus::quiet, crate::specs::Command::valid_job_next))]
 pub fn open(l: Layout, ctl: u32) -> ClearNext
     ensures result_value { clear_next l result ≡ erase (clear l ctl) }
     ensures result_value_2 { valid_clear_next l result ≡ true }
@@ -148,6 +156,7 @@ pub fn open(l: Layout, ctl: u32) -> ClearNext
     first(l, JobNext::Going(crate::job::open(l, Command::Start, ctl)))
 }
 
+#[tactic(auto, unfolding(crate::specs::Clear::access_clear))]
 pub fn access(l: Layout, s: Clear) -> Access
     ensures { result ≡ access_clear l s }
 {
@@ -162,6 +171,7 @@ pub fn heard(s: Clear) -> u8
     crate::job::heard(j)
 }
 
+#[tactic(auto, using(crate::proofs::Laws::picked_first, crate::proofs::Laws::picked_second, hardware::proofs::Prog::over), unfolding(crate::specs::Clear::rest_clear, crate::specs::Clear::rest_part, crate::specs::Clear::valid_clear, crate::specs::Clear::valid_part, crate::specs::Clear::command_of, hardware::specs::Prog::pick))]
 pub fn step(l: Layout, s: Clear, a: Answer) -> ClearNext
     ensures result_value { clear_next l result ≡ erase (rest_clear l s a) }
     ensures result_value_2 { valid_clear l s ≡ true → valid_clear_next l result ≡ true }
@@ -197,6 +207,7 @@ pub fn step(l: Layout, s: Clear, a: Answer) -> ClearNext
     }
 }
 
+#[tactic(auto, unfolding(crate::specs::Clear::command_of))]
 fn command(p: Part) -> Command
     ensures { result ≡ command_of p }
 {
@@ -211,6 +222,7 @@ fn command(p: Part) -> Command
     }
 }
 
+#[tactic(auto, unfolding(crate::specs::Clear::valid_part))]
 fn valid_part(p: Part) -> bool
     ensures { result ≡ valid_part p }
 {
@@ -225,6 +237,7 @@ fn valid_part(p: Part) -> bool
     }
 }
 
+#[tactic(auto, unfolding(crate::specs::Clear::valid_clear, hardware::specs::Prog::pick))]
 pub fn valid(l: Layout, s: Clear) -> bool
     ensures { result ≡ valid_clear l s }
 {

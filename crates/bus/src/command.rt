@@ -26,6 +26,7 @@ pub enum Command {
     Free(Piece),
 }
 
+#[tactic(auto, unfolding(crate::specs::Bus::bit_of))]
 fn bit(byte: u8, n: u8) -> bool
     requires { n < 64 }
     ensures { result ≡ bit_of byte n }
@@ -33,6 +34,7 @@ fn bit(byte: u8, n: u8) -> bool
     (byte as u64 >> n) % 2 == 1
 }
 
+#[tactic(auto, using(crate::proofs::Laws::pulse_first), unfolding(crate::specs::Command::pulse_call))]
 fn pulse(n: u8) -> Call
     ensures { result ≡ pulse_call n }
 {
@@ -44,6 +46,7 @@ fn pulse(n: u8) -> Call
     }
 }
 
+#[tactic(auto, unfolding(crate::specs::Command::out_bit_call, hardware::specs::Prog::pick))]
 fn out_bit(high: bool, n: u8) -> Call
     ensures { result ≡ out_bit_call high n }
 {
@@ -53,6 +56,7 @@ fn out_bit(high: bool, n: u8) -> Call
     Call::Sda(high)
 }
 
+#[tactic(auto, using(crate::proofs::Laws::sense_first), unfolding(crate::specs::Command::sense_call))]
 fn sense(n: u8) -> Call
     ensures { result ≡ sense_call n }
 {
@@ -66,6 +70,7 @@ fn sense(n: u8) -> Call
     }
 }
 
+#[tactic(auto, using(crate::proofs::Laws::ack_first), unfolding(crate::specs::Command::ack_call))]
 fn ack(n: u8) -> Call
     ensures { result ≡ ack_call n }
 {
@@ -78,6 +83,7 @@ fn ack(n: u8) -> Call
     }
 }
 
+#[tactic(auto, using(crate::proofs::Laws::start_first), unfolding(crate::specs::Command::start_call))]
 fn start(n: u8) -> Call
     ensures { result ≡ start_call n }
 {
@@ -93,6 +99,7 @@ fn start(n: u8) -> Call
     }
 }
 
+#[tactic(auto, using(crate::proofs::Laws::stop_first), unfolding(crate::specs::Command::stop_call))]
 fn stop(n: u8) -> Call
     ensures { result ≡ stop_call n }
 {
@@ -105,6 +112,7 @@ fn stop(n: u8) -> Call
     }
 }
 
+#[tactic(auto, unfolding(crate::specs::Command::send_call, hardware::specs::Prog::pick))]
 fn send(byte: u8, n: u8) -> Call
     ensures { result ≡ send_call byte n }
 {
@@ -115,6 +123,7 @@ fn send(byte: u8, n: u8) -> Call
     out_bit(bit(byte, m / 5), m % 5)
 }
 
+#[tactic(auto, unfolding(crate::specs::Command::read_call, hardware::specs::Prog::pick))]
 fn read(high: bool, n: u8) -> Call
     ensures { result ≡ read_call high n }
 {
@@ -124,6 +133,7 @@ fn read(high: bool, n: u8) -> Call
     sense((n - 5) % 6)
 }
 
+#[tactic(auto, unfolding(crate::specs::Command::pulses_call, hardware::specs::Prog::pick))]
 fn pulses(n: u8) -> Call
     ensures { result ≡ pulses_call n }
 {
@@ -133,6 +143,7 @@ fn pulses(n: u8) -> Call
     Call::Release
 }
 
+#[tactic(auto, using(crate::proofs::Laws::probe_first), unfolding(crate::specs::Command::probe_call))]
 fn probe(n: u8) -> Call
     ensures { result ≡ probe_call n }
 {
@@ -144,6 +155,7 @@ fn probe(n: u8) -> Call
     }
 }
 
+#[tactic(auto, unfolding(crate::specs::Command::free_call))]
 fn free(p: Piece, n: u8) -> Call
     ensures { result ≡ free_call p n }
 {
@@ -156,6 +168,7 @@ fn free(p: Piece, n: u8) -> Call
 }
 
 // On the X552 and X553 a stop has one call more, the word that ends bit-banging.
+#[tactic(auto, unfolding(crate::specs::Command::end_call, hardware::specs::Prog::pick))]
 fn end(l: Layout, n: u8) -> Call
     ensures { result ≡ end_call l n }
 {
@@ -168,6 +181,7 @@ fn end(l: Layout, n: u8) -> Call
     stop(n - 1)
 }
 
+#[tactic(auto, unfolding(crate::specs::Command::call_at))]
 pub fn call(l: Layout, c: Command, n: u8) -> Call
     ensures { result ≡ call_at l c n }
 {
@@ -180,6 +194,7 @@ pub fn call(l: Layout, c: Command, n: u8) -> Call
     }
 }
 
+#[tactic(auto, unfolding(crate::specs::Command::stop_count, hardware::specs::Prog::pick))]
 fn stop_count(l: Layout) -> u8
     ensures { result ≡ stop_count l }
 {
@@ -189,6 +204,7 @@ fn stop_count(l: Layout) -> u8
     6
 }
 
+#[tactic(auto, unfolding(crate::specs::Command::free_count))]
 fn free_count(p: Piece) -> u8
     ensures { result ≡ free_count p }
 {
@@ -200,6 +216,7 @@ fn free_count(p: Piece) -> u8
     }
 }
 
+#[tactic(auto, unfolding(crate::specs::Command::call_count))]
 pub fn count(l: Layout, c: Command) -> u8
     ensures { result ≡ call_count l c }
 {

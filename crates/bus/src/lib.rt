@@ -1,4 +1,6 @@
 // The module bus through I2CCTL: its two layouts, the line calls of `Bus`, and the commands as lists of line calls.
+#![tactic(auto)]
+
 ghost use Rattle.std.specs.Prelude.{◌≡◌};
 ghost use Rattle.hardware.specs.Failures.{failure_of};
 ghost use Rattle.bus.specs.Layout.{layout_of, x550em};
@@ -36,6 +38,7 @@ pub struct Taken {
 }
 
 // The X552 and X553.
+#[tactic(auto, unfolding(crate::specs::Layout::x550em))]
 pub fn x550em(family: Family) -> bool
     ensures { result ≡ x550em family }
 {
@@ -48,6 +51,7 @@ pub fn x550em(family: Family) -> bool
     }
 }
 
+#[tactic(auto, unfolding(crate::specs::Layout::layout_of, hardware::specs::Prog::pick))]
 pub fn layout_of(family: Family) -> Layout
     ensures { result ≡ layout_of family }
 {
@@ -75,6 +79,7 @@ pub fn layout_of(family: Family) -> Layout
     }
 }
 
+#[tactic(auto, unfolding(crate::specs::Bus::is_i2c, hardware::specs::Failures::failure_of))]
 pub fn is_i2c(e: Error) -> bool
     ensures { result ≡ is_i2c (failure_of e) }
 {

@@ -64,6 +64,7 @@ pub enum LineNext {
     End(u32, u8, Outcome),
 }
 
+#[tactic(auto, unfolding(crate::specs::Line::settle_us))]
 pub(crate) fn settle_us(g: Goal) -> u32
     ensures { result ≡ settle_us g }
 {
@@ -78,6 +79,7 @@ pub(crate) fn settle_us(g: Goal) -> u32
     }
 }
 
+#[tactic(auto, unfolding(crate::specs::Line::access_line, crate::specs::Line::access_at))]
 pub fn access(l: Layout, s: LineState) -> Access
     ensures { result ≡ access_line l s }
 {
@@ -96,6 +98,7 @@ pub fn access(l: Layout, s: LineState) -> Access
     }
 }
 
+#[tactic(auto, unfolding(crate::specs::Line::heard_goal))]
 fn heard_goal(g: Goal) -> u8
     ensures { result ≡ heard_goal g }
 {
@@ -111,6 +114,7 @@ fn heard_goal(g: Goal) -> u8
 }
 
 // The samples that were left when a byte was acknowledged just before the access; 10 where none was.
+#[tactic(auto, unfolding(crate::specs::Line::heard_at))]
 pub fn heard(line: Line) -> u8
     ensures { result ≡ heard_at line }
 {
@@ -129,6 +133,7 @@ pub fn heard(line: Line) -> u8
 }
 
 // SDA reads high.
+#[tactic(auto, unfolding(crate::specs::Bus::sda_level, hardware::specs::Prog::pick))]
 pub(crate) fn sda_level(l: Layout, v: u32) -> bool
     ensures { result ≡ sda_level l v }
 {
@@ -139,6 +144,7 @@ pub(crate) fn sda_level(l: Layout, v: u32) -> bool
 }
 
 // One more bit, from the right.
+#[tactic(auto, unfolding(crate::specs::Bus::shifted, hardware::specs::Prog::pick))]
 pub(crate) fn shift(bits: u8, bit: bool) -> u8
     ensures { result ≡ shifted bits bit }
 {
@@ -155,6 +161,7 @@ pub(crate) fn at(ctl: u32, bits: u8, line: Line) -> LineState
     LineState { ctl, bits, line }
 }
 
+#[tactic(auto, unfolding(crate::specs::Line::line_next, crate::specs::Bus::or_held, hardware::specs::Prog::erase, hardware::specs::Registers::outcome, hardware::specs::Registers::word, crate::specs::Bus::look_seen, crate::specs::Line::valid_line_next))]
 fn look_seen(l: Layout, ctl: u32, bits: u8, w: Word) -> LineNext
     ensures by_index { (k : ℕ → Bus) → line_next l result k ≡ erase (or_held (look_seen l (k bits)) ctl (word w)) }
     ensures result_value { valid_line_next result ≡ true }
@@ -165,6 +172,7 @@ fn look_seen(l: Layout, ctl: u32, bits: u8, w: Word) -> LineNext
     }
 }
 
+#[tactic(auto, unfolding(crate::specs::Line::line_next, crate::specs::Bus::or_held, hardware::specs::Prog::erase, hardware::specs::Registers::outcome, hardware::specs::Registers::word, crate::specs::Bus::sample_seen, crate::specs::Line::sensed, crate::specs::Line::valid_line_next))]
 fn sample_seen(l: Layout, ctl: u32, bits: u8, w: Word) -> LineNext
     ensures by_index { (k : ℕ → Bus) → line_next l result k ≡ erase (or_held (sample_seen l (sensed bits k)) ctl (word w)) }
     ensures result_value { valid_line_next result ≡ true }
@@ -176,6 +184,7 @@ fn sample_seen(l: Layout, ctl: u32, bits: u8, w: Word) -> LineNext
 }
 
 // SCL goes low, a byte having been acknowledged with so many samples left.
+#[tactic(auto, using(hardware::proofs::Prog::erase_heard), unfolding(crate::specs::Line::line_next, crate::specs::Line::heard_at, crate::specs::Line::heard_goal, crate::specs::Line::access_line, crate::specs::Line::access_at, crate::specs::Line::rest_line, crate::specs::Line::rest_at, hardware::specs::Prog::erase, crate::specs::Bus::scl_low, crate::specs::Bus::put, crate::specs::Line::settled, crate::specs::Line::valid_line, crate::specs::Line::valid_goal))]
 fn down(l: Layout, ctl: u32, bits: u8, left: u8) -> LineState
     ensures by_index { (k : ℕ → Bus) → line_next l (LineNext.Going result) k ≡ erase (heard left (scl_low l (k bits)) ctl) }
     ensures line_value { leb left 10 ≡ true → valid_line result.line ≡ true }
@@ -189,6 +198,7 @@ fn down(l: Layout, ctl: u32, bits: u8, left: u8) -> LineState
 }
 
 // The samples that are left; without one, SDA stayed high.
+#[tactic(auto, using(crate::proofs::Laws::ack_more, crate::proofs::Laws::fewer), unfolding(hardware::specs::Marks::acknowledged, crate::specs::Bus::ack_tries, crate::specs::Line::sensed, crate::specs::Line::valid_line_next, crate::specs::Line::valid_line))]
 fn ack_tries(l: Layout, ctl: u32, bits: u8, left: u8) -> LineNext
     ensures by_index { (k : ℕ → Bus) → line_next l result k ≡ erase (ack_tries l left (ack_down l bits k) ctl) }
     ensures result_value { ltb left 10 ≡ true → valid_line_next result ≡ true }
@@ -199,6 +209,7 @@ fn ack_tries(l: Layout, ctl: u32, bits: u8, left: u8) -> LineNext
     LineNext::Going(at(ctl, bits, Line::Ack(left - 1)))
 }
 
+#[tactic(auto, using(crate::proofs::Laws::ltb_leb), unfolding(crate::specs::Bus::or_held, hardware::specs::Registers::word, crate::specs::Bus::ack_seen, hardware::specs::Prog::pick, crate::specs::Line::sensed, crate::specs::Line::valid_line_next, crate::specs::Line::line_next, hardware::specs::Marks::acknowledged, crate::specs::Line::heard_at, crate::specs::Line::heard_goal, hardware::specs::Prog::erase, hardware::specs::Registers::outcome, crate::specs::Line::access_line, crate::specs::Line::access_at, crate::specs::Line::rest_line, crate::specs::Line::rest_at, crate::specs::Bus::wait, crate::specs::Line::valid_line))]
 fn ack_seen(l: Layout, ctl: u32, bits: u8, left: u8, w: Word) -> LineNext
     ensures by_index { (k : ℕ → Bus) → line_next l result k ≡ erase (or_held (ack_seen l left (ack_tries l left (ack_down l bits k)) (ack_down l bits k)) ctl (word w)) }
     ensures result_value { ltb left 10 ≡ true → valid_line_next result ≡ true }
@@ -214,6 +225,7 @@ fn ack_seen(l: Layout, ctl: u32, bits: u8, left: u8, w: Word) -> LineNext
     }
 }
 
+#[tactic(auto, unfolding(crate::specs::Line::line_next, crate::specs::Bus::or_held, hardware::specs::Prog::erase, hardware::specs::Registers::outcome, hardware::specs::Registers::word, crate::specs::Bus::sda_seen, hardware::specs::Prog::pick, crate::specs::Line::valid_line_next, hardware::specs::Failures::failure_of))]
 fn sda_seen(l: Layout, ctl: u32, bits: u8, w: Word) -> LineNext
     ensures by_index { (k : ℕ → Bus) → line_next l result k ≡ erase (or_held (sda_seen l (k bits)) ctl (word w)) }
     ensures result_value { valid_line_next result ≡ true }
@@ -230,6 +242,7 @@ fn sda_seen(l: Layout, ctl: u32, bits: u8, w: Word) -> LineNext
 }
 
 // The tries that are left; without one, it goes on with SCL low.
+#[tactic(auto, using(crate::proofs::Laws::fewer, crate::proofs::Laws::scl_more), unfolding(crate::specs::Line::line_next, crate::specs::Bus::or_held, hardware::specs::Prog::erase, hardware::specs::Registers::outcome, hardware::specs::Registers::word, crate::specs::Bus::scl_tries, crate::specs::Line::valid_line_next, crate::specs::Line::valid_line, crate::specs::Line::valid_goal))]
 fn scl_tries(l: Layout, ctl: u32, bits: u8, left: u16) -> LineNext
     ensures by_index { (k : ℕ → Bus) → line_next l result k ≡ erase (scl_tries l left (k bits) ctl) }
     ensures result_value { ltb left 500 ≡ true → valid_line_next result ≡ true }
@@ -240,6 +253,7 @@ fn scl_tries(l: Layout, ctl: u32, bits: u8, left: u16) -> LineNext
     LineNext::Going(at(ctl | l.sclout, bits, Line::Write(Goal::Up(left - 1))))
 }
 
+#[tactic(auto, unfolding(crate::specs::Bus::or_held, hardware::specs::Registers::word, crate::specs::Bus::scl_seen, hardware::specs::Prog::pick, crate::specs::Line::line_next, hardware::specs::Prog::erase, hardware::specs::Registers::outcome, crate::specs::Line::valid_line_next))]
 fn scl_seen(l: Layout, ctl: u32, bits: u8, left: u16, w: Word) -> LineNext
     ensures by_index { (k : ℕ → Bus) → line_next l result k ≡ erase (or_held (scl_seen l (scl_tries l left (k bits)) (k bits)) ctl (word w)) }
     ensures result_value { ltb left 500 ≡ true → valid_line_next result ≡ true }
@@ -256,6 +270,7 @@ fn scl_seen(l: Layout, ctl: u32, bits: u8, left: u16, w: Word) -> LineNext
 }
 
 // SDA was raised: on the X552 and X553 its output enable goes off, then it is looked at.
+#[tactic(auto, unfolding(crate::specs::Line::line_next, hardware::specs::Marks::acknowledged, crate::specs::Line::heard_at, crate::specs::Line::heard_goal, crate::specs::Line::access_line, crate::specs::Line::access_at, crate::specs::Line::rest_line, crate::specs::Line::rest_at, hardware::specs::Prog::erase, crate::specs::Bus::sda_free, hardware::specs::Prog::pick, crate::specs::Bus::get, crate::specs::Line::valid_line, crate::specs::Bus::put, crate::specs::Line::settled, crate::specs::Line::valid_goal))]
 fn sda_free(l: Layout, ctl: u32, bits: u8) -> LineState
     ensures by_index { (k : ℕ → Bus) → line_next l (LineNext.Going result) k ≡ erase (sda_free l (k bits) ctl) }
     ensures line_value { valid_line result.line ≡ true }
@@ -267,6 +282,7 @@ fn sda_free(l: Layout, ctl: u32, bits: u8) -> LineState
 }
 
 // The wait after a word was put is over.
+#[tactic(auto, unfolding(crate::specs::Line::reached, crate::specs::Line::valid_line_next, crate::specs::Line::line_next, hardware::specs::Marks::acknowledged, crate::specs::Line::heard_at, crate::specs::Line::heard_goal, crate::specs::Line::access_line, crate::specs::Line::access_at, crate::specs::Line::rest_line, crate::specs::Line::rest_at, hardware::specs::Prog::erase, crate::specs::Bus::get, crate::specs::Line::valid_line, crate::specs::Bus::or_held, hardware::specs::Registers::outcome, hardware::specs::Registers::word, crate::specs::Line::valid_goal))]
 fn reach(l: Layout, ctl: u32, bits: u8, g: Goal) -> LineNext
     ensures by_index { (k : ℕ → Bus) → line_next l result k ≡ erase (reached l g (k bits) ctl) }
     ensures result_value { valid_goal g ≡ true → valid_line_next result ≡ true }
@@ -283,6 +299,7 @@ fn reach(l: Layout, ctl: u32, bits: u8, g: Goal) -> LineNext
 }
 
 // The word is put: only two goals have no wait.
+#[tactic(auto, unfolding(crate::specs::Line::line_next, hardware::specs::Marks::acknowledged, crate::specs::Line::heard_at, crate::specs::Line::heard_goal, crate::specs::Line::access_line, crate::specs::Line::access_at, crate::specs::Line::rest_line, crate::specs::Line::rest_at, hardware::specs::Prog::erase, crate::specs::Line::settled, crate::specs::Bus::get, crate::specs::Line::valid_line_next, crate::specs::Line::valid_line, crate::specs::Bus::or_held, hardware::specs::Registers::outcome, hardware::specs::Registers::word, crate::specs::Line::settle_us, crate::specs::Bus::wait, crate::specs::Line::reached))]
 fn settle(l: Layout, ctl: u32, bits: u8, g: Goal) -> LineNext
     ensures by_index { (k : ℕ → Bus) → line_next l result k ≡ erase (settled l g (k bits) ctl) }
     ensures result_value { valid_goal g ≡ true → valid_line_next result ≡ true }
@@ -298,6 +315,7 @@ fn settle(l: Layout, ctl: u32, bits: u8, g: Goal) -> LineNext
     }
 }
 
+#[tactic(auto, unfolding(crate::specs::Bus::or_held, hardware::specs::Registers::outcome, crate::specs::Line::line_next, hardware::specs::Prog::erase, hardware::specs::Registers::word, crate::specs::Line::valid_line_next))]
 fn flush_seen(l: Layout, ctl: u32, bits: u8, g: Goal, o: Outcome) -> LineNext
     ensures by_index { (k : ℕ → Bus) → line_next l result k ≡ erase (or_held (λ _. settled l g (k bits)) ctl (outcome o)) }
     ensures result_value { valid_goal g ≡ true → valid_line_next result ≡ true }
@@ -308,6 +326,7 @@ fn flush_seen(l: Layout, ctl: u32, bits: u8, g: Goal, o: Outcome) -> LineNext
     }
 }
 
+#[tactic(auto, unfolding(crate::specs::Line::line_next, hardware::specs::Marks::acknowledged, crate::specs::Line::heard_at, crate::specs::Line::heard_goal, crate::specs::Line::access_line, crate::specs::Line::access_at, crate::specs::Line::rest_line, crate::specs::Line::rest_at, hardware::specs::Prog::erase, crate::specs::Bus::or_held, hardware::specs::Registers::outcome, crate::specs::Bus::flushing, crate::specs::Line::valid_line_next, crate::specs::Line::valid_line, hardware::specs::Registers::word))]
 fn write_seen(l: Layout, ctl: u32, bits: u8, g: Goal, o: Outcome) -> LineNext
     ensures by_index { (k : ℕ → Bus) → line_next l result k ≡ erase (or_held (λ _. flushing (settled l g (k bits))) ctl (outcome o)) }
     ensures result_value { valid_goal g ≡ true → valid_line_next result ≡ true }
@@ -318,6 +337,7 @@ fn write_seen(l: Layout, ctl: u32, bits: u8, g: Goal, o: Outcome) -> LineNext
     }
 }
 
+#[tactic(auto, using(crate::proofs::Laws::fed_held), unfolding(crate::specs::Line::rest_line, crate::specs::Line::rest_at, crate::specs::Line::line_next, crate::specs::Bus::or_held, hardware::specs::Prog::erase, hardware::specs::Registers::outcome, hardware::specs::Registers::word, crate::specs::Line::valid_line_next, crate::specs::Line::valid_line))]
 pub fn step(l: Layout, s: LineState, a: Answer) -> LineNext
     ensures by_index { (k : ℕ → Bus) → line_next l result k ≡ erase (rest_line l s a k) }
     ensures result_value { valid_line s.line ≡ true → valid_line_next result ≡ true }
@@ -337,6 +357,7 @@ pub fn step(l: Layout, s: LineState, a: Answer) -> LineNext
     }
 }
 
+#[tactic(auto, unfolding(crate::specs::Line::line_next, hardware::specs::Marks::acknowledged, crate::specs::Line::heard_at, crate::specs::Line::heard_goal, crate::specs::Line::access_line, crate::specs::Line::access_at, crate::specs::Line::rest_line, crate::specs::Line::rest_at, hardware::specs::Prog::erase, crate::specs::Bus::sda, crate::specs::Bus::put, crate::specs::Line::settled, crate::specs::Line::valid_line, crate::specs::Line::valid_goal))]
 fn sda(l: Layout, ctl: u32, bits: u8, high: bool) -> LineState
     ensures by_index { (k : ℕ → Bus) → line_next l (LineNext.Going result) k ≡ erase (sda l high (k bits) ctl) }
     ensures line_value { valid_line result.line ≡ true }
@@ -348,6 +369,7 @@ fn sda(l: Layout, ctl: u32, bits: u8, high: bool) -> LineState
     at(ctl & !l.sdaout & !l.sdaoen, bits, Line::Write(Goal::Low))
 }
 
+#[tactic(auto, using(crate::proofs::Laws::ack_open, crate::proofs::Laws::scl_open), unfolding(crate::specs::Line::line_next, hardware::specs::Marks::acknowledged, crate::specs::Line::heard_at, crate::specs::Line::heard_goal, crate::specs::Line::access_line, crate::specs::Line::access_at, crate::specs::Line::rest_line, crate::specs::Line::rest_at, hardware::specs::Prog::erase, crate::specs::Line::called, crate::specs::Bus::look, crate::specs::Bus::get, crate::specs::Line::valid_line, crate::specs::Bus::release_sda, crate::specs::Bus::put, crate::specs::Line::settled, crate::specs::Line::valid_goal, crate::specs::Bus::wait, crate::specs::Line::valid_call, crate::specs::Bus::sample, crate::specs::Bus::close))]
 pub fn open(l: Layout, call: Call, ctl: u32, bits: u8) -> LineState
     ensures by_index { (k : ℕ → Bus) → line_next l (LineNext.Going result) k ≡ erase (called l call bits k ctl) }
     ensures line_value { valid_call call ≡ true → valid_line result.line ≡ true }
@@ -374,6 +396,7 @@ pub fn open(l: Layout, call: Call, ctl: u32, bits: u8) -> LineState
     }
 }
 
+#[tactic(auto, unfolding(crate::specs::Line::valid_goal))]
 pub(crate) fn valid_goal(g: Goal) -> bool
     ensures { result ≡ valid_goal g }
 {
@@ -388,6 +411,7 @@ pub(crate) fn valid_goal(g: Goal) -> bool
     }
 }
 
+#[tactic(auto, unfolding(crate::specs::Line::valid_line))]
 pub fn valid(line: Line) -> bool
     ensures { result ≡ valid_line line }
 {

@@ -43,6 +43,7 @@ fn wait(ctl: u32, bits: u8, g: Goal) -> Quick
     )
 }
 
+#[tactic(auto, unfolding(crate::specs::Quick::QuickBy, crate::specs::Line::line_next, hardware::specs::Marks::acknowledged, crate::specs::Line::heard_at, crate::specs::Line::heard_goal, crate::specs::Line::access_line, crate::specs::Line::access_at, crate::specs::Line::rest_line, crate::specs::Line::rest_at, hardware::specs::Prog::erase, crate::specs::Bus::or_held, hardware::specs::Registers::raw, hardware::specs::Registers::written, hardware::specs::Registers::flushed, crate::specs::Bus::flushing, crate::specs::Line::settled, crate::specs::Line::reached, crate::specs::Line::settle_us, crate::specs::Bus::wait, crate::specs::Bus::get, hardware::specs::Asked::fits, crate::specs::Line::valid_line, crate::specs::Line::valid_goal))]
 fn after_write(ctl: u32, bits: u8, g: Goal) -> Quick
     ensures { (l : Layout) → QuickBy l (line_of ctl bits (Line.Write g)) Answer.Done result }
 {
@@ -55,6 +56,7 @@ fn after_write(ctl: u32, bits: u8, g: Goal) -> Quick
     Quick::Slow
 }
 
+#[tactic(auto, unfolding(crate::specs::Quick::QuickBy, crate::specs::Line::line_next, hardware::specs::Marks::acknowledged, crate::specs::Line::heard_at, crate::specs::Line::heard_goal, crate::specs::Line::access_line, crate::specs::Line::access_at, crate::specs::Line::rest_line, crate::specs::Line::rest_at, hardware::specs::Prog::erase, crate::specs::Bus::or_held, hardware::specs::Registers::raw, hardware::specs::Registers::written, hardware::specs::Registers::flushed, crate::specs::Bus::flushing, crate::specs::Line::settled, crate::specs::Line::reached, crate::specs::Line::settle_us, crate::specs::Bus::wait, crate::specs::Bus::get, hardware::specs::Asked::fits, crate::specs::Line::valid_line, crate::specs::Line::valid_goal, hardware::specs::Registers::outcome))]
 fn after_flush(l: Layout, ctl: u32, bits: u8, g: Goal) -> Quick
     ensures { (v : ℕ) → QuickBy l (line_of ctl bits (Line.Flush g)) (Answer.Value v) result }
 {
@@ -73,6 +75,7 @@ fn after_flush(l: Layout, ctl: u32, bits: u8, g: Goal) -> Quick
 }
 
 // SDA was raised: on the X552 and X553 its output enable goes off first.
+#[tactic(auto, unfolding(crate::specs::Quick::QuickBy, crate::specs::Line::line_next, hardware::specs::Marks::acknowledged, crate::specs::Line::heard_at, crate::specs::Line::heard_goal, crate::specs::Line::access_line, crate::specs::Line::access_at, crate::specs::Line::rest_line, crate::specs::Line::rest_at, hardware::specs::Prog::erase, crate::specs::Bus::or_held, hardware::specs::Registers::raw, hardware::specs::Registers::written, hardware::specs::Registers::flushed, crate::specs::Bus::flushing, crate::specs::Line::settled, crate::specs::Line::reached, crate::specs::Line::settle_us, crate::specs::Bus::wait, crate::specs::Bus::get, hardware::specs::Asked::fits, crate::specs::Line::valid_line, crate::specs::Line::valid_goal, crate::specs::Bus::sda_free, hardware::specs::Prog::pick, crate::specs::Bus::put))]
 fn free(l: Layout, ctl: u32, bits: u8) -> Quick
     ensures { QuickBy l (line_of ctl bits (Line.Settle Goal.High)) Answer.Done result }
 {
@@ -86,6 +89,7 @@ fn free(l: Layout, ctl: u32, bits: u8) -> Quick
     )
 }
 
+#[tactic(auto, unfolding(crate::specs::Quick::QuickBy, crate::specs::Line::line_next, hardware::specs::Marks::acknowledged, crate::specs::Line::heard_at, crate::specs::Line::heard_goal, crate::specs::Line::access_line, crate::specs::Line::access_at, crate::specs::Line::rest_line, crate::specs::Line::rest_at, hardware::specs::Prog::erase, crate::specs::Bus::or_held, hardware::specs::Registers::raw, hardware::specs::Registers::written, hardware::specs::Registers::flushed, crate::specs::Bus::flushing, crate::specs::Line::settled, crate::specs::Line::reached, crate::specs::Line::settle_us, crate::specs::Bus::wait, crate::specs::Bus::get, hardware::specs::Asked::fits, crate::specs::Line::valid_line, crate::specs::Line::valid_goal, hardware::specs::Registers::outcome))]
 fn after_settle(l: Layout, ctl: u32, bits: u8, g: Goal) -> Quick
     ensures { QuickBy l (line_of ctl bits (Line.Settle g)) Answer.Done result }
 {
@@ -106,6 +110,7 @@ fn after_settle(l: Layout, ctl: u32, bits: u8, g: Goal) -> Quick
     Quick::Slow
 }
 
+#[tactic(auto, unfolding(crate::specs::Quick::QuickBy, crate::specs::Line::line_next, hardware::specs::Marks::acknowledged, crate::specs::Line::heard_at, crate::specs::Line::heard_goal, crate::specs::Line::access_line, crate::specs::Line::access_at, crate::specs::Line::rest_line, crate::specs::Line::rest_at, hardware::specs::Prog::erase, crate::specs::Bus::or_held, hardware::specs::Registers::raw, hardware::specs::Registers::written, hardware::specs::Registers::flushed, crate::specs::Bus::flushing, crate::specs::Line::settled, crate::specs::Line::reached, crate::specs::Line::settle_us, crate::specs::Bus::wait, crate::specs::Bus::get, hardware::specs::Asked::fits, crate::specs::Line::valid_line, crate::specs::Line::valid_goal, hardware::specs::Registers::outcome, crate::specs::Bus::sda_seen, hardware::specs::Prog::pick))]
 fn after_check(l: Layout, ctl: u32, bits: u8, v: u32) -> Quick
     ensures { QuickBy l (line_of ctl bits Line.Check) (Answer.Value v) result }
 {
@@ -115,6 +120,7 @@ fn after_check(l: Layout, ctl: u32, bits: u8, v: u32) -> Quick
     Quick::Ended(ctl, bits)
 }
 
+#[tactic(auto, unfolding(crate::specs::Quick::QuickBy, crate::specs::Line::line_next, hardware::specs::Marks::acknowledged, crate::specs::Line::heard_at, crate::specs::Line::heard_goal, crate::specs::Line::access_line, crate::specs::Line::access_at, crate::specs::Line::rest_line, crate::specs::Line::rest_at, hardware::specs::Prog::erase, crate::specs::Bus::or_held, hardware::specs::Registers::raw, hardware::specs::Registers::written, hardware::specs::Registers::flushed, crate::specs::Bus::flushing, crate::specs::Line::settled, crate::specs::Line::reached, crate::specs::Line::settle_us, crate::specs::Bus::wait, crate::specs::Bus::get, hardware::specs::Asked::fits, crate::specs::Line::valid_line, crate::specs::Line::valid_goal, hardware::specs::Registers::outcome, crate::specs::Bus::scl_seen, hardware::specs::Prog::pick))]
 fn after_rise(l: Layout, ctl: u32, bits: u8, left: u16, v: u32) -> Quick
     ensures { QuickBy l (line_of ctl bits (Line.Rise left)) (Answer.Value v) result }
 {
@@ -127,6 +133,7 @@ fn after_rise(l: Layout, ctl: u32, bits: u8, left: u16, v: u32) -> Quick
     Quick::Slow
 }
 
+#[tactic(auto, unfolding(crate::specs::Quick::QuickBy, crate::specs::Line::line_next, hardware::specs::Marks::acknowledged, crate::specs::Line::heard_at, crate::specs::Line::heard_goal, crate::specs::Line::access_line, crate::specs::Line::access_at, crate::specs::Line::rest_line, crate::specs::Line::rest_at, hardware::specs::Prog::erase, crate::specs::Bus::or_held, hardware::specs::Registers::raw, hardware::specs::Registers::written, hardware::specs::Registers::flushed, crate::specs::Bus::flushing, crate::specs::Line::settled, crate::specs::Line::reached, crate::specs::Line::settle_us, crate::specs::Bus::wait, crate::specs::Bus::get, hardware::specs::Asked::fits, crate::specs::Line::valid_line, crate::specs::Line::valid_goal, hardware::specs::Registers::outcome, crate::specs::Bus::look_seen, crate::specs::Bus::sample_seen, crate::specs::Line::sensed))]
 fn value(l: Layout, ctl: u32, bits: u8, line: Line, v: u32) -> Quick
     ensures { QuickBy l (line_of ctl bits line) (Answer.Value v) result }
 {
@@ -144,6 +151,7 @@ fn value(l: Layout, ctl: u32, bits: u8, line: Line, v: u32) -> Quick
     }
 }
 
+#[tactic(auto, unfolding(crate::specs::Quick::QuickBy, crate::specs::Line::line_next, hardware::specs::Marks::acknowledged, crate::specs::Line::heard_at, crate::specs::Line::heard_goal, crate::specs::Line::access_line, crate::specs::Line::access_at, crate::specs::Line::rest_line, crate::specs::Line::rest_at, hardware::specs::Prog::erase, crate::specs::Bus::or_held, hardware::specs::Registers::raw, hardware::specs::Registers::written, hardware::specs::Registers::flushed, crate::specs::Bus::flushing, crate::specs::Line::settled, crate::specs::Line::reached, crate::specs::Line::settle_us, crate::specs::Bus::wait, crate::specs::Bus::get, hardware::specs::Asked::fits, crate::specs::Line::valid_line, crate::specs::Line::valid_goal, hardware::specs::Registers::outcome))]
 fn after_pause(ctl: u32, bits: u8, us: u8) -> Quick
     ensures { (l : Layout) → QuickBy l (line_of ctl bits (Line.Pause us)) Answer.Done result }
 {
@@ -153,6 +161,7 @@ fn after_pause(ctl: u32, bits: u8, us: u8) -> Quick
     Quick::Slow
 }
 
+#[tactic(auto, unfolding(crate::specs::Quick::QuickBy))]
 fn done(l: Layout, ctl: u32, bits: u8, line: Line) -> Quick
     ensures { QuickBy l (line_of ctl bits line) Answer.Done result }
 {
@@ -170,6 +179,7 @@ fn done(l: Layout, ctl: u32, bits: u8, line: Line) -> Quick
     }
 }
 
+#[tactic(auto, unfolding(crate::specs::Quick::QuickBy))]
 fn step(l: Layout, s: LineState, a: Answer) -> Quick
     ensures { QuickBy l s a result }
 {
@@ -182,6 +192,7 @@ fn step(l: Layout, s: LineState, a: Answer) -> Quick
 }
 
 // The line call that has so many after it is made.
+#[tactic(auto, using(crate::proofs::Laws::picked, crate::proofs::Laws::valid_calls), unfolding(crate::specs::Quick::MovedBy, crate::specs::Command::job_next, crate::specs::Command::access_job, crate::specs::Command::rest_job, crate::specs::Line::line_next, crate::specs::Command::valid_job))]
 fn begin(l: Layout, c: Command, ctl: u32, bits: u8, left: u8) -> Moved
     ensures { MovedBy (BegunBy l c ctl bits left) result }
 {
@@ -190,6 +201,7 @@ fn begin(l: Layout, c: Command, ctl: u32, bits: u8, left: u8) -> Moved
 }
 
 // A step of a command's job.
+#[tactic(auto, using(crate::proofs::Laws::fewer, crate::proofs::Laws::moved_map, crate::proofs::Laws::calls_more, crate::proofs::Laws::picked), unfolding(crate::specs::Quick::MovedBy, crate::specs::Command::job_next, crate::specs::Command::access_job, crate::specs::Command::rest_job, crate::specs::Line::line_next, crate::specs::Command::valid_job, crate::specs::Quick::QuickBy, crate::specs::Bus::or_held, hardware::specs::Registers::outcome))]
 pub fn job(l: Layout, c: Command, j: Job, a: Answer) -> Moved
     ensures { (device : ℕ) → MovedBy (JobMoves l device c j a) result }
 {

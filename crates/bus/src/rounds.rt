@@ -14,6 +14,7 @@ use crate::command::{Command, Piece};
 use crate::job::JobNext;
 use hardware::{Byte, Outcome};
 
+#[tactic(auto, unfolding(crate::specs::Clear::clear_next, crate::specs::Clear::access_clear, crate::specs::Clear::rest_clear, crate::specs::Clear::rest_part, crate::specs::Command::job_next, crate::specs::Clear::valid_clear_next, crate::specs::Clear::valid_clear, crate::specs::Clear::valid_part, crate::specs::Clear::command_of, crate::specs::Command::valid_job_next, hardware::specs::Prog::pick, crate::specs::Bus::or_held, hardware::specs::Registers::byte, hardware::specs::Prog::erase))]
 pub fn pulled(l: Layout, n: JobNext) -> ClearNext
     ensures result_value { clear_next l result ≡ job_next l 0 (FreeCommand Pull) n (λ _. clear_stop l) }
     ensures result_value_2 { valid_job_next l (FreeCommand Pull) n ≡ true → valid_clear_next l result ≡ true }
@@ -30,6 +31,7 @@ pub fn pulled(l: Layout, n: JobNext) -> ClearNext
     }
 }
 
+#[tactic(auto, using(crate::proofs::Commands::job_free), unfolding(crate::specs::Command::freed, crate::specs::Clear::clear_next, crate::specs::Clear::access_clear, crate::specs::Clear::rest_clear, crate::specs::Clear::rest_part, crate::specs::Command::job_next, crate::specs::Clear::valid_clear_next, crate::specs::Clear::valid_clear, crate::specs::Clear::valid_part, crate::specs::Clear::command_of, hardware::specs::Prog::pick, crate::specs::Bus::pulled))]
 fn pull(l: Layout, ctl: u32) -> ClearNext
     ensures result_value { clear_next l result ≡ erase (pulled l ctl) }
     ensures result_value_2 { valid_clear_next l result ≡ true }
@@ -41,6 +43,7 @@ fn pull(l: Layout, ctl: u32) -> ClearNext
 }
 
 // So many rounds.
+#[tactic(auto, using(crate::proofs::Commands::round_more, crate::proofs::Laws::fewer_than, crate::proofs::Laws::picked), unfolding(crate::specs::Clear::clear_next, crate::specs::Bus::rounds, hardware::specs::Prog::erase, crate::specs::Clear::valid_clear_next, crate::specs::Clear::access_clear, crate::specs::Clear::rest_clear, crate::specs::Clear::rest_part, crate::specs::Command::job_next, crate::specs::Clear::valid_clear, crate::specs::Clear::valid_part, crate::specs::Clear::command_of, crate::specs::Command::call_count, crate::specs::Command::free_count))]
 fn from(l: Layout, left: u8, ctl: u32) -> ClearNext
     ensures result_value { clear_next l result ≡ erase (rounds l left ctl) }
     ensures result_value_2 { leb left 10 ≡ true → valid_clear_next l result ≡ true }
@@ -54,6 +57,7 @@ fn from(l: Layout, left: u8, ctl: u32) -> ClearNext
     })
 }
 
+#[tactic(auto, using(crate::proofs::Laws::picked, crate::proofs::Laws::under), unfolding(crate::specs::Clear::clear_next, crate::specs::Clear::access_clear, crate::specs::Clear::rest_clear, crate::specs::Clear::rest_part, crate::specs::Command::job_next, crate::specs::Clear::valid_clear_next, crate::specs::Clear::valid_clear, crate::specs::Clear::valid_part, crate::specs::Clear::command_of, crate::specs::Command::valid_job_next, hardware::specs::Prog::pick, crate::specs::Bus::or_held, hardware::specs::Registers::byte, hardware::specs::Prog::erase))]
 pub fn lowered(l: Layout, left: u8, n: JobNext) -> ClearNext
     ensures result_value { clear_next l result ≡ job_next l 0 (FreeCommand Lower) n (λ _. rounds l left) }
     ensures result_value_2 { ltb left 10 ≡ true → valid_job_next l (FreeCommand Lower) n ≡ true → valid_clear_next l result ≡ true }
@@ -70,6 +74,7 @@ pub fn lowered(l: Layout, left: u8, n: JobNext) -> ClearNext
     }
 }
 
+#[tactic(auto, using(crate::proofs::Commands::job_free, crate::proofs::Laws::picked), unfolding(crate::specs::Command::freed, crate::specs::Clear::clear_next, crate::specs::Clear::access_clear, crate::specs::Clear::rest_clear, crate::specs::Clear::rest_part, crate::specs::Command::job_next, crate::specs::Clear::valid_clear_next, crate::specs::Clear::valid_clear, crate::specs::Clear::valid_part, crate::specs::Clear::command_of))]
 fn lower(l: Layout, left: u8, ctl: u32) -> ClearNext
     ensures result_value { clear_next l result ≡ erase (scl_low l (wait 5 (rounds l left)) ctl) }
     ensures result_value_2 { ltb left 10 ≡ true → valid_clear_next l result ≡ true }
@@ -80,6 +85,7 @@ fn lower(l: Layout, left: u8, ctl: u32) -> ClearNext
     })
 }
 
+#[tactic(auto, using(crate::proofs::Laws::picked), unfolding(crate::specs::Command::job_next, crate::specs::Bus::or_held, hardware::specs::Registers::byte, hardware::specs::Prog::erase, crate::specs::Clear::probed, hardware::specs::Prog::pick, crate::specs::Clear::valid_clear_next, crate::specs::Clear::clear_next, crate::specs::Clear::access_clear, crate::specs::Clear::rest_clear, crate::specs::Clear::rest_part, crate::specs::Clear::valid_clear, crate::specs::Clear::valid_part, crate::specs::Clear::command_of, crate::specs::Command::valid_job_next))]
 pub fn probed(l: Layout, left: u8, n: JobNext) -> ClearNext
     ensures result_value { clear_next l result ≡ job_next l 0 (FreeCommand Probe) n (probed l left) }
     ensures result_value_2 { ltb left 10 ≡ true → valid_job_next l (FreeCommand Probe) n ≡ true → valid_clear_next l result ≡ true }
@@ -101,6 +107,7 @@ pub fn probed(l: Layout, left: u8, n: JobNext) -> ClearNext
     }
 }
 
+#[tactic(auto, using(crate::proofs::Commands::job_free, crate::proofs::Commands::round_probes), unfolding(crate::specs::Command::freed, crate::specs::Clear::clear_next, crate::specs::Clear::access_clear, crate::specs::Clear::rest_clear, crate::specs::Clear::rest_part, crate::specs::Command::job_next, crate::specs::Clear::valid_clear_next, crate::specs::Clear::valid_clear, crate::specs::Clear::valid_part, crate::specs::Clear::command_of, hardware::specs::Prog::pick, crate::specs::Bus::clear_rounds))]
 pub fn open(l: Layout, ctl: u32) -> ClearNext
     ensures result_value { clear_next l result ≡ erase (clear_rounds l ctl) }
     ensures result_value_2 { valid_clear_next l result ≡ true }

@@ -1,4 +1,6 @@
 // Runs the worked examples and prints what comes out.
+#![tactic(auto)]
+
 mod classes;
 mod host;
 mod scripts;

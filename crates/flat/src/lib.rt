@@ -1,5 +1,7 @@
 // The states of the calls as numbers, for hosts outside of Rattle: numbers of each width in a row, an enum with its tag
 // first; the variants share the numbers behind it. A tag that is none reads as the last variant. Written by `derive`.
+#![tactic(auto)]
+
 ghost use Rattle.std.specs.Prelude.{◌≡◌};
 ghost use Rattle.flat.specs.Pick.{bit, set};
 
@@ -76,6 +78,7 @@ pub struct State {
     pub z0: usize,
 }
 
+#[tactic(auto, unfolding(crate::specs::Pick::bit))]
 pub fn bit(b: bool) -> u8
     ensures { result ≡ bit b }
 {
@@ -85,6 +88,7 @@ pub fn bit(b: bool) -> u8
     0
 }
 
+#[tactic(auto, unfolding(crate::specs::Pick::set))]
 pub fn set(n: u8) -> bool
     ensures { result ≡ set n }
 {

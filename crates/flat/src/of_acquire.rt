@@ -72,6 +72,7 @@ pub struct ReleaseFlat {
     pub w4: u32,
 }
 
+#[tactic(auto, unfolding(crate::specs::Acquire::flat_stage))]
 pub fn of_stage(s: acquire::acquire::Stage) -> StageFlat
     ensures { result ≡ flat_stage s }
 {
@@ -169,6 +170,7 @@ pub fn of_stage(s: acquire::acquire::Stage) -> StageFlat
     }
 }
 
+#[tactic(auto, unfolding(crate::specs::Acquire::the_stage))]
 pub fn stage(b: StageFlat) -> acquire::acquire::Stage
     ensures { result ≡ the_stage b }
 {
@@ -232,6 +234,7 @@ pub fn stage(b: StageFlat) -> acquire::acquire::Stage
     }
 }
 
+#[tactic(auto, unfolding(crate::specs::Acquire::flat_acquire))]
 pub fn of_acquire(s: acquire::acquire::Acquire) -> AcquireFlat
     ensures { result ≡ flat_acquire s }
 {
@@ -260,6 +263,7 @@ pub fn of_acquire(s: acquire::acquire::Acquire) -> AcquireFlat
     }
 }
 
+#[tactic(auto, unfolding(crate::specs::Acquire::the_acquire))]
 pub fn acquire(b: AcquireFlat) -> acquire::acquire::Acquire
     ensures { result ≡ the_acquire b }
 {
@@ -289,6 +293,7 @@ pub fn acquire(b: AcquireFlat) -> acquire::acquire::Acquire
     }
 }
 
+#[tactic(auto, unfolding(crate::specs::Acquire::flat_acquire_call))]
 pub fn of_acquire_call(s: acquire::calls::AcquireCall) -> crate::State
     ensures { result ≡ flat_acquire_call s }
 {
@@ -388,6 +393,7 @@ pub fn of_acquire_call(s: acquire::calls::AcquireCall) -> crate::State
     }
 }
 
+#[tactic(auto, unfolding(crate::specs::Acquire::the_acquire_call))]
 pub fn acquire_call(b: crate::State) -> acquire::calls::AcquireCall
     ensures { result ≡ the_acquire_call b }
 {
@@ -426,6 +432,7 @@ pub fn acquire_call(b: crate::State) -> acquire::calls::AcquireCall
     }
 }
 
+#[tactic(auto, unfolding(crate::specs::Acquire::flat_release))]
 pub fn of_release(s: acquire::release::Release) -> ReleaseFlat
     ensures { result ≡ flat_release s }
 {
@@ -480,6 +487,7 @@ pub fn of_release(s: acquire::release::Release) -> ReleaseFlat
     }
 }
 
+#[tactic(auto, unfolding(crate::specs::Acquire::the_release))]
 pub fn release(b: ReleaseFlat) -> acquire::release::Release
     ensures { result ≡ the_release b }
 {
@@ -529,6 +537,7 @@ pub fn release(b: ReleaseFlat) -> acquire::release::Release
     }
 }
 
+#[tactic(auto, unfolding(crate::specs::Acquire::flat_release_call))]
 pub fn of_release_call(s: acquire::calls::ReleaseCall) -> crate::State
     ensures { result ≡ flat_release_call s }
 {
@@ -628,6 +637,7 @@ pub fn of_release_call(s: acquire::calls::ReleaseCall) -> crate::State
     }
 }
 
+#[tactic(auto, unfolding(crate::specs::Acquire::the_release_call))]
 pub fn release_call(b: crate::State) -> acquire::calls::ReleaseCall
     ensures { result ≡ the_release_call b }
 {

@@ -71,6 +71,7 @@ pub struct ClearFlat {
     pub w0: u32,
 }
 
+#[tactic(auto, unfolding(crate::specs::Bus::flat_taken))]
 pub fn of_taken(s: bus::Taken) -> TakenFlat
     ensures { result ≡ flat_taken s }
 {
@@ -81,6 +82,7 @@ pub fn of_taken(s: bus::Taken) -> TakenFlat
     }
 }
 
+#[tactic(auto, unfolding(crate::specs::Bus::the_taken))]
 pub fn taken(b: TakenFlat) -> bus::Taken
     ensures { result ≡ the_taken b }
 {
@@ -91,6 +93,7 @@ pub fn taken(b: TakenFlat) -> bus::Taken
     }
 }
 
+#[tactic(auto, unfolding(crate::specs::Bus::flat_goal))]
 pub fn of_goal(s: bus::line::Goal) -> GoalFlat
     ensures { result ≡ flat_goal s }
 {
@@ -133,6 +136,7 @@ pub fn of_goal(s: bus::line::Goal) -> GoalFlat
     }
 }
 
+#[tactic(auto, unfolding(crate::specs::Bus::the_goal))]
 pub fn goal(b: GoalFlat) -> bus::line::Goal
     ensures { result ≡ the_goal b }
 {
@@ -148,6 +152,7 @@ pub fn goal(b: GoalFlat) -> bus::line::Goal
     }
 }
 
+#[tactic(auto, unfolding(crate::specs::Bus::flat_line))]
 pub fn of_line(s: bus::line::Line) -> LineFlat
     ensures { result ≡ flat_line s }
 {
@@ -224,6 +229,7 @@ pub fn of_line(s: bus::line::Line) -> LineFlat
     }
 }
 
+#[tactic(auto, unfolding(crate::specs::Bus::the_line))]
 pub fn line(b: LineFlat) -> bus::line::Line
     ensures { result ≡ the_line b }
 {
@@ -254,6 +260,7 @@ pub fn line(b: LineFlat) -> bus::line::Line
     }
 }
 
+#[tactic(auto, unfolding(crate::specs::Bus::flat_line_state))]
 pub fn of_line_state(s: bus::line::LineState) -> LineStateFlat
     ensures { result ≡ flat_line_state s }
 {
@@ -269,6 +276,7 @@ pub fn of_line_state(s: bus::line::LineState) -> LineStateFlat
     }
 }
 
+#[tactic(auto, unfolding(crate::specs::Bus::the_line_state))]
 pub fn line_state(b: LineStateFlat) -> bus::line::LineState
     ensures { result ≡ the_line_state b }
 {
@@ -285,6 +293,7 @@ pub fn line_state(b: LineStateFlat) -> bus::line::LineState
     }
 }
 
+#[tactic(auto, unfolding(crate::specs::Bus::flat_job))]
 pub fn of_job(s: bus::job::Job) -> JobFlat
     ensures { result ≡ flat_job s }
 {
@@ -301,6 +310,7 @@ pub fn of_job(s: bus::job::Job) -> JobFlat
     }
 }
 
+#[tactic(auto, unfolding(crate::specs::Bus::the_job))]
 pub fn job(b: JobFlat) -> bus::job::Job
     ensures { result ≡ the_job b }
 {
@@ -318,6 +328,7 @@ pub fn job(b: JobFlat) -> bus::job::Job
     }
 }
 
+#[tactic(auto, unfolding(crate::specs::Bus::flat_part))]
 pub fn of_part(s: bus::clear::Part) -> PartFlat
     ensures { result ≡ flat_part s }
 {
@@ -332,6 +343,7 @@ pub fn of_part(s: bus::clear::Part) -> PartFlat
     }
 }
 
+#[tactic(auto, unfolding(crate::specs::Bus::the_part))]
 pub fn part(b: PartFlat) -> bus::clear::Part
     ensures { result ≡ the_part b }
 {
@@ -347,6 +359,7 @@ pub fn part(b: PartFlat) -> bus::clear::Part
     }
 }
 
+#[tactic(auto, unfolding(crate::specs::Bus::flat_clear))]
 pub fn of_clear(s: bus::clear::Clear) -> ClearFlat
     ensures { result ≡ flat_clear s }
 {
@@ -367,6 +380,7 @@ pub fn of_clear(s: bus::clear::Clear) -> ClearFlat
     }
 }
 
+#[tactic(auto, unfolding(crate::specs::Bus::the_clear))]
 pub fn clear(b: ClearFlat) -> bus::clear::Clear
     ensures { result ≡ the_clear b }
 {

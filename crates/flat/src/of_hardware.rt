@@ -71,6 +71,7 @@ pub struct FlagFlat {
     pub w0: u32,
 }
 
+#[tactic(auto, unfolding(crate::specs::Hardware::flat_family))]
 pub fn of_family(s: hardware::Family) -> u8
     ensures { result ≡ flat_family s }
 {
@@ -83,6 +84,7 @@ pub fn of_family(s: hardware::Family) -> u8
     }
 }
 
+#[tactic(auto, unfolding(crate::specs::Hardware::the_family))]
 pub fn family(b: u8) -> hardware::Family
     ensures { result ≡ the_family b }
 {
@@ -95,6 +97,7 @@ pub fn family(b: u8) -> hardware::Family
     }
 }
 
+#[tactic(auto, unfolding(crate::specs::Hardware::flat_port))]
 pub fn of_port(s: hardware::Port) -> PortFlat
     ensures { result ≡ flat_port s }
 {
@@ -107,6 +110,7 @@ pub fn of_port(s: hardware::Port) -> PortFlat
     }
 }
 
+#[tactic(auto, unfolding(crate::specs::Hardware::the_port))]
 pub fn port(b: PortFlat) -> hardware::Port
     ensures { result ≡ the_port b }
 {
@@ -118,6 +122,7 @@ pub fn port(b: PortFlat) -> hardware::Port
     }
 }
 
+#[tactic(auto, unfolding(crate::specs::Hardware::flat_meter))]
 pub fn of_meter(s: hardware::Meter) -> MeterFlat
     ensures { result ≡ flat_meter s }
 {
@@ -127,6 +132,7 @@ pub fn of_meter(s: hardware::Meter) -> MeterFlat
     }
 }
 
+#[tactic(auto, unfolding(crate::specs::Hardware::the_meter))]
 pub fn meter(b: MeterFlat) -> hardware::Meter
     ensures { result ≡ the_meter b }
 {
@@ -136,6 +142,7 @@ pub fn meter(b: MeterFlat) -> hardware::Meter
     }
 }
 
+#[tactic(auto, unfolding(crate::specs::Hardware::flat_update))]
 pub fn of_update(s: hardware::Update) -> UpdateFlat
     ensures { result ≡ flat_update s }
 {
@@ -146,6 +153,7 @@ pub fn of_update(s: hardware::Update) -> UpdateFlat
     }
 }
 
+#[tactic(auto, unfolding(crate::specs::Hardware::the_update))]
 pub fn update(b: UpdateFlat) -> hardware::Update
     ensures { result ≡ the_update b }
 {
@@ -157,6 +165,7 @@ pub fn update(b: UpdateFlat) -> hardware::Update
     }
 }
 
+#[tactic(auto, unfolding(crate::specs::Hardware::flat_poll))]
 pub fn of_poll(s: hardware::poll::Poll) -> PollFlat
     ensures { result ≡ flat_poll s }
 {
@@ -174,6 +183,7 @@ pub fn of_poll(s: hardware::poll::Poll) -> PollFlat
     }
 }
 
+#[tactic(auto, unfolding(crate::specs::Hardware::the_poll))]
 pub fn poll(b: PollFlat) -> hardware::poll::Poll
     ensures { result ≡ the_poll b }
 {
@@ -184,6 +194,7 @@ pub fn poll(b: PollFlat) -> hardware::poll::Poll
     }
 }
 
+#[tactic(auto, unfolding(crate::specs::Hardware::flat_error))]
 pub fn of_error(s: hardware::Error) -> ErrorFlat
     ensures { result ≡ flat_error s }
 {
@@ -227,6 +238,7 @@ pub fn of_error(s: hardware::Error) -> ErrorFlat
     }
 }
 
+#[tactic(auto, unfolding(crate::specs::Hardware::the_error))]
 pub fn error(b: ErrorFlat) -> hardware::Error
     ensures { result ≡ the_error b }
 {
@@ -241,6 +253,7 @@ pub fn error(b: ErrorFlat) -> hardware::Error
     }
 }
 
+#[tactic(auto, unfolding(crate::specs::Hardware::flat_outcome))]
 pub fn of_outcome(s: hardware::Outcome) -> OutcomeFlat
     ensures { result ≡ flat_outcome s }
 {
@@ -265,6 +278,7 @@ pub fn of_outcome(s: hardware::Outcome) -> OutcomeFlat
     }
 }
 
+#[tactic(auto, unfolding(crate::specs::Hardware::the_outcome))]
 pub fn outcome(b: OutcomeFlat) -> hardware::Outcome
     ensures { result ≡ the_outcome b }
 {
@@ -280,6 +294,7 @@ pub fn outcome(b: OutcomeFlat) -> hardware::Outcome
     }
 }
 
+#[tactic(auto, unfolding(crate::specs::Hardware::flat_byte))]
 pub fn of_byte(s: hardware::Byte) -> ByteFlat
     ensures { result ≡ flat_byte s }
 {
@@ -304,6 +319,7 @@ pub fn of_byte(s: hardware::Byte) -> ByteFlat
     }
 }
 
+#[tactic(auto, unfolding(crate::specs::Hardware::the_byte))]
 pub fn byte(b: ByteFlat) -> hardware::Byte
     ensures { result ≡ the_byte b }
 {
@@ -319,6 +335,7 @@ pub fn byte(b: ByteFlat) -> hardware::Byte
     }
 }
 
+#[tactic(auto, unfolding(crate::specs::Hardware::flat_flag))]
 pub fn of_flag(s: hardware::Flag) -> FlagFlat
     ensures { result ≡ flat_flag s }
 {
@@ -343,6 +360,7 @@ pub fn of_flag(s: hardware::Flag) -> FlagFlat
     }
 }
 
+#[tactic(auto, unfolding(crate::specs::Hardware::the_flag))]
 pub fn flag(b: FlagFlat) -> hardware::Flag
     ensures { result ≡ the_flag b }
 {

@@ -61,6 +61,7 @@ pub struct TokenFlat {
     pub w4: u32,
 }
 
+#[tactic(auto, unfolding(crate::specs::Hostif::flat_request))]
 pub fn of_request(s: hostif::request::Request) -> RequestFlat
     ensures { result ≡ flat_request s }
 {
@@ -104,6 +105,7 @@ pub fn of_request(s: hostif::request::Request) -> RequestFlat
     }
 }
 
+#[tactic(auto, unfolding(crate::specs::Hostif::the_request))]
 pub fn request(b: RequestFlat) -> hostif::request::Request
     ensures { result ≡ the_request b }
 {
@@ -128,6 +130,7 @@ pub fn request(b: RequestFlat) -> hostif::request::Request
     }
 }
 
+#[tactic(auto, unfolding(crate::specs::Hostif::flat_response))]
 pub fn of_response(s: hostif::response::Response) -> ResponseFlat
     ensures { result ≡ flat_response s }
 {
@@ -145,6 +148,7 @@ pub fn of_response(s: hostif::response::Response) -> ResponseFlat
     }
 }
 
+#[tactic(auto, unfolding(crate::specs::Hostif::the_response))]
 pub fn response(b: ResponseFlat) -> hostif::response::Response
     ensures { result ≡ the_response b }
 {
@@ -155,6 +159,7 @@ pub fn response(b: ResponseFlat) -> hostif::response::Response
     }
 }
 
+#[tactic(auto, unfolding(crate::specs::Hostif::flat_command))]
 pub fn of_command(s: hostif::command::Command) -> CommandFlat
     ensures { result ≡ flat_command s }
 {
@@ -243,6 +248,7 @@ pub fn of_command(s: hostif::command::Command) -> CommandFlat
     }
 }
 
+#[tactic(auto, unfolding(crate::specs::Hostif::the_command))]
 pub fn command(b: CommandFlat) -> hostif::command::Command
     ensures { result ≡ the_command b }
 {
@@ -296,6 +302,7 @@ pub fn command(b: CommandFlat) -> hostif::command::Command
     }
 }
 
+#[tactic(auto, unfolding(crate::specs::Hostif::flat_token))]
 pub fn of_token(s: hostif::token::Token) -> TokenFlat
     ensures { result ≡ flat_token s }
 {
@@ -322,6 +329,7 @@ pub fn of_token(s: hostif::token::Token) -> TokenFlat
     }
 }
 
+#[tactic(auto, unfolding(crate::specs::Hostif::the_token))]
 pub fn token(b: TokenFlat) -> hostif::token::Token
     ensures { result ≡ the_token b }
 {
@@ -349,6 +357,7 @@ pub fn token(b: TokenFlat) -> hostif::token::Token
     }
 }
 
+#[tactic(auto, unfolding(crate::specs::Hostif::flat_token_call))]
 pub fn of_token_call(s: hostif::calls::TokenCall) -> crate::State
     ensures { result ≡ flat_token_call s }
 {
@@ -448,6 +457,7 @@ pub fn of_token_call(s: hostif::calls::TokenCall) -> crate::State
     }
 }
 
+#[tactic(auto, unfolding(crate::specs::Hostif::the_token_call))]
 pub fn token_call(b: crate::State) -> hostif::calls::TokenCall
     ensures { result ≡ the_token_call b }
 {
@@ -484,6 +494,7 @@ pub fn token_call(b: crate::State) -> hostif::calls::TokenCall
     }
 }
 
+#[tactic(auto, unfolding(crate::specs::Hostif::flat_command_call))]
 pub fn of_command_call(s: hostif::calls::CommandCall) -> crate::State
     ensures { result ≡ flat_command_call s }
 {
@@ -583,6 +594,7 @@ pub fn of_command_call(s: hostif::calls::CommandCall) -> crate::State
     }
 }
 
+#[tactic(auto, unfolding(crate::specs::Hostif::the_command_call))]
 pub fn command_call(b: crate::State) -> hostif::calls::CommandCall
     ensures { result ≡ the_command_call b }
 {

@@ -89,6 +89,7 @@ pub struct HandshakeFlat {
     pub z0: usize,
 }
 
+#[tactic(auto, unfolding(crate::specs::I2c::flat_request))]
 pub fn of_request(s: i2c::once::Request) -> RequestFlat
     ensures { result ≡ flat_request s }
 {
@@ -128,6 +129,7 @@ pub fn of_request(s: i2c::once::Request) -> RequestFlat
     }
 }
 
+#[tactic(auto, unfolding(crate::specs::I2c::the_request))]
 pub fn request(b: RequestFlat) -> i2c::once::Request
     ensures { result ≡ the_request b }
 {
@@ -140,6 +142,7 @@ pub fn request(b: RequestFlat) -> i2c::once::Request
     }
 }
 
+#[tactic(auto, unfolding(crate::specs::I2c::flat_how))]
 pub fn of_how(s: i2c::How) -> HowFlat
     ensures { result ≡ flat_how s }
 {
@@ -151,6 +154,7 @@ pub fn of_how(s: i2c::How) -> HowFlat
     }
 }
 
+#[tactic(auto, unfolding(crate::specs::I2c::the_how))]
 pub fn how(b: HowFlat) -> i2c::How
     ensures { result ≡ the_how b }
 {
@@ -161,6 +165,7 @@ pub fn how(b: HowFlat) -> i2c::How
     }
 }
 
+#[tactic(auto, unfolding(crate::specs::I2c::flat_stage))]
 pub fn of_stage(s: i2c::retry::Stage) -> StageFlat
     ensures { result ≡ flat_stage s }
 {
@@ -254,6 +259,7 @@ pub fn of_stage(s: i2c::retry::Stage) -> StageFlat
     }
 }
 
+#[tactic(auto, unfolding(crate::specs::I2c::the_stage))]
 pub fn stage(b: StageFlat) -> i2c::retry::Stage
     ensures { result ≡ the_stage b }
 {
@@ -313,6 +319,7 @@ pub fn stage(b: StageFlat) -> i2c::retry::Stage
     }
 }
 
+#[tactic(auto, unfolding(crate::specs::I2c::flat_retry))]
 pub fn of_retry(s: i2c::retry::Retry) -> RetryFlat
     ensures { result ≡ flat_retry s }
 {
@@ -340,6 +347,7 @@ pub fn of_retry(s: i2c::retry::Retry) -> RetryFlat
     }
 }
 
+#[tactic(auto, unfolding(crate::specs::I2c::the_retry))]
 pub fn retry(b: RetryFlat) -> i2c::retry::Retry
     ensures { result ≡ the_retry b }
 {
@@ -368,6 +376,7 @@ pub fn retry(b: RetryFlat) -> i2c::retry::Retry
     }
 }
 
+#[tactic(auto, unfolding(crate::specs::I2c::flat_handshake))]
 pub fn of_handshake(s: i2c::handshake::Handshake) -> HandshakeFlat
     ensures { result ≡ flat_handshake s }
 {
@@ -490,6 +499,7 @@ pub fn of_handshake(s: i2c::handshake::Handshake) -> HandshakeFlat
     }
 }
 
+#[tactic(auto, unfolding(crate::specs::I2c::the_handshake))]
 pub fn handshake(b: HandshakeFlat) -> i2c::handshake::Handshake
     ensures { result ≡ the_handshake b }
 {
@@ -540,6 +550,7 @@ pub fn handshake(b: HandshakeFlat) -> i2c::handshake::Handshake
     }
 }
 
+#[tactic(auto, unfolding(crate::specs::I2c::flat_transfer_call))]
 pub fn of_transfer_call(s: i2c::calls::TransferCall) -> crate::State
     ensures { result ≡ flat_transfer_call s }
 {
@@ -642,6 +653,7 @@ pub fn of_transfer_call(s: i2c::calls::TransferCall) -> crate::State
     }
 }
 
+#[tactic(auto, unfolding(crate::specs::I2c::the_transfer_call))]
 pub fn transfer_call(b: crate::State) -> i2c::calls::TransferCall
     ensures { result ≡ the_transfer_call b }
 {
@@ -695,6 +707,7 @@ pub fn transfer_call(b: crate::State) -> i2c::calls::TransferCall
     }
 }
 
+#[tactic(auto, unfolding(crate::specs::I2c::flat_setup_call))]
 pub fn of_setup_call(s: i2c::calls::SetupCall) -> crate::State
     ensures { result ≡ flat_setup_call s }
 {
@@ -793,6 +806,7 @@ pub fn of_setup_call(s: i2c::calls::SetupCall) -> crate::State
     }
 }
 
+#[tactic(auto, unfolding(crate::specs::I2c::the_setup_call))]
 pub fn setup_call(b: crate::State) -> i2c::calls::SetupCall
     ensures { result ≡ the_setup_call b }
 {

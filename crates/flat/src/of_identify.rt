@@ -41,6 +41,7 @@ pub struct IdentifyFlat {
     pub z0: usize,
 }
 
+#[tactic(auto, unfolding(crate::specs::Identify::flat_place))]
 pub fn of_place(s: identify::place::Place) -> PlaceFlat
     ensures { result ≡ flat_place s }
 {
@@ -158,6 +159,7 @@ pub fn of_place(s: identify::place::Place) -> PlaceFlat
     }
 }
 
+#[tactic(auto, unfolding(crate::specs::Identify::the_place))]
 pub fn place(b: PlaceFlat) -> identify::place::Place
     ensures { result ≡ the_place b }
 {
@@ -199,6 +201,7 @@ pub fn place(b: PlaceFlat) -> identify::place::Place
     }
 }
 
+#[tactic(auto, unfolding(crate::specs::Identify::flat_identify))]
 pub fn of_identify(s: identify::walk::Identify) -> IdentifyFlat
     ensures { result ≡ flat_identify s }
 {
@@ -234,6 +237,7 @@ pub fn of_identify(s: identify::walk::Identify) -> IdentifyFlat
     }
 }
 
+#[tactic(auto, unfolding(crate::specs::Identify::the_identify))]
 pub fn identify(b: IdentifyFlat) -> identify::walk::Identify
     ensures { result ≡ the_identify b }
 {
@@ -271,6 +275,7 @@ pub fn identify(b: IdentifyFlat) -> identify::walk::Identify
     }
 }
 
+#[tactic(auto, unfolding(crate::specs::Identify::flat_identify_call))]
 pub fn of_identify_call(s: identify::calls::IdentifyCall) -> crate::State
     ensures { result ≡ flat_identify_call s }
 {
@@ -372,6 +377,7 @@ pub fn of_identify_call(s: identify::calls::IdentifyCall) -> crate::State
     }
 }
 
+#[tactic(auto, unfolding(crate::specs::Identify::the_identify_call))]
 pub fn identify_call(b: crate::State) -> identify::calls::IdentifyCall
     ensures { result ≡ the_identify_call b }
 {

@@ -64,6 +64,7 @@ pub struct LightFlat {
     pub z0: usize,
 }
 
+#[tactic(auto, unfolding(crate::specs::Light::flat_patterns))]
 pub fn of_patterns(s: light::power::Patterns) -> PatternsFlat
     ensures { result ≡ flat_patterns s }
 {
@@ -76,6 +77,7 @@ pub fn of_patterns(s: light::power::Patterns) -> PatternsFlat
     }
 }
 
+#[tactic(auto, unfolding(crate::specs::Light::the_patterns))]
 pub fn patterns(b: PatternsFlat) -> light::power::Patterns
     ensures { result ≡ the_patterns b }
 {
@@ -88,6 +90,7 @@ pub fn patterns(b: PatternsFlat) -> light::power::Patterns
     }
 }
 
+#[tactic(auto, unfolding(crate::specs::Light::flat_sensed))]
 pub fn of_sensed(s: light::sensed::Sensed) -> SensedFlat
     ensures { result ≡ flat_sensed s }
 {
@@ -108,6 +111,7 @@ pub fn of_sensed(s: light::sensed::Sensed) -> SensedFlat
     }
 }
 
+#[tactic(auto, unfolding(crate::specs::Light::the_sensed))]
 pub fn sensed(b: SensedFlat) -> light::sensed::Sensed
     ensures { result ≡ the_sensed b }
 {
@@ -129,6 +133,7 @@ pub fn sensed(b: SensedFlat) -> light::sensed::Sensed
     }
 }
 
+#[tactic(auto, unfolding(crate::specs::Light::flat_light))]
 pub fn of_light(s: light::walk::Light) -> LightFlat
     ensures { result ≡ flat_light s }
 {
@@ -171,6 +176,7 @@ pub fn of_light(s: light::walk::Light) -> LightFlat
     }
 }
 
+#[tactic(auto, unfolding(crate::specs::Light::the_light))]
 pub fn light(b: LightFlat) -> light::walk::Light
     ensures { result ≡ the_light b }
 {
@@ -215,6 +221,7 @@ pub fn light(b: LightFlat) -> light::walk::Light
     }
 }
 
+#[tactic(auto, unfolding(crate::specs::Light::flat_light_call))]
 pub fn of_light_call(s: light::calls::LightCall) -> crate::State
     ensures { result ≡ flat_light_call s }
 {
@@ -316,6 +323,7 @@ pub fn of_light_call(s: light::calls::LightCall) -> crate::State
     }
 }
 
+#[tactic(auto, unfolding(crate::specs::Light::the_light_call))]
 pub fn light_call(b: crate::State) -> light::calls::LightCall
     ensures { result ≡ the_light_call b }
 {

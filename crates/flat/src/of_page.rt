@@ -27,6 +27,7 @@ pub struct PageFlat {
     pub z0: usize,
 }
 
+#[tactic(auto, unfolding(crate::specs::Page::flat_form))]
 pub fn of_form(s: page::walk::Form) -> u8
     ensures { result ≡ flat_form s }
 {
@@ -36,6 +37,7 @@ pub fn of_form(s: page::walk::Form) -> u8
     }
 }
 
+#[tactic(auto, unfolding(crate::specs::Page::the_form))]
 pub fn form(b: u8) -> page::walk::Form
     ensures { result ≡ the_form b }
 {
@@ -45,6 +47,7 @@ pub fn form(b: u8) -> page::walk::Form
     }
 }
 
+#[tactic(auto, unfolding(crate::specs::Page::flat_page))]
 pub fn of_page(s: page::walk::Page) -> PageFlat
     ensures { result ≡ flat_page s }
 {
@@ -74,6 +77,7 @@ pub fn of_page(s: page::walk::Page) -> PageFlat
     }
 }
 
+#[tactic(auto, unfolding(crate::specs::Page::the_page))]
 pub fn page(b: PageFlat) -> page::walk::Page
     ensures { result ≡ the_page b }
 {
@@ -104,6 +108,7 @@ pub fn page(b: PageFlat) -> page::walk::Page
     }
 }
 
+#[tactic(auto, unfolding(crate::specs::Page::flat_page_call))]
 pub fn of_page_call(s: page::calls::PageCall) -> crate::State
     ensures { result ≡ flat_page_call s }
 {
@@ -206,6 +211,7 @@ pub fn of_page_call(s: page::calls::PageCall) -> crate::State
     }
 }
 
+#[tactic(auto, unfolding(crate::specs::Page::the_page_call))]
 pub fn page_call(b: crate::State) -> page::calls::PageCall
     ensures { result ≡ the_page_call b }
 {

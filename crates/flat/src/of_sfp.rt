@@ -10,6 +10,7 @@ pub struct CodesFlat {
     pub b2: u8,
 }
 
+#[tactic(auto, unfolding(crate::specs::Sfp::flat_codes))]
 pub fn of_codes(s: sfp::Codes) -> CodesFlat
     ensures { result ≡ flat_codes s }
 {
@@ -20,6 +21,7 @@ pub fn of_codes(s: sfp::Codes) -> CodesFlat
     }
 }
 
+#[tactic(auto, unfolding(crate::specs::Sfp::the_codes))]
 pub fn codes(b: CodesFlat) -> sfp::Codes
     ensures { result ≡ the_codes b }
 {

@@ -46,6 +46,7 @@ pub struct RateFlat {
     pub z0: usize,
 }
 
+#[tactic(auto, unfolding(crate::specs::Softrate::flat_place))]
 pub fn of_place(s: softrate::spot::Place) -> PlaceFlat
     ensures { result ≡ flat_place s }
 {
@@ -55,6 +56,7 @@ pub fn of_place(s: softrate::spot::Place) -> PlaceFlat
     }
 }
 
+#[tactic(auto, unfolding(crate::specs::Softrate::the_place))]
 pub fn place(b: PlaceFlat) -> softrate::spot::Place
     ensures { result ≡ the_place b }
 {
@@ -65,6 +67,7 @@ pub fn place(b: PlaceFlat) -> softrate::spot::Place
     }
 }
 
+#[tactic(auto, unfolding(crate::specs::Softrate::flat_spot))]
 pub fn of_spot(s: softrate::spot::Spot) -> SpotFlat
     ensures { result ≡ flat_spot s }
 {
@@ -78,6 +81,7 @@ pub fn of_spot(s: softrate::spot::Spot) -> SpotFlat
     }
 }
 
+#[tactic(auto, unfolding(crate::specs::Softrate::the_spot))]
 pub fn spot(b: SpotFlat) -> softrate::spot::Spot
     ensures { result ≡ the_spot b }
 {
@@ -92,6 +96,7 @@ pub fn spot(b: SpotFlat) -> softrate::spot::Spot
     }
 }
 
+#[tactic(auto, unfolding(crate::specs::Softrate::flat_rate))]
 pub fn of_rate(s: softrate::walk::Rate) -> RateFlat
     ensures { result ≡ flat_rate s }
 {
@@ -126,6 +131,7 @@ pub fn of_rate(s: softrate::walk::Rate) -> RateFlat
     }
 }
 
+#[tactic(auto, unfolding(crate::specs::Softrate::the_rate))]
 pub fn rate(b: RateFlat) -> softrate::walk::Rate
     ensures { result ≡ the_rate b }
 {
@@ -162,6 +168,7 @@ pub fn rate(b: RateFlat) -> softrate::walk::Rate
     }
 }
 
+#[tactic(auto, unfolding(crate::specs::Softrate::flat_rate_call))]
 pub fn of_rate_call(s: softrate::calls::RateCall) -> crate::State
     ensures { result ≡ flat_rate_call s }
 {
@@ -263,6 +270,7 @@ pub fn of_rate_call(s: softrate::calls::RateCall) -> crate::State
     }
 }
 
+#[tactic(auto, unfolding(crate::specs::Softrate::the_rate_call))]
 pub fn rate_call(b: crate::State) -> softrate::calls::RateCall
     ensures { result ≡ the_rate_call b }
 {

@@ -72,6 +72,7 @@ pub struct ReleaseBitsFlat {
     pub w1: u32,
 }
 
+#[tactic(auto, unfolding(crate::specs::Sync::flat_swesmbi))]
 pub fn of_swesmbi(s: sync::swesmbi::Swesmbi) -> SwesmbiFlat
     ensures { result ≡ flat_swesmbi s }
 {
@@ -100,6 +101,7 @@ pub fn of_swesmbi(s: sync::swesmbi::Swesmbi) -> SwesmbiFlat
     }
 }
 
+#[tactic(auto, unfolding(crate::specs::Sync::the_swesmbi))]
 pub fn swesmbi(b: SwesmbiFlat) -> sync::swesmbi::Swesmbi
     ensures { result ≡ the_swesmbi b }
 {
@@ -117,6 +119,7 @@ pub fn swesmbi(b: SwesmbiFlat) -> sync::swesmbi::Swesmbi
     }
 }
 
+#[tactic(auto, unfolding(crate::specs::Sync::flat_lock))]
 pub fn of_lock(s: sync::lock::Lock) -> LockFlat
     ensures { result ≡ flat_lock s }
 {
@@ -164,6 +167,7 @@ pub fn of_lock(s: sync::lock::Lock) -> LockFlat
     }
 }
 
+#[tactic(auto, unfolding(crate::specs::Sync::the_lock))]
 pub fn lock(b: LockFlat) -> sync::lock::Lock
     ensures { result ≡ the_lock b }
 {
@@ -195,6 +199,7 @@ pub fn lock(b: LockFlat) -> sync::lock::Lock
     }
 }
 
+#[tactic(auto, unfolding(crate::specs::Sync::flat_unlock))]
 pub fn of_unlock(s: sync::unlock::Unlock) -> UnlockFlat
     ensures { result ≡ flat_unlock s }
 {
@@ -218,6 +223,7 @@ pub fn of_unlock(s: sync::unlock::Unlock) -> UnlockFlat
     }
 }
 
+#[tactic(auto, unfolding(crate::specs::Sync::the_unlock))]
 pub fn unlock(b: UnlockFlat) -> sync::unlock::Unlock
     ensures { result ≡ the_unlock b }
 {
@@ -238,6 +244,7 @@ pub fn unlock(b: UnlockFlat) -> sync::unlock::Unlock
     }
 }
 
+#[tactic(auto, unfolding(crate::specs::Sync::flat_stage))]
 pub fn of_stage(s: sync::acquire_bits::Stage) -> StageFlat
     ensures { result ≡ flat_stage s }
 {
@@ -335,6 +342,7 @@ pub fn of_stage(s: sync::acquire_bits::Stage) -> StageFlat
     }
 }
 
+#[tactic(auto, unfolding(crate::specs::Sync::the_stage))]
 pub fn stage(b: StageFlat) -> sync::acquire_bits::Stage
     ensures { result ≡ the_stage b }
 {
@@ -381,6 +389,7 @@ pub fn stage(b: StageFlat) -> sync::acquire_bits::Stage
     }
 }
 
+#[tactic(auto, unfolding(crate::specs::Sync::flat_acquire_bits))]
 pub fn of_acquire_bits(s: sync::acquire_bits::AcquireBits) -> AcquireBitsFlat
     ensures { result ≡ flat_acquire_bits s }
 {
@@ -400,6 +409,7 @@ pub fn of_acquire_bits(s: sync::acquire_bits::AcquireBits) -> AcquireBitsFlat
     }
 }
 
+#[tactic(auto, unfolding(crate::specs::Sync::the_acquire_bits))]
 pub fn acquire_bits(b: AcquireBitsFlat) -> sync::acquire_bits::AcquireBits
     ensures { result ≡ the_acquire_bits b }
 {
@@ -420,6 +430,7 @@ pub fn acquire_bits(b: AcquireBitsFlat) -> sync::acquire_bits::AcquireBits
     }
 }
 
+#[tactic(auto, unfolding(crate::specs::Sync::flat_release_bits))]
 pub fn of_release_bits(s: sync::release_bits::ReleaseBits) -> ReleaseBitsFlat
     ensures { result ≡ flat_release_bits s }
 {
@@ -495,6 +506,7 @@ pub fn of_release_bits(s: sync::release_bits::ReleaseBits) -> ReleaseBitsFlat
     }
 }
 
+#[tactic(auto, unfolding(crate::specs::Sync::the_release_bits))]
 pub fn release_bits(b: ReleaseBitsFlat) -> sync::release_bits::ReleaseBits
     ensures { result ≡ the_release_bits b }
 {

@@ -45,6 +45,7 @@ pub struct GotFlat {
     pub w0: u32,
 }
 
+#[tactic(auto, unfolding(crate::specs::Transfer::flat_sequence))]
 pub fn of_sequence(s: transfer::attempt::Sequence) -> u8
     ensures { result ≡ flat_sequence s }
 {
@@ -54,6 +55,7 @@ pub fn of_sequence(s: transfer::attempt::Sequence) -> u8
     }
 }
 
+#[tactic(auto, unfolding(crate::specs::Transfer::the_sequence))]
 pub fn sequence(b: u8) -> transfer::attempt::Sequence
     ensures { result ≡ the_sequence b }
 {
@@ -63,6 +65,7 @@ pub fn sequence(b: u8) -> transfer::attempt::Sequence
     }
 }
 
+#[tactic(auto, unfolding(crate::specs::Transfer::flat_transfer))]
 pub fn of_transfer(s: transfer::transfer::Transfer) -> TransferFlat
     ensures { result ≡ flat_transfer s }
 {
@@ -85,6 +88,7 @@ pub fn of_transfer(s: transfer::transfer::Transfer) -> TransferFlat
     }
 }
 
+#[tactic(auto, unfolding(crate::specs::Transfer::the_transfer))]
 pub fn transfer(b: TransferFlat) -> transfer::transfer::Transfer
     ensures { result ≡ the_transfer b }
 {
@@ -109,6 +113,7 @@ pub fn transfer(b: TransferFlat) -> transfer::transfer::Transfer
     }
 }
 
+#[tactic(auto, unfolding(crate::specs::Transfer::flat_attempt))]
 pub fn of_attempt(s: transfer::attempt::Attempt) -> AttemptFlat
     ensures { result ≡ flat_attempt s }
 {
@@ -164,6 +169,7 @@ pub fn of_attempt(s: transfer::attempt::Attempt) -> AttemptFlat
     }
 }
 
+#[tactic(auto, unfolding(crate::specs::Transfer::the_attempt))]
 pub fn attempt(b: AttemptFlat) -> transfer::attempt::Attempt
     ensures { result ≡ the_attempt b }
 {
@@ -197,6 +203,7 @@ pub fn attempt(b: AttemptFlat) -> transfer::attempt::Attempt
     }
 }
 
+#[tactic(auto, unfolding(crate::specs::Transfer::flat_got))]
 pub fn of_got(s: transfer::attempt::Got) -> GotFlat
     ensures { result ≡ flat_got s }
 {
@@ -224,6 +231,7 @@ pub fn of_got(s: transfer::attempt::Got) -> GotFlat
     }
 }
 
+#[tactic(auto, unfolding(crate::specs::Transfer::the_got))]
 pub fn got(b: GotFlat) -> transfer::attempt::Got
     ensures { result ≡ the_got b }
 {
@@ -245,6 +253,7 @@ pub fn got(b: GotFlat) -> transfer::attempt::Got
     }
 }
 
+#[tactic(auto, unfolding(crate::specs::Transfer::flat_script_call))]
 pub fn of_script_call(s: transfer::calls::ScriptCall) -> crate::State
     ensures { result ≡ flat_script_call s }
 {
@@ -345,6 +354,7 @@ pub fn of_script_call(s: transfer::calls::ScriptCall) -> crate::State
     }
 }
 
+#[tactic(auto, unfolding(crate::specs::Transfer::the_script_call))]
 pub fn script_call(b: crate::State) -> transfer::calls::ScriptCall
     ensures { result ≡ the_script_call b }
 {

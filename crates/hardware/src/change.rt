@@ -20,6 +20,7 @@ pub struct Change {
     pub flushed: bool,
 }
 
+#[tactic(auto, unfolding(crate::specs::Change::changed))]
 pub fn apply(bits: Bits, v: u32) -> u32
     ensures { result ≡ changed bits v }
 {
@@ -30,6 +31,7 @@ pub fn apply(bits: Bits, v: u32) -> u32
     }
 }
 
+#[tactic(auto, unfolding(crate::specs::Change::access_update))]
 pub fn access(c: Change, s: Update) -> Access
     ensures { result ≡ access_update c s }
 {
@@ -40,6 +42,7 @@ pub fn access(c: Change, s: Update) -> Access
     }
 }
 
+#[tactic(auto, unfolding(crate::specs::Registers::word, crate::specs::Prog::or_err, crate::specs::Change::stored, crate::specs::Prog::erase, crate::specs::Change::update_next, crate::specs::Change::access_update, crate::specs::Change::rest_update, crate::specs::Registers::outcome))]
 fn seen(c: Change, w: Word) -> UpdateNext
     ensures { update_next c result ≡ erase (or_err (stored c) (word w)) }
 {
@@ -52,6 +55,7 @@ fn seen(c: Change, w: Word) -> UpdateNext
     }
 }
 
+#[tactic(auto, unfolding(crate::specs::Prog::erase, crate::specs::Prog::or_err, crate::specs::Registers::outcome, crate::specs::Change::settled, crate::specs::Change::update_next, crate::specs::Change::access_update, crate::specs::Change::rest_update))]
 fn settle(c: Change, o: Outcome) -> UpdateNext
     ensures { update_next c result ≡ erase (or_err (λ _. settled c.flushed) (outcome o)) }
 {
@@ -66,6 +70,7 @@ fn settle(c: Change, o: Outcome) -> UpdateNext
     }
 }
 
+#[tactic(auto, using(crate::proofs::Prog::fed), unfolding(crate::specs::Change::rest_update, crate::specs::Prog::erase, crate::specs::Change::update_next))]
 pub fn step(c: Change, s: Update, a: Answer) -> UpdateNext
     ensures { update_next c result ≡ erase (rest_update c s a) }
 {

@@ -1,4 +1,6 @@
 // The host's registers and a port of the card. The host makes each access that a call names and hands back the answer.
+#![tactic(auto)]
+
 ghost use Rattle.std.specs.Prelude.{◌≡◌, ◌*◌, ◌-◌, max, [], ◌∷◌, get_or};
 ghost use Rattle.hardware.specs.Marks.{count_of, hears, meter_on, valid_held};
 ghost use Rattle.hardware.specs.Numbers.{refusal_number, error_number, error_values};
@@ -188,6 +190,7 @@ pub fn hears(left: u8) -> Marks
 }
 
 // A count that goes up by one where begins says so; at the top of its type it stays.
+#[tactic(auto, unfolding(crate::specs::Marks::count_of, crate::specs::Marks::more, crate::specs::Prog::pick))]
 fn count(begins: bool, n: u32) -> u32
     ensures { result ≡ count_of begins n }
 {
@@ -212,6 +215,7 @@ fn slower(left: u8, n: u8) -> u8
 }
 
 // The meter after the marks.
+#[tactic(auto, unfolding(crate::specs::Marks::meter_on))]
 pub fn meter_on(k: Marks, m: Meter) -> Meter
     ensures { result ≡ meter_on k m }
 {
@@ -254,6 +258,7 @@ pub fn error_number(e: Error) -> u8
 }
 
 // The value at place `which` of those that go with the number, 0 past their end.
+#[tactic(auto, using(crate::proofs::Laws::two_values))]
 pub fn error_value(e: Error, which: u8) -> u32
     ensures { result ≡ get_or (error_values e) which 0 }
 {
@@ -273,6 +278,7 @@ pub fn error_value(e: Error, which: u8) -> u32
     }
 }
 
+#[tactic(auto, using(crate::proofs::Laws::one_value))]
 fn first(which: u8, v: u32) -> u32
     ensures { result ≡ get_or (v ∷ []) which 0 }
 {
@@ -292,6 +298,7 @@ pub fn family_number(f: Family) -> u8
 }
 
 // Whether the two are one family.
+#[tactic(auto, unfolding(crate::specs::Asked::is))]
 pub fn same(f: Family, g: Family) -> bool
     ensures { result ≡ is f g }
 {
@@ -299,6 +306,7 @@ pub fn same(f: Family, g: Family) -> bool
 }
 
 // Question 1.
+#[tactic(auto, unfolding(crate::specs::Asked::open_family, crate::specs::Asked::question, crate::specs::Asked::family_numbered, crate::specs::Asked::family_opened))]
 pub fn open_family(family: u32) -> FamilyOpening
     ensures { family_opened result ≡ open_family family }
 {
@@ -313,6 +321,7 @@ pub fn open_family(family: u32) -> FamilyOpening
 }
 
 // Question 2.
+#[tactic(auto, unfolding(crate::specs::Asked::open_lan, crate::specs::Asked::question, crate::specs::Asked::port_opened))]
 fn open_lan(family: Family, device: u16, lan: u32) -> Opening
     ensures { port_opened result ≡ open_lan device lan family }
 {
@@ -327,6 +336,7 @@ fn open_lan(family: Family, device: u16, lan: u32) -> Opening
 }
 
 // Questions 1 and 2.
+#[tactic(auto, unfolding(crate::specs::Asked::open_port, crate::specs::Asked::and_then, crate::specs::Asked::family_opened, crate::specs::Asked::port_opened))]
 pub fn open_port(family: u32, device: u16, lan: u32) -> Opening
     ensures { port_opened result ≡ open_port family device lan }
 {
@@ -337,6 +347,7 @@ pub fn open_port(family: u32, device: u16, lan: u32) -> Opening
 }
 
 // A state's port is one that an opening gives.
+#[tactic(auto, unfolding(crate::specs::Asked::valid_port))]
 pub fn valid_port(p: Port) -> bool
     ensures { result ≡ valid_port p }
 {
@@ -344,6 +355,7 @@ pub fn valid_port(p: Port) -> bool
 }
 
 // What every call's state holds: a port that an opening gives, and a meter whose sample is one of ten, or none.
+#[tactic(auto, unfolding(crate::specs::Marks::valid_held, crate::specs::Prog::pick))]
 pub fn valid_held(port: Port, m: Meter) -> bool
     ensures { result ≡ valid_held port m }
 {
@@ -354,6 +366,7 @@ pub fn valid_held(port: Port, m: Meter) -> bool
 }
 
 // Question 12: a read is answered by a value or a failure, a write by done or a failure, a wait by done.
+#[tactic(auto, unfolding(crate::specs::Asked::fits))]
 pub fn awaited(x: Access, a: Answer) -> bool
     ensures { result ≡ fits x a }
 {
@@ -377,6 +390,7 @@ pub fn awaited(x: Access, a: Answer) -> bool
 }
 
 // Questions 10 and 12 of a step: whether its state is within its limits, and the answer of the kind that x awaits.
+#[tactic(auto, using(crate::proofs::Typed::answer_typed), unfolding(crate::specs::Asked::Admits, crate::specs::Asked::admitting, crate::specs::Asked::question))]
 pub fn admit(valid: bool, x: Access, a: Answer) -> Admitted
     ensures { Admits valid x a result }
 {
@@ -390,6 +404,7 @@ pub fn admit(valid: bool, x: Access, a: Answer) -> Admitted
 }
 
 // Whether v has none of the bits set.
+#[tactic(auto, unfolding(crate::specs::Registers::none_of))]
 pub fn none_of(v: u32, bits: u32) -> bool
     ensures { result ≡ none_of v bits }
 {
@@ -397,6 +412,7 @@ pub fn none_of(v: u32, bits: u32) -> bool
 }
 
 // What the Rust's `read` makes of the answer: FFFFFFFF is Removed.
+#[tactic(auto, unfolding(crate::specs::Prog::pick, crate::specs::Registers::checked, crate::specs::Registers::word, crate::specs::Failures::failure_of))]
 pub fn read(a: Answer) -> Word
     ensures { word result ≡ checked a }
 {
@@ -413,6 +429,7 @@ pub fn read(a: Answer) -> Word
 }
 
 // A register that is read raw: every value counts.
+#[tactic(auto, unfolding(crate::specs::Registers::raw, crate::specs::Registers::word, crate::specs::Failures::failure_of))]
 pub fn read_raw(a: Answer) -> Word
     ensures { word result ≡ raw a }
 {
@@ -423,6 +440,7 @@ pub fn read_raw(a: Answer) -> Word
     }
 }
 
+#[tactic(auto, unfolding(crate::specs::Registers::written, crate::specs::Registers::outcome, crate::specs::Failures::failure_of))]
 pub fn write(a: Answer) -> Outcome
     ensures { outcome result ≡ written a }
 {
@@ -434,6 +452,7 @@ pub fn write(a: Answer) -> Outcome
 }
 
 // The raw read of STATUS that brings a write to the device.
+#[tactic(auto, unfolding(crate::specs::Registers::flushed, crate::specs::Registers::outcome, crate::specs::Failures::failure_of))]
 pub fn flush(a: Answer) -> Outcome
     ensures { outcome result ≡ flushed a }
 {

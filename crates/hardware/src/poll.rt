@@ -26,6 +26,7 @@ pub enum PollNext {
     End(Word),
 }
 
+#[tactic(auto, using(crate::proofs::Laws::one_less, crate::proofs::Laws::poll_more), unfolding(crate::specs::Poll::poll, crate::specs::Prog::erase, crate::specs::Registers::word, crate::specs::Poll::poll_next, crate::specs::Poll::valid_poll_next, crate::specs::Poll::valid_poll))]
 pub fn open(w: Watch, tries: u32, last: u32) -> PollNext
     ensures result_value { poll_next w result ≡ erase (poll w tries last) }
     ensures by_index { (n : ℕ) → tries ≤ n → valid_poll_next n result ≡ true }
@@ -36,6 +37,7 @@ pub fn open(w: Watch, tries: u32, last: u32) -> PollNext
     PollNext::Going(Poll::Reading(tries - 1))
 }
 
+#[tactic(auto, unfolding(crate::specs::Poll::access_poll))]
 pub fn access(w: Watch, s: Poll) -> Access
     ensures { result ≡ access_poll w s }
 {
@@ -48,6 +50,7 @@ pub fn access(w: Watch, s: Poll) -> Access
     }
 }
 
+#[tactic(auto, unfolding(crate::specs::Registers::word, crate::specs::Prog::or_err, crate::specs::Poll::polled, crate::specs::Prog::pick, crate::specs::Prog::erase, crate::specs::Poll::poll_next, crate::specs::Poll::valid_poll_next, crate::specs::Poll::access_poll, crate::specs::Poll::rest_poll, crate::specs::Poll::valid_poll))]
 fn seen(w: Watch, left: u32, v: Word) -> PollNext
     ensures result_value { poll_next w result ≡ erase (or_err (polled w (poll w left)) (word v)) }
     ensures by_index { (n : ℕ) → left < n → valid_poll_next n result ≡ true }
@@ -63,6 +66,7 @@ fn seen(w: Watch, left: u32, v: Word) -> PollNext
     }
 }
 
+#[tactic(auto, using(crate::proofs::Laws::below, crate::proofs::Prog::fed), unfolding(crate::specs::Poll::rest_poll, crate::specs::Poll::valid_poll))]
 pub fn step(w: Watch, s: Poll, a: Answer) -> PollNext
     ensures result_value { poll_next w result ≡ erase (rest_poll w s a) }
     ensures by_index { (n : ℕ) → valid_poll n s ≡ true → valid_poll_next n result ≡ true }
@@ -73,6 +77,7 @@ pub fn step(w: Watch, s: Poll, a: Answer) -> PollNext
     }
 }
 
+#[tactic(auto, unfolding(crate::specs::Poll::valid_poll))]
 pub fn valid(tries: u32, s: Poll) -> bool
     ensures { result ≡ valid_poll tries s }
 {

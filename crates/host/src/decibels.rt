@@ -12,6 +12,7 @@ pub struct Decibels {
     pub tenths: i16,
 }
 
+#[tactic(auto, unfolding(crate::specs::Decibels::decibels_of))]
 fn shown(l: Level) -> Decibels
     ensures { result ≡ decibels_of l }
 {
@@ -29,6 +30,7 @@ fn shown(l: Level) -> Decibels
 
 // count: the power in 0.1 µW.
 #[unsafe(no_mangle)]
+#[tactic(auto, unfolding(crate::specs::Decibels::Levelled))]
 pub extern "C" fn sulfryk_level(count: u16) -> Decibels
     ensures { Levelled count result }
 {

@@ -27,6 +27,7 @@ pub struct Terms {
 }
 
 // A call that is not over, its request inside the bus, an attempt, a command.
+#[tactic(auto, unfolding(crate::specs::Direct::shape, hardware::specs::Prog::pick))]
 fn shaped(s: State) -> bool
     ensures { result ≡ shape s }
 {
@@ -74,6 +75,7 @@ fn job(s: State) -> Job
 }
 
 // The state with another job.
+#[tactic(auto, unfolding(crate::specs::Direct::with_job))]
 pub fn with_job(s: State, j: Job) -> State
     ensures { result ≡ with_job s j }
 {
@@ -146,6 +148,7 @@ fn of_rate(p: Port, s: State) -> Terms
 }
 
 // By the number of the call.
+#[tactic(auto, using(crate::proofs::Laws::chosen_both), unfolding(crate::specs::Direct::TermsOf))]
 fn terms_of(p: Port, m: Meter, s: State) -> Terms
     ensures { TermsOf s.call p m s result }
 {
@@ -164,6 +167,7 @@ fn terms_of(p: Port, m: Meter, s: State) -> Terms
 }
 
 // A step with an answer of a kind that there is.
+#[tactic(auto, using(bus::proofs::Laws::moved_map, crate::proofs::Laws::call_moves), unfolding(bus::specs::Quick::MovedBy))]
 fn inside(s: State, a: Answer) -> Moved
     ensures { MovedBy (λ x next. Stepped s a (moved_block s x next)) result }
 {
@@ -181,6 +185,7 @@ fn inside(s: State, a: Answer) -> Moved
     Moved::Slow
 }
 
+#[tactic(auto, unfolding(crate::specs::Step::AnsweredBy, bus::specs::Quick::MovedBy))]
 pub fn moved(s: State, g: Given) -> Moved
     ensures { MovedBy (λ x next. AnsweredBy g (λ a. Stepped s a) s (moved_block s x next)) result }
 {

@@ -12,6 +12,7 @@ use hostif::calls::{CommandCall, TokenCall};
 use hostif::command::Command;
 use hostif::token::Token;
 
+#[tactic(auto, unfolding(crate::specs::Kept::failed))]
 fn failed(b: Byte) -> bool
     ensures { result ≡ failed b }
 {
@@ -21,6 +22,7 @@ fn failed(b: Byte) -> bool
     }
 }
 
+#[tactic(auto, unfolding(crate::specs::Kept::in_command))]
 fn in_command(c: Command) -> bool
     ensures { result ≡ in_command c }
 {
@@ -39,6 +41,7 @@ fn in_token(t: Token) -> bool
     in_command(c)
 }
 
+#[tactic(auto, unfolding(crate::specs::Kept::in_stage))]
 fn in_stage(s: Stage) -> bool
     ensures { result ≡ in_stage s }
 {
@@ -50,6 +53,7 @@ fn in_stage(s: Stage) -> bool
     }
 }
 
+#[tactic(auto, unfolding(crate::specs::Kept::in_release))]
 fn in_release(s: Release) -> bool
     ensures { result ≡ in_release s }
 {
@@ -59,6 +63,7 @@ fn in_release(s: Release) -> bool
     }
 }
 
+#[tactic(auto, unfolding(crate::specs::Kept::in_command_call))]
 fn in_command_call(c: CommandCall) -> bool
     ensures { result ≡ in_command_call c }
 {
@@ -68,6 +73,7 @@ fn in_command_call(c: CommandCall) -> bool
     }
 }
 
+#[tactic(auto, unfolding(crate::specs::Kept::in_token_call))]
 fn in_token_call(c: TokenCall) -> bool
     ensures { result ≡ in_token_call c }
 {
@@ -77,6 +83,7 @@ fn in_token_call(c: TokenCall) -> bool
     }
 }
 
+#[tactic(auto, unfolding(crate::specs::Kept::in_acquire_call))]
 fn in_acquire_call(c: AcquireCall) -> bool
     ensures { result ≡ in_acquire_call c }
 {
@@ -89,6 +96,7 @@ fn in_acquire_call(c: AcquireCall) -> bool
     }
 }
 
+#[tactic(auto, unfolding(crate::specs::Kept::in_release_call))]
 fn in_release_call(c: ReleaseCall) -> bool
     ensures { result ≡ in_release_call c }
 {
@@ -100,6 +108,7 @@ fn in_release_call(c: ReleaseCall) -> bool
 
 // Whether the failure of an access that failed before stays the result's, where the one that this state awaits fails too.
 #[unsafe(no_mangle)]
+#[tactic(auto, unfolding(crate::specs::Kept::failure_kept, crate::specs::Kept::kept_as))]
 pub extern "C" fn sulfryk_failure_kept(state: State) -> bool
     ensures { result ≡ failure_kept state }
 {

@@ -1,5 +1,7 @@
 // The calls for hosts outside of Rattle. What crosses is numbers, by value: a host opens a call, makes the access that the
 // block names, and hands the block's state back in with the answer, until the block names an end.
+#![tactic(auto)]
+
 use flat::State;
 
 pub mod decibels;

@@ -23,6 +23,7 @@ pub const FAILED: u32 = 4;
 
 pub const REFUSED: u32 = 5;
 
+#[tactic(auto, unfolding(crate::specs::Next::next_of))]
 fn made(kind: u32, first: u32, second: u32, third: u32, m: Meter) -> Next
     ensures { result ≡ next_of kind first second third m }
 {
@@ -41,6 +42,7 @@ fn made(kind: u32, first: u32, second: u32, third: u32, m: Meter) -> Next
 }
 
 // handed: 256 and the byte that a script has just read, else 0.
+#[tactic(auto, unfolding(crate::specs::Next::asked_of))]
 pub fn asked(x: Access, handed: u32) -> Next
     ensures { result ≡ asked_of x handed }
 {
@@ -51,12 +53,14 @@ pub fn asked(x: Access, handed: u32) -> Next
     }
 }
 
+#[tactic(auto, unfolding(crate::specs::Next::refused_of))]
 pub fn refused(number: u32) -> Next
     ensures { result ≡ refused_of number }
 {
     made(REFUSED, number, 0, 0, BLANK)
 }
 
+#[tactic(auto, unfolding(crate::specs::Next::failed_of))]
 fn failed(e: Error, m: Meter) -> Next
     ensures { result ≡ failed_of e m }
 {
@@ -69,12 +73,14 @@ fn failed(e: Error, m: Meter) -> Next
     )
 }
 
+#[tactic(auto, unfolding(crate::specs::Next::ended_of))]
 fn ended(value: u32, m: Meter) -> Next
     ensures { result ≡ ended_of value m }
 {
     made(ENDED, value, 0, 0, m)
 }
 
+#[tactic(auto, unfolding(crate::specs::Next::word_of))]
 pub fn word(w: Word, m: Meter) -> Next
     ensures { result ≡ word_of w m }
 {
@@ -84,6 +90,7 @@ pub fn word(w: Word, m: Meter) -> Next
     }
 }
 
+#[tactic(auto, unfolding(crate::specs::Next::outcome_of))]
 pub fn outcome(o: Outcome, m: Meter) -> Next
     ensures { result ≡ outcome_of o m }
 {
@@ -93,6 +100,7 @@ pub fn outcome(o: Outcome, m: Meter) -> Next
     }
 }
 
+#[tactic(auto, unfolding(crate::specs::Next::byte_of))]
 pub fn byte(b: Byte) -> Next
     ensures { result ≡ byte_of b }
 {
@@ -103,6 +111,7 @@ pub fn byte(b: Byte) -> Next
 }
 
 // 1 for true.
+#[tactic(auto, unfolding(crate::specs::Next::flag_of))]
 pub fn flag(f: Flag, m: Meter) -> Next
     ensures { result ≡ flag_of f m }
 {
@@ -113,6 +122,7 @@ pub fn flag(f: Flag, m: Meter) -> Next
 }
 
 // The kind by its place in the Rust's list, multispeed, identifier, comp_10g, comp_1g and cable.
+#[tactic(auto, unfolding(crate::specs::Next::identity_of))]
 fn identity(i: Identity, m: Meter) -> Next
     ensures { result ≡ identity_of i m }
 {
@@ -131,6 +141,7 @@ fn identity(i: Identity, m: Meter) -> Next
     }
 }
 
+#[tactic(auto, unfolding(crate::specs::Next::identified_of))]
 pub fn identified(f: Identified, m: Meter) -> Next
     ensures { result ≡ identified_of f m }
 {
@@ -140,6 +151,7 @@ pub fn identified(f: Identified, m: Meter) -> Next
     }
 }
 
+#[tactic(auto, unfolding(crate::specs::Next::paged_of))]
 pub fn paged(p: Paged, m: Meter) -> Next
     ensures { result ≡ paged_of p m }
 {
@@ -151,6 +163,7 @@ pub fn paged(p: Paged, m: Meter) -> Next
     }
 }
 
+#[tactic(auto, unfolding(crate::specs::Next::reading_kind))]
 fn reading_kind(r: Reading) -> u32
     ensures { result ≡ reading_kind r }
 {
@@ -162,6 +175,7 @@ fn reading_kind(r: Reading) -> u32
 }
 
 // The count, the bit pattern of the power, or 0.
+#[tactic(auto, unfolding(crate::specs::Next::reading_count))]
 fn reading_count(r: Reading) -> u32
     ensures { result ≡ reading_count r }
 {
@@ -173,6 +187,7 @@ fn reading_count(r: Reading) -> u32
 }
 
 // The voltage, the bias, the power sent, and of the reading its kind and its count or pattern.
+#[tactic(auto, unfolding(crate::specs::Next::measures_of))]
 fn measures(v: Measures, m: Meter) -> Next
     ensures { result ≡ measures_of v m }
 {
@@ -191,6 +206,7 @@ fn measures(v: Measures, m: Meter) -> Next
     }
 }
 
+#[tactic(auto, unfolding(crate::specs::Next::measured_of))]
 pub fn measured(r: Measured, m: Meter) -> Next
     ensures { result ≡ measured_of r m }
 {

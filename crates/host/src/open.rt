@@ -27,6 +27,7 @@ pub enum Named {
     Unknown,
 }
 
+#[tactic(auto, unfolding(crate::specs::Open::named))]
 fn by_number(sequence: u32) -> Named
     ensures { result ≡ named sequence }
 {
@@ -39,6 +40,7 @@ fn by_number(sequence: u32) -> Named
 }
 
 #[unsafe(no_mangle)]
+#[tactic(auto, unfolding(crate::specs::Open::OpenedBy, crate::specs::Shown::Shows))]
 pub extern "C" fn sulfryk_read_byte_open(
     family: u32,
     device: u16,
@@ -64,6 +66,7 @@ pub extern "C" fn sulfryk_read_byte_open(
 }
 
 #[unsafe(no_mangle)]
+#[tactic(auto, unfolding(crate::specs::Open::OpenedBy, crate::specs::Shown::Shows))]
 pub extern "C" fn sulfryk_write_byte_open(
     family: u32,
     device: u16,
@@ -87,6 +90,7 @@ pub extern "C" fn sulfryk_write_byte_open(
 }
 
 #[unsafe(no_mangle)]
+#[tactic(auto, unfolding(crate::specs::Open::OpenedBy, crate::specs::Shown::Shows))]
 pub extern "C" fn sulfryk_read_combined_open(
     family: u32,
     device: u16,
@@ -109,6 +113,7 @@ pub extern "C" fn sulfryk_read_combined_open(
 }
 
 #[unsafe(no_mangle)]
+#[tactic(auto, unfolding(crate::specs::Open::OpenedBy, crate::specs::Shown::Shows))]
 pub extern "C" fn sulfryk_write_combined_open(
     family: u32,
     device: u16,
@@ -132,6 +137,7 @@ pub extern "C" fn sulfryk_write_combined_open(
 }
 
 #[unsafe(no_mangle)]
+#[tactic(auto, unfolding(crate::specs::Shown::Shows))]
 pub extern "C" fn sulfryk_qsfp_setup_open() -> Block
     ensures { Shows (TellsSetup (yes (erase (change setup_bus)))) ShownSetup over_setup result }
 {
@@ -139,6 +145,7 @@ pub extern "C" fn sulfryk_qsfp_setup_open() -> Block
 }
 
 #[unsafe(no_mangle)]
+#[tactic(auto, unfolding(crate::specs::Open::OpenedBy, crate::specs::Shown::Shows))]
 pub extern "C" fn sulfryk_identify_open(family: u32, device: u16, lan: u32, sequence: u32) -> Block
     ensures { OpenedBy (named sequence) (λ q. Shows (TellsIdentify (open_identify q family device lan)) ShownIdentify over_identify) over_identify result }
 {
@@ -153,6 +160,7 @@ pub extern "C" fn sulfryk_identify_open(family: u32, device: u16, lan: u32, sequ
 }
 
 #[unsafe(no_mangle)]
+#[tactic(auto, unfolding(crate::specs::Open::OpenedBy, crate::specs::Shown::Shows))]
 pub extern "C" fn sulfryk_identify_qsfp_open(
     family: u32,
     device: u16,
@@ -172,6 +180,7 @@ pub extern "C" fn sulfryk_identify_qsfp_open(
 }
 
 #[unsafe(no_mangle)]
+#[tactic(auto, unfolding(crate::specs::Open::OpenedBy, crate::specs::Shown::Shows))]
 pub extern "C" fn sulfryk_soft_rate_select_open(
     family: u32,
     device: u16,
@@ -192,6 +201,7 @@ pub extern "C" fn sulfryk_soft_rate_select_open(
 }
 
 #[unsafe(no_mangle)]
+#[tactic(auto, unfolding(crate::specs::Open::OpenedBy, crate::specs::Shown::Shows))]
 pub extern "C" fn sulfryk_light_open(
     family: u32,
     device: u16,
@@ -212,6 +222,7 @@ pub extern "C" fn sulfryk_light_open(
 }
 
 #[unsafe(no_mangle)]
+#[tactic(auto, unfolding(crate::specs::Shown::Shows))]
 pub extern "C" fn sulfryk_acquire_open(family: u32, device: u16, lan: u32, mask: u32) -> Block
     ensures { Shows (TellsAcquire (open_acquire family device lan mask)) ShownAcquire over_acquire result }
 {
@@ -222,6 +233,7 @@ pub extern "C" fn sulfryk_acquire_open(family: u32, device: u16, lan: u32, mask:
 }
 
 #[unsafe(no_mangle)]
+#[tactic(auto, unfolding(crate::specs::Shown::Shows))]
 pub extern "C" fn sulfryk_release_open(family: u32, device: u16, lan: u32, mask: u32) -> Block
     ensures { Shows (TellsRelease (open_release family device lan mask)) ShownRelease over_release result }
 {
@@ -232,6 +244,7 @@ pub extern "C" fn sulfryk_release_open(family: u32, device: u16, lan: u32, mask:
 }
 
 #[unsafe(no_mangle)]
+#[tactic(auto, unfolding(crate::specs::Shown::Shows))]
 pub extern "C" fn sulfryk_token_open(family: u32, device: u16, lan: u32, take: bool) -> Block
     ensures { Shows (TellsToken (open_token family device lan take)) ShownToken over_token result }
 {
@@ -242,6 +255,7 @@ pub extern "C" fn sulfryk_token_open(family: u32, device: u16, lan: u32, take: b
 }
 
 #[unsafe(no_mangle)]
+#[tactic(auto, unfolding(crate::specs::Shown::Shows))]
 pub extern "C" fn sulfryk_command_open(family: u32, device: u16, lan: u32, block: &[u32]) -> Block
     ensures { Shows (TellsCommandOpen family device lan block.now) ShownCommand over_command result }
 {
@@ -252,6 +266,7 @@ pub extern "C" fn sulfryk_command_open(family: u32, device: u16, lan: u32, block
 }
 
 #[unsafe(no_mangle)]
+#[tactic(auto, unfolding(crate::specs::Shown::Shows))]
 pub extern "C" fn sulfryk_script_open(family: u32, device: u16, lan: u32, script: &[u8]) -> Block
     ensures { Shows (TellsScriptOpen family device lan script.now) ShownScript over_script result }
 {
@@ -262,6 +277,7 @@ pub extern "C" fn sulfryk_script_open(family: u32, device: u16, lan: u32, script
 }
 
 #[unsafe(no_mangle)]
+#[tactic(auto, unfolding(crate::specs::Open::OpenedBy, crate::specs::Shown::Shows))]
 pub extern "C" fn sulfryk_page_open(
     family: u32,
     device: u16,
@@ -283,6 +299,7 @@ pub extern "C" fn sulfryk_page_open(
 }
 
 #[unsafe(no_mangle)]
+#[tactic(auto, unfolding(crate::specs::Open::OpenedBy, crate::specs::Shown::Shows))]
 pub extern "C" fn sulfryk_qsfp_page_open(
     family: u32,
     device: u16,

@@ -31,6 +31,7 @@ pub fn moved(x: Access, s: State, j: Job) -> Block
 }
 
 // Refused with a number, the state as it was.
+#[tactic(auto, unfolding(crate::specs::Shown::refused_block))]
 pub fn refused(number: u32, old: State) -> Block
     ensures { result ≡ refused_block number old }
 {
@@ -44,12 +45,14 @@ fn turned(q: Refusal, old: State) -> Block
 }
 
 // The finished state.
+#[tactic(auto, unfolding(crate::specs::Shown::over_transfer))]
 pub fn transfer_over() -> State
     ensures { result ≡ over_transfer }
 {
     flat::of_i2c::of_transfer_call(TransferCall::Over)
 }
 
+#[tactic(auto, unfolding(crate::specs::Shown::shown_transfer))]
 pub fn transfer(old: State, t: TransferTold) -> Block
     ensures { result ≡ shown_transfer old t }
 {
@@ -64,12 +67,14 @@ pub fn transfer(old: State, t: TransferTold) -> Block
 }
 
 // The finished state.
+#[tactic(auto, unfolding(crate::specs::Shown::over_setup))]
 pub fn setup_over() -> State
     ensures { result ≡ over_setup }
 {
     flat::of_i2c::of_setup_call(SetupCall::Over)
 }
 
+#[tactic(auto, unfolding(crate::specs::Shown::shown_setup))]
 pub fn setup(old: State, t: SetupTold) -> Block
     ensures { result ≡ shown_setup old t }
 {
@@ -81,12 +86,14 @@ pub fn setup(old: State, t: SetupTold) -> Block
 }
 
 // The finished state.
+#[tactic(auto, unfolding(crate::specs::Shown::over_identify))]
 pub fn identify_over() -> State
     ensures { result ≡ over_identify }
 {
     flat::of_identify::of_identify_call(IdentifyCall::Over)
 }
 
+#[tactic(auto, unfolding(crate::specs::Shown::shown_identify))]
 pub fn identify(old: State, t: IdentifyTold) -> Block
     ensures { result ≡ shown_identify old t }
 {
@@ -101,12 +108,14 @@ pub fn identify(old: State, t: IdentifyTold) -> Block
 }
 
 // The finished state.
+#[tactic(auto, unfolding(crate::specs::Shown::over_rate))]
 pub fn rate_over() -> State
     ensures { result ≡ over_rate }
 {
     flat::of_softrate::of_rate_call(RateCall::Over)
 }
 
+#[tactic(auto, unfolding(crate::specs::Shown::shown_rate))]
 pub fn rate(old: State, t: RateTold) -> Block
     ensures { result ≡ shown_rate old t }
 {
@@ -121,12 +130,14 @@ pub fn rate(old: State, t: RateTold) -> Block
 }
 
 // The finished state.
+#[tactic(auto, unfolding(crate::specs::Shown::over_light))]
 pub fn light_over() -> State
     ensures { result ≡ over_light }
 {
     flat::of_light::of_light_call(LightCall::Over)
 }
 
+#[tactic(auto, unfolding(crate::specs::Shown::shown_light))]
 pub fn light(old: State, t: LightTold) -> Block
     ensures { result ≡ shown_light old t }
 {
@@ -141,12 +152,14 @@ pub fn light(old: State, t: LightTold) -> Block
 }
 
 // The finished state.
+#[tactic(auto, unfolding(crate::specs::Shown::over_acquire))]
 pub fn acquire_over() -> State
     ensures { result ≡ over_acquire }
 {
     flat::of_acquire::of_acquire_call(AcquireCall::Over)
 }
 
+#[tactic(auto, unfolding(crate::specs::Shown::shown_acquire))]
 pub fn acquire(old: State, t: AcquireTold) -> Block
     ensures { result ≡ shown_acquire old t }
 {
@@ -161,12 +174,14 @@ pub fn acquire(old: State, t: AcquireTold) -> Block
 }
 
 // The finished state.
+#[tactic(auto, unfolding(crate::specs::Shown::over_release))]
 pub fn release_over() -> State
     ensures { result ≡ over_release }
 {
     flat::of_acquire::of_release_call(ReleaseCall::Over)
 }
 
+#[tactic(auto, unfolding(crate::specs::Shown::shown_release))]
 pub fn release(old: State, t: ReleaseTold) -> Block
     ensures { result ≡ shown_release old t }
 {
@@ -181,12 +196,14 @@ pub fn release(old: State, t: ReleaseTold) -> Block
 }
 
 // The finished state.
+#[tactic(auto, unfolding(crate::specs::Shown::over_token))]
 pub fn token_over() -> State
     ensures { result ≡ over_token }
 {
     flat::of_hostif::of_token_call(TokenCall::Over)
 }
 
+#[tactic(auto, unfolding(crate::specs::Shown::shown_token))]
 pub fn token(old: State, t: TokenTold) -> Block
     ensures { result ≡ shown_token old t }
 {
@@ -201,12 +218,14 @@ pub fn token(old: State, t: TokenTold) -> Block
 }
 
 // The finished state.
+#[tactic(auto, unfolding(crate::specs::Shown::over_command))]
 pub fn command_over() -> State
     ensures { result ≡ over_command }
 {
     flat::of_hostif::of_command_call(CommandCall::Over)
 }
 
+#[tactic(auto, unfolding(crate::specs::Shown::shown_command))]
 pub fn command(old: State, t: CommandTold) -> Block
     ensures { result ≡ shown_command old t }
 {
@@ -221,12 +240,14 @@ pub fn command(old: State, t: CommandTold) -> Block
 }
 
 // The finished state.
+#[tactic(auto, unfolding(crate::specs::Shown::over_script))]
 pub fn script_over() -> State
     ensures { result ≡ over_script }
 {
     flat::of_transfer::of_script_call(ScriptCall::Over)
 }
 
+#[tactic(auto, unfolding(crate::specs::Shown::shown_script))]
 pub fn script(old: State, t: ScriptTold) -> Block
     ensures { result ≡ shown_script old t }
 {
@@ -245,12 +266,14 @@ pub fn script(old: State, t: ScriptTold) -> Block
 }
 
 // The finished state.
+#[tactic(auto, unfolding(crate::specs::Shown::over_page))]
 pub fn page_over() -> State
     ensures { result ≡ over_page }
 {
     flat::of_page::of_page_call(PageCall::Over)
 }
 
+#[tactic(auto, unfolding(crate::specs::Shown::shown_page))]
 pub fn page(old: State, t: PageTold) -> Block
     ensures { result ≡ shown_page old t }
 {

@@ -15,6 +15,7 @@ pub enum Given {
     Unknown,
 }
 
+#[tactic(auto, unfolding(crate::specs::Step::answered))]
 fn answered(kind: u32, value: u32) -> Given
     ensures { result ≡ answered kind value }
 {
@@ -26,12 +27,14 @@ fn answered(kind: u32, value: u32) -> Given
     }
 }
 
+#[tactic(auto, unfolding(crate::specs::Step::SteppedTransfer, crate::specs::Shown::Shows))]
 fn transfer(old: State, a: Answer) -> Block
     ensures { SteppedTransfer old a result }
 {
     crate::shown::transfer(old, i2c::calls::plain(flat::of_i2c::transfer_call(old), a))
 }
 
+#[tactic(auto, unfolding(crate::specs::Step::SteppedSetup, crate::specs::Shown::Shows))]
 fn setup(old: State, a: Answer) -> Block
     ensures { SteppedSetup old a result }
 {
@@ -41,6 +44,7 @@ fn setup(old: State, a: Answer) -> Block
     )
 }
 
+#[tactic(auto, unfolding(crate::specs::Step::SteppedIdentify, crate::specs::Shown::Shows))]
 fn identify(old: State, a: Answer) -> Block
     ensures { SteppedIdentify old a result }
 {
@@ -50,6 +54,7 @@ fn identify(old: State, a: Answer) -> Block
     )
 }
 
+#[tactic(auto, unfolding(crate::specs::Step::SteppedRate, crate::specs::Shown::Shows))]
 fn rate(old: State, a: Answer) -> Block
     ensures { SteppedRate old a result }
 {
@@ -59,12 +64,14 @@ fn rate(old: State, a: Answer) -> Block
     )
 }
 
+#[tactic(auto, unfolding(crate::specs::Step::SteppedLight, crate::specs::Shown::Shows))]
 fn light(old: State, a: Answer) -> Block
     ensures { SteppedLight old a result }
 {
     crate::shown::light(old, light::calls::plain(flat::of_light::light_call(old), a))
 }
 
+#[tactic(auto, unfolding(crate::specs::Step::SteppedAcquire, crate::specs::Shown::Shows))]
 fn acquire(old: State, a: Answer) -> Block
     ensures { SteppedAcquire old a result }
 {
@@ -74,6 +81,7 @@ fn acquire(old: State, a: Answer) -> Block
     )
 }
 
+#[tactic(auto, unfolding(crate::specs::Step::SteppedRelease, crate::specs::Shown::Shows))]
 fn release(old: State, a: Answer) -> Block
     ensures { SteppedRelease old a result }
 {
@@ -83,6 +91,7 @@ fn release(old: State, a: Answer) -> Block
     )
 }
 
+#[tactic(auto, unfolding(crate::specs::Step::SteppedToken, crate::specs::Shown::Shows))]
 fn token(old: State, a: Answer) -> Block
     ensures { SteppedToken old a result }
 {
@@ -93,6 +102,7 @@ fn token(old: State, a: Answer) -> Block
 }
 
 // By the number of the state's call.
+#[tactic(auto, using(crate::proofs::Laws::by_call), unfolding(crate::specs::Step::AnsweredBy, crate::specs::Step::SteppedAs, crate::specs::Step::Stepped))]
 fn stepped(old: State, kind: u32, value: u32) -> Block
     ensures { AnsweredBy (answered kind value) (λ a. Stepped old a) old result }
 {
@@ -116,6 +126,7 @@ fn stepped(old: State, kind: u32, value: u32) -> Block
 }
 
 #[unsafe(no_mangle)]
+#[tactic(auto, unfolding(bus::specs::Quick::MovedBy))]
 pub extern "C" fn sulfryk_step(state: State, kind: u32, value: u32) -> Block
     ensures { AnsweredBy (answered kind value) (λ a. Stepped state a) state result }
 {
@@ -130,6 +141,7 @@ pub extern "C" fn sulfryk_step(state: State, kind: u32, value: u32) -> Block
     }
 }
 
+#[tactic(auto, unfolding(crate::specs::Step::CommandStepped, crate::specs::Shown::Shows))]
 fn command_on(old: State, block: &mut [u32], a: Answer) -> Block
     ensures { CommandStepped old block.old block.new a result }
 {
@@ -144,6 +156,7 @@ fn command_on(old: State, block: &mut [u32], a: Answer) -> Block
 }
 
 #[unsafe(no_mangle)]
+#[tactic(auto, unfolding(crate::specs::Step::LentBy))]
 pub extern "C" fn sulfryk_command_step(
     state: State,
     block: &mut [u32],
@@ -158,6 +171,7 @@ pub extern "C" fn sulfryk_command_step(
     }
 }
 
+#[tactic(auto, unfolding(crate::specs::Step::ScriptStepped, crate::specs::Shown::Shows))]
 fn script_on(old: State, script: &[u8], a: Answer) -> Block
     ensures { ScriptStepped old script.now a result }
 {
@@ -172,6 +186,7 @@ fn script_on(old: State, script: &[u8], a: Answer) -> Block
 }
 
 #[unsafe(no_mangle)]
+#[tactic(auto, unfolding(crate::specs::Step::AnsweredBy))]
 pub extern "C" fn sulfryk_script_step(state: State, script: &[u8], kind: u32, value: u32) -> Block
     ensures { AnsweredBy (answered kind value) (λ a. ScriptStepped state script.now a) state result }
 {
@@ -181,6 +196,7 @@ pub extern "C" fn sulfryk_script_step(state: State, script: &[u8], kind: u32, va
     }
 }
 
+#[tactic(auto, unfolding(crate::specs::Step::PageStepped, crate::specs::Shown::Shows))]
 fn page_on(old: State, buffer: &mut [u8], a: Answer) -> Block
     ensures { PageStepped old buffer.old buffer.new a result }
 {
@@ -195,6 +211,7 @@ fn page_on(old: State, buffer: &mut [u8], a: Answer) -> Block
 }
 
 #[unsafe(no_mangle)]
+#[tactic(auto, unfolding(crate::specs::Step::LentBy))]
 pub extern "C" fn sulfryk_page_step(state: State, buffer: &mut [u8], kind: u32, value: u32) -> Block
     ensures { LentBy (answered kind value) (λ a. PageStepped state buffer.old buffer.new a) state buffer.old buffer.new result }
 {

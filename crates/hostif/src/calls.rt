@@ -39,6 +39,7 @@ pub enum TokenTold {
     Refused(Refusal),
 }
 
+#[tactic(auto, unfolding(crate::specs::Calls::block_fits, hardware::specs::Prog::pick))]
 fn fits(n: usize) -> bool
     ensures { (l : List ℕ) → length l ≡ n → result ≡ block_fits l }
 {
@@ -48,6 +49,7 @@ fn fits(n: usize) -> bool
     false
 }
 
+#[tactic(auto, unfolding(crate::specs::Calls::said_command, crate::specs::Hostif::command_next, crate::specs::Calls::stands_command, crate::specs::Hostif::valid_command_next, crate::specs::Calls::valid_command_call, hardware::specs::Prog::pick, crate::specs::Left::command_next_left, crate::specs::Left::call_left, crate::specs::Left::told_left))]
 fn command_told(port: Port, block: &[u32], n: CommandNext) -> CommandTold
     ensures { Bounds (said_command result block.now ≡ goes (command_next port n block.now)) (valid_port port ≡ true → valid_command_next port (length block.now) n ≡ true → stands_command result block.now) (told_left result ≤ command_next_left port n) }
 {
@@ -60,6 +62,7 @@ fn command_told(port: Port, block: &[u32], n: CommandNext) -> CommandTold
     }
 }
 
+#[tactic(auto, using(hardware::proofs::Laws::opened_valid), unfolding(crate::specs::Calls::open_command, hardware::specs::Lent::lent, hardware::specs::Asked::and_then, hardware::specs::Asked::question, hardware::specs::Asked::port_opened, crate::specs::Calls::said_command, crate::specs::Calls::stands_command, crate::specs::Left::told_left))]
 pub fn command_open(family: u32, device: u16, lan: u32, block: &[u32]) -> CommandTold
     ensures { Bounds (said_command result block.now ≡ open_command family device lan block.now) (stands_command result block.now) ((port : Port) → open_port family device lan ≡ yes port → told_left result ≤ opened_left port) }
 {
@@ -82,6 +85,7 @@ fn go(port: Port, t: Command, block: &mut [u32], a: Answer) -> CommandTold
     command_told(port, block, n)
 }
 
+#[tactic(auto, unfolding(crate::specs::Calls::valid_command_call, hardware::specs::Prog::pick))]
 fn valid_command(port: Port, n: usize, t: Command) -> bool
     ensures { result ≡ valid_command_call port n t }
 {
@@ -91,6 +95,7 @@ fn valid_command(port: Port, n: usize, t: Command) -> bool
     false
 }
 
+#[tactic(auto, using(hardware::proofs::Laws::admits_fits, hardware::proofs::Laws::admits_typed, hardware::proofs::Laws::admits_no, hardware::proofs::Laws::admits_valid, hardware::proofs::Laws::admits_yes, hardware::proofs::Laws::both_true, crate::proofs::Left::command_some), unfolding(crate::specs::Calls::stepped, hardware::specs::Lent::lent, crate::specs::Calls::valid_command_call, crate::specs::Calls::said_command, crate::specs::Calls::stands_command, crate::specs::Left::told_left))]
 fn command_on(port: Port, t: Command, block: &mut [u32], a: Answer) -> CommandTold
     requires { length block.old ≤ 64 }
     ensures { Bounds (said_command result block.new ≡ lent block.old (stepped (CommandCall.Going port t) block.old a)) (stands_command result block.new) (told_left result < command_left port t) }
@@ -102,6 +107,7 @@ fn command_on(port: Port, t: Command, block: &mut [u32], a: Answer) -> CommandTo
     }
 }
 
+#[tactic(auto, using(crate::proofs::Laws::block_fits_lem), unfolding(crate::specs::Calls::step_command, hardware::specs::Lent::lent, hardware::specs::Asked::question, crate::specs::Left::call_left, crate::specs::Calls::stepped, crate::specs::Calls::said_command, crate::specs::Calls::stands_command, crate::specs::Left::told_left))]
 pub fn command_step(s: CommandCall, block: &mut [u32], a: Answer) -> CommandTold
     ensures { Bounds (said_command result block.new ≡ step_command s block.old a) (stands_command result block.new) (told_left result ≤ call_left s - 1) }
 {
@@ -114,6 +120,7 @@ pub fn command_step(s: CommandCall, block: &mut [u32], a: Answer) -> CommandTold
     CommandTold::Refused(Refusal::Block)
 }
 
+#[tactic(auto, unfolding(crate::specs::Calls::said_token, crate::specs::Hostif::token_next, crate::specs::Calls::stands_token, crate::specs::Hostif::valid_token_next, crate::specs::Calls::valid_token_call, hardware::specs::Prog::pick))]
 fn token_told(port: Port, take: bool, n: TokenNext) -> TokenTold
     ensures { Keeps (said_token result ≡ yes (token_next port take n)) (valid_port port ≡ true → valid_token_next port n ≡ true → stands_token result) }
 {
@@ -126,6 +133,7 @@ fn token_told(port: Port, take: bool, n: TokenNext) -> TokenTold
     }
 }
 
+#[tactic(auto, using(hardware::proofs::Laws::opened_valid), unfolding(crate::specs::Calls::open_token, hardware::specs::Asked::and_then, hardware::specs::Asked::port_opened, crate::specs::Calls::said_token, crate::specs::Calls::stands_token))]
 pub fn token_open(family: u32, device: u16, lan: u32, take: bool) -> TokenTold
     ensures { Keeps (said_token result ≡ open_token family device lan take) (stands_token result) }
 {
@@ -135,6 +143,7 @@ pub fn token_open(family: u32, device: u16, lan: u32, take: bool) -> TokenTold
     }
 }
 
+#[tactic(auto, unfolding(crate::specs::Calls::valid_token_call, hardware::specs::Prog::pick))]
 fn valid_token(port: Port, t: Token) -> bool
     ensures { result ≡ valid_token_call port t }
 {
@@ -144,6 +153,7 @@ fn valid_token(port: Port, t: Token) -> bool
     false
 }
 
+#[tactic(auto, using(hardware::proofs::Laws::admits_no, hardware::proofs::Laws::admits_valid, hardware::proofs::Laws::admits_yes, hardware::proofs::Laws::both_true), unfolding(crate::specs::Calls::step_token, crate::specs::Calls::valid_token_call, crate::specs::Calls::said_token, crate::specs::Calls::stands_token))]
 pub fn token_step(s: TokenCall, a: Answer) -> TokenTold
     ensures { Keeps (said_token result ≡ step_token s a) (stands_token result) }
 {

@@ -33,6 +33,7 @@ pub enum CommandNext {
 }
 
 // The command's own failure goes first, then the release's.
+#[tactic(auto, unfolding(hardware::specs::Registers::word, hardware::specs::Registers::outcome, hardware::specs::Registers::byte, hardware::specs::Registers::flag, crate::specs::Hostif::hicr_read, crate::specs::Hostif::request, crate::specs::Hostif::respond, crate::specs::Hostif::both, crate::specs::Hostif::closed, crate::specs::Hostif::released, crate::specs::Hostif::requested, crate::specs::Hostif::acquired, hardware::specs::Change::change, hardware::specs::Change::access_update, hardware::specs::Change::rest_update, crate::specs::Hostif::valid_command))]
 fn outcome_of(s: Byte, o: Outcome) -> Byte
     ensures { byte result ≡ both (byte s) (outcome o) }
 {
@@ -45,6 +46,7 @@ fn outcome_of(s: Byte, o: Outcome) -> Byte
     }
 }
 
+#[tactic(auto, using(hardware::proofs::Prog::going), unfolding(crate::specs::Hostif::command_next, crate::specs::Hostif::access_command, crate::specs::Hostif::rest_command, sync::specs::Resource::release_bits_next, crate::specs::Hostif::valid_command_next, crate::specs::Hostif::valid_command, sync::specs::Resource::valid_release_bits_next, crate::specs::Left::command_next_left, crate::specs::Left::command_left, hardware::specs::Prog::followed, hardware::specs::Prog::erase, hardware::specs::Registers::word, hardware::specs::Registers::outcome, hardware::specs::Registers::byte, hardware::specs::Registers::flag, crate::specs::Hostif::hicr_read, crate::specs::Hostif::request, crate::specs::Hostif::respond, crate::specs::Hostif::both, crate::specs::Hostif::closed, crate::specs::Hostif::released, crate::specs::Hostif::requested, crate::specs::Hostif::acquired, hardware::specs::Change::change, hardware::specs::Change::access_update, hardware::specs::Change::rest_update))]
 fn releasing(port: Port, s: Byte, n: ReleaseBitsNext) -> CommandNext
     ensures { Bounds ((l : List ℕ) → command_next port result l ≡ followed (release_bits_next port SW_MNG n) (closed (byte s) l)) ((m : ℕ) → valid_release_bits_next n ≡ true → valid_command_next port m result ≡ true) (command_next_left port result ≤ longest (release_bits_next port SW_MNG n)) }
 {
@@ -54,12 +56,14 @@ fn releasing(port: Port, s: Byte, n: ReleaseBitsNext) -> CommandNext
     }
 }
 
+#[tactic(auto, using(hardware::proofs::Prog::over, hardware::proofs::Longest::longest_erase), unfolding(crate::specs::Hostif::released, hardware::specs::Prog::erase))]
 fn release(port: Port, s: Byte) -> CommandNext
     ensures { Bounds ((l : List ℕ) → command_next port result l ≡ erase (released port (record { status = byte s; block = l }))) ((m : ℕ) → valid_command_next port m result ≡ true) (command_next_left port result ≤ release_left port) }
 {
     releasing(port, s, sync::release_bits::open(port, SW_MNG))
 }
 
+#[tactic(auto, using(hardware::proofs::Prog::going), unfolding(crate::specs::Hostif::response_next, crate::specs::Hostif::command_next, crate::specs::Hostif::access_command, crate::specs::Hostif::rest_command, crate::specs::Hostif::valid_command_next, crate::specs::Hostif::valid_command, crate::specs::Hostif::valid_response_next, crate::specs::Left::command_next_left, crate::specs::Left::command_left, crate::specs::Left::response_next_left, hardware::specs::Prog::followed, hardware::specs::Registers::word, hardware::specs::Registers::outcome, hardware::specs::Registers::byte, hardware::specs::Registers::flag, crate::specs::Hostif::hicr_read, crate::specs::Hostif::request, crate::specs::Hostif::respond, crate::specs::Hostif::both, crate::specs::Hostif::closed, crate::specs::Hostif::released, crate::specs::Hostif::requested, crate::specs::Hostif::acquired, hardware::specs::Change::change, hardware::specs::Change::access_update, hardware::specs::Change::rest_update))]
 fn responding(port: Port, n: ResponseNext) -> CommandNext
     ensures { Bounds ((l : List ℕ) → command_next port result l ≡ followed (response_next n l) (released port)) ((m : ℕ) → valid_response_next m n ≡ true → valid_command_next port m result ≡ true) (command_next_left port result ≤ response_next_left n + release_left port) }
 {
@@ -69,6 +73,7 @@ fn responding(port: Port, n: ResponseNext) -> CommandNext
     }
 }
 
+#[tactic(auto, unfolding(crate::specs::Hostif::access_response, crate::specs::Hostif::rest_response, crate::specs::Hostif::command_next, crate::specs::Hostif::access_command, crate::specs::Hostif::rest_command, hardware::specs::Prog::erase, hardware::specs::Registers::word, hardware::specs::Registers::outcome, hardware::specs::Registers::byte, hardware::specs::Registers::flag, crate::specs::Hostif::hicr_read, crate::specs::Hostif::request, crate::specs::Hostif::respond, crate::specs::Hostif::both, crate::specs::Hostif::closed, crate::specs::Hostif::released, crate::specs::Hostif::requested, crate::specs::Hostif::acquired, hardware::specs::Change::change, hardware::specs::Change::access_update, hardware::specs::Change::rest_update, crate::specs::Hostif::valid_command, crate::specs::Hostif::valid_command_next, crate::specs::Hostif::valid_response, crate::specs::Left::command_next_left, crate::specs::Left::command_left, crate::specs::Left::response_left))]
 fn request_done(port: Port, w: Word) -> CommandNext
     ensures { Bounds ((l : List ℕ) → command_next port result l ≡ erase (requested port l (word w))) ((m : ℕ) → valid_command_next port m result ≡ true) (command_next_left port result ≤ respond_left port) }
 {
@@ -78,6 +83,7 @@ fn request_done(port: Port, w: Word) -> CommandNext
     }
 }
 
+#[tactic(auto, using(hardware::proofs::Prog::going), unfolding(crate::specs::Hostif::request_next, crate::specs::Hostif::command_next, crate::specs::Hostif::access_command, crate::specs::Hostif::rest_command, crate::specs::Hostif::valid_command_next, crate::specs::Hostif::valid_command, crate::specs::Hostif::valid_request_next, crate::specs::Left::command_next_left, crate::specs::Left::command_left, crate::specs::Left::request_next_left, hardware::specs::Prog::followed, hardware::specs::Registers::word, hardware::specs::Registers::outcome, hardware::specs::Registers::byte, hardware::specs::Registers::flag, crate::specs::Hostif::hicr_read, crate::specs::Hostif::request, crate::specs::Hostif::respond, crate::specs::Hostif::both, crate::specs::Hostif::closed, crate::specs::Hostif::released, crate::specs::Hostif::requested, crate::specs::Hostif::acquired, hardware::specs::Change::change, hardware::specs::Change::access_update, hardware::specs::Change::rest_update))]
 fn requesting(port: Port, n: RequestNext) -> CommandNext
     ensures { Bounds ((l : List ℕ) → command_next port result l ≡ followed (request_next n l) (requested port l)) ((m : ℕ) → valid_request_next m n ≡ true → valid_command_next port m result ≡ true) (command_next_left port result ≤ request_next_left n + respond_left port) }
 {
@@ -87,6 +93,7 @@ fn requesting(port: Port, n: RequestNext) -> CommandNext
     }
 }
 
+#[tactic(auto, using(hardware::proofs::Prog::going), unfolding(crate::specs::Hostif::command_next, crate::specs::Hostif::access_command, crate::specs::Hostif::rest_command, sync::specs::Resource::acquire_bits_next, crate::specs::Hostif::valid_command_next, crate::specs::Hostif::valid_command, sync::specs::Resource::valid_acquire_bits_next, crate::specs::Left::command_next_left, crate::specs::Left::command_left, crate::specs::Hostif::access_request, crate::specs::Hostif::rest_request, hardware::specs::Prog::followed, hardware::specs::Prog::erase, hardware::specs::Registers::word, hardware::specs::Registers::outcome, hardware::specs::Registers::byte, hardware::specs::Registers::flag, crate::specs::Hostif::hicr_read, crate::specs::Hostif::request, crate::specs::Hostif::respond, crate::specs::Hostif::both, crate::specs::Hostif::closed, crate::specs::Hostif::released, crate::specs::Hostif::requested, crate::specs::Hostif::acquired, hardware::specs::Change::change, hardware::specs::Change::access_update, hardware::specs::Change::rest_update, crate::specs::Hostif::valid_request))]
 fn acquiring(port: Port, n: AcquireBitsNext) -> CommandNext
     ensures { Bounds ((l : List ℕ) → command_next port result l ≡ followed (acquire_bits_next port SW_MNG n) (acquired port l)) ((m : ℕ) → valid_acquire_bits_next port.family n ≡ true → valid_command_next port m result ≡ true) (command_next_left port result ≤ longest (acquire_bits_next port SW_MNG n) + acquired_left port) }
 {
@@ -99,6 +106,7 @@ fn acquiring(port: Port, n: AcquireBitsNext) -> CommandNext
     }
 }
 
+#[tactic(auto, using(hardware::proofs::Longest::longest_erase, hardware::proofs::Prog::over), unfolding(crate::specs::Hostif::command, sync::specs::Resource::acquire_bits, hardware::specs::Prog::erase))]
 pub(crate) fn open(port: Port) -> CommandNext
     ensures { Bounds ((l : List ℕ) → command_next port result l ≡ erase (command port l)) ((m : ℕ) → valid_command_next port m result ≡ true) (command_next_left port result ≤ opened_left port) }
 {
@@ -109,6 +117,7 @@ pub(crate) fn open(port: Port) -> CommandNext
     )
 }
 
+#[tactic(auto, unfolding(crate::specs::Hostif::access_request, crate::specs::Hostif::access_response, crate::specs::Hostif::access_command))]
 pub(crate) fn access(port: Port, s: Command, block: &[u32]) -> Access
     ensures { result ≡ access_command port s block.now }
 {
@@ -120,6 +129,7 @@ pub(crate) fn access(port: Port, s: Command, block: &[u32]) -> Access
     }
 }
 
+#[tactic(auto, using(hardware::proofs::Longest::longest_next, crate::proofs::Left::sum_falls, hardware::proofs::Prog::over), unfolding(crate::specs::Hostif::rest_command, crate::specs::Hostif::valid_command, crate::specs::Left::command_left, crate::specs::Hostif::access_command, sync::specs::Resource::acquire_bits_next, sync::specs::Resource::release_bits_next))]
 pub(crate) fn step(port: Port, s: Command, block: &mut [u32], a: Answer) -> CommandNext
     requires { length block.old ≤ 64 }
     ensures { Bounds (command_next port result block.new ≡ erase (rest_command port s block.old a)) (valid_command port (length block.old) s ≡ true → valid_command_next port (length block.old) result ≡ true) (fits (access_command port s block.old) a ≡ true → InType a → command_next_left port result < command_left port s) }
@@ -136,6 +146,7 @@ pub(crate) fn step(port: Port, s: Command, block: &mut [u32], a: Answer) -> Comm
     }
 }
 
+#[tactic(auto, unfolding(crate::specs::Hostif::valid_command))]
 pub(crate) fn valid(port: Port, n: usize, s: Command) -> bool
     ensures { result ≡ valid_command port n s }
 {

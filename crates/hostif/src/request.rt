@@ -76,6 +76,7 @@ fn word_at(block: &[u32], at: usize) -> u32
     0
 }
 
+#[tactic(auto, unfolding(crate::specs::Hostif::access_request))]
 pub(crate) fn access(s: Request, block: &[u32]) -> Access
     ensures { result ≡ access_request s block.now }
 {
@@ -91,6 +92,7 @@ pub(crate) fn access(s: Request, block: &[u32]) -> Access
     }
 }
 
+#[tactic(auto, using(hardware::proofs::Prog::going), unfolding(crate::specs::Hostif::request_next, crate::specs::Hostif::access_request, crate::specs::Hostif::rest_request, hardware::specs::Change::update_next, crate::specs::Hostif::valid_request_next, crate::specs::Hostif::valid_request, crate::specs::Left::request_next_left, crate::specs::Left::request_left, hardware::specs::Prog::followed, hardware::specs::Prog::erase, hardware::specs::Prog::or_err, hardware::specs::Registers::outcome, crate::specs::Hostif::start, crate::specs::Hostif::enabled, crate::specs::Hostif::hicr_read, crate::specs::Hostif::request, hardware::specs::Change::change, hardware::specs::Change::access_update, hardware::specs::Change::rest_update, crate::specs::Hostif::words, hardware::specs::Registers::word))]
 fn fwsts(n: UpdateNext) -> RequestNext
     ensures { Bounds ((l : List ℕ) → request_next result l ≡ followed (update_next set_fwri n) (or_err (λ _. hicr_read l))) ((m : ℕ) → valid_request_next m result ≡ true) (request_next_left result ≤ longest (update_next set_fwri n) + HICR_LEFT) }
 {
@@ -103,6 +105,7 @@ fn fwsts(n: UpdateNext) -> RequestNext
     }
 }
 
+#[tactic(auto, using(crate::proofs::Laws::first_word, crate::proofs::Laws::words_at, crate::proofs::Laws::words_none), unfolding(crate::specs::Hostif::request_next, hardware::specs::Prog::erase, hardware::specs::Prog::or_err, hardware::specs::Prog::pick, hardware::specs::Registers::word, crate::specs::Hostif::start, crate::specs::Hostif::enabled, crate::specs::Hostif::hicr_read, crate::specs::Hostif::request, hardware::specs::Change::change, hardware::specs::Change::access_update, hardware::specs::Change::rest_update, crate::specs::Hostif::valid_request, crate::specs::Hostif::words, crate::specs::Hostif::valid_request_next, hardware::specs::Failures::failure_of, crate::specs::Left::request_next_left, crate::specs::Left::request_left))]
 fn hicr(n: usize, w: Word) -> RequestNext
     ensures { Bounds ((l : List ℕ) → length l ≡ n → request_next result l ≡ erase (or_err (enabled l) (word w))) (valid_request_next n result ≡ true) (request_next_left result ≤ 64 + START_LEFT) }
 {
@@ -120,6 +123,7 @@ fn hicr(n: usize, w: Word) -> RequestNext
     }
 }
 
+#[tactic(auto, using(crate::proofs::Laws::words_at, crate::proofs::Laws::words_none), unfolding(hardware::specs::Registers::outcome, hardware::specs::Prog::or_err, crate::specs::Hostif::valid_request_next, crate::specs::Hostif::valid_request, crate::specs::Left::request_next_left, crate::specs::Left::request_left, crate::specs::Hostif::request_next, hardware::specs::Prog::erase, hardware::specs::Registers::word, crate::specs::Hostif::start, crate::specs::Hostif::enabled, crate::specs::Hostif::hicr_read, crate::specs::Hostif::request, hardware::specs::Change::change, hardware::specs::Change::access_update, hardware::specs::Change::rest_update, crate::specs::Hostif::words))]
 fn written(n: usize, hicr: u32, at: u8, o: Outcome) -> RequestNext
     requires { n ≤ 64 }
     ensures { Bounds ((l : List ℕ) → length l ≡ n → request_next result l ≡ erase (or_err (λ _. words (at + 1) (drop (at + 1) l) (start hicr)) (outcome o))) (valid_request_next n result ≡ true) (request_next_left result ≤ 63 - at + START_LEFT) }
@@ -135,6 +139,7 @@ fn written(n: usize, hicr: u32, at: u8, o: Outcome) -> RequestNext
     }
 }
 
+#[tactic(auto, unfolding(crate::specs::Hostif::request_next, hardware::specs::Prog::erase, hardware::specs::Prog::or_err, hardware::specs::Prog::pick, hardware::specs::Registers::word, crate::specs::Hostif::completed, crate::specs::Hostif::start, crate::specs::Hostif::enabled, crate::specs::Hostif::hicr_read, crate::specs::Hostif::request, hardware::specs::Change::change, hardware::specs::Change::access_update, hardware::specs::Change::rest_update, crate::specs::Hostif::valid_request, crate::specs::Hostif::words, crate::specs::Hostif::valid_request_next, hardware::specs::Failures::failure_of, crate::specs::Left::request_next_left))]
 fn complete(w: Word) -> RequestNext
     ensures { Bounds ((l : List ℕ) → request_next result l ≡ erase (or_err completed (word w))) ((m : ℕ) → valid_request_next m result ≡ true) (request_next_left result ≡ 0) }
 {
@@ -152,6 +157,7 @@ fn complete(w: Word) -> RequestNext
     }
 }
 
+#[tactic(auto, using(hardware::proofs::Prog::going), unfolding(crate::specs::Hostif::request_next, crate::specs::Hostif::access_request, crate::specs::Hostif::rest_request, hardware::specs::Poll::poll_next, crate::specs::Hostif::valid_request_next, crate::specs::Hostif::valid_request, hardware::specs::Poll::valid_poll_next, crate::specs::Left::request_next_left, crate::specs::Left::request_left, hardware::specs::Prog::followed, crate::specs::Hostif::start, crate::specs::Hostif::enabled, crate::specs::Hostif::hicr_read, crate::specs::Hostif::request, hardware::specs::Change::change, hardware::specs::Change::access_update, hardware::specs::Change::rest_update, crate::specs::Hostif::words))]
 fn poll(n: PollNext) -> RequestNext
     ensures { Bounds ((l : List ℕ) → request_next result l ≡ followed (poll_next hicr_watch n) (or_err completed)) ((m : ℕ) → valid_poll_next POLLS n ≡ true → valid_request_next m result ≡ true) (request_next_left result ≤ longest (poll_next hicr_watch n)) }
 {
@@ -161,6 +167,7 @@ fn poll(n: PollNext) -> RequestNext
     }
 }
 
+#[tactic(auto, using(hardware::proofs::Ends::poll_ends, hardware::proofs::Prog::over, hardware::proofs::Longest::longest_opened), unfolding(hardware::specs::Registers::outcome, hardware::specs::Prog::or_err, crate::specs::Hostif::polling, crate::specs::Hostif::request_next, hardware::specs::Prog::erase, hardware::specs::Registers::word, crate::specs::Hostif::start, crate::specs::Hostif::enabled, crate::specs::Hostif::hicr_read, crate::specs::Hostif::request, hardware::specs::Change::change, hardware::specs::Change::access_update, hardware::specs::Change::rest_update, crate::specs::Hostif::valid_request, crate::specs::Hostif::words, crate::specs::Hostif::valid_request_next, crate::specs::Left::request_next_left))]
 fn started(hicr: u32, o: Outcome) -> RequestNext
     ensures { Bounds ((l : List ℕ) → request_next result l ≡ erase (or_err (λ _. polling hicr) (outcome o))) ((m : ℕ) → valid_request_next m result ≡ true) (request_next_left result ≤ 2 * POLLS) }
 {
@@ -171,6 +178,7 @@ fn started(hicr: u32, o: Outcome) -> RequestNext
 }
 
 // n: the number of the block's words.
+#[tactic(auto, using(hardware::proofs::Longest::longest_next, crate::proofs::Left::sum_falls, hardware::proofs::Prog::fed, hardware::proofs::Prog::over), unfolding(crate::specs::Hostif::rest_request, crate::specs::Left::request_left, crate::specs::Hostif::access_request, hardware::specs::Change::update_next, crate::specs::Hostif::valid_request, hardware::specs::Poll::poll_next))]
 pub(crate) fn step(n: usize, s: Request, a: Answer) -> RequestNext
     requires { n ≤ 64 }
     ensures { Bounds ((l : List ℕ) → length l ≡ n → request_next result l ≡ erase (rest_request s l a)) (valid_request n s ≡ true → valid_request_next n result ≡ true) ((l : List ℕ) → fits (access_request s l) a ≡ true → InType a → request_next_left result < request_left s) }
@@ -184,6 +192,7 @@ pub(crate) fn step(n: usize, s: Request, a: Answer) -> RequestNext
     }
 }
 
+#[tactic(auto, unfolding(hardware::specs::Prog::pick, crate::specs::Hostif::valid_request))]
 pub(crate) fn valid(n: usize, s: Request) -> bool
     ensures { result ≡ valid_request n s }
 {

@@ -22,12 +22,14 @@ pub enum ResponseNext {
     End(Byte),
 }
 
+#[tactic(auto, unfolding(crate::specs::Hostif::len_of, crate::specs::Hostif::status_of, crate::specs::Hostif::words_of, crate::specs::Hostif::valid_response))]
 fn len(head: u32) -> u32
     ensures { result ≡ len_of head }
 {
     head / 256 % 256
 }
 
+#[tactic(auto, unfolding(crate::specs::Hostif::status_of, crate::specs::Hostif::words_of, crate::specs::Hostif::valid_response))]
 fn status(head: u32) -> u8
     ensures { result ≡ status_of head }
 {
@@ -35,6 +37,7 @@ fn status(head: u32) -> u8
 }
 
 // The words of the response after its head.
+#[tactic(auto, unfolding(crate::specs::Hostif::len_of, crate::specs::Hostif::status_of, crate::specs::Hostif::words_of, crate::specs::Hostif::valid_response))]
 fn words(head: u32) -> u8
     ensures { result ≡ words_of head }
 {
@@ -53,6 +56,7 @@ fn place(head: u32, left: u8) -> u8
     n - left
 }
 
+#[tactic(auto, unfolding(crate::specs::Hostif::access_response))]
 pub(crate) fn access(s: Response) -> Access
     ensures { result ≡ access_response s }
 {
@@ -65,6 +69,7 @@ pub(crate) fn access(s: Response) -> Access
     }
 }
 
+#[tactic(auto, using(hardware::proofs::Laws::one_less, crate::proofs::Laws::fill_more), unfolding(crate::specs::Hostif::fill, hardware::specs::Prog::erase, crate::specs::Hostif::response_next, hardware::specs::Registers::byte, crate::specs::Hostif::valid_response_next, crate::specs::Left::response_next_left, crate::specs::Hostif::valid_response, hardware::specs::Prog::pick, crate::specs::Left::response_left))]
 fn more(head: u32, left: u8) -> ResponseNext
     ensures { Bounds ((l : List ℕ) → response_next result l ≡ erase (fill head left l)) ((n : ℕ) → left ≤ words_of head → words_of head < n → valid_response_next n result ≡ true) (response_next_left result ≤ left) }
 {
@@ -82,6 +87,7 @@ fn store(block: &mut [u32], at: usize, v: u32)
     }
 }
 
+#[tactic(auto, using(crate::proofs::Laws::words_fit, crate::proofs::Left::words_few), unfolding(hardware::specs::Registers::word, crate::specs::Hostif::head_seen, hardware::specs::Prog::pick, hardware::specs::Prog::erase, crate::specs::Hostif::response_next, hardware::specs::Registers::byte, crate::specs::Hostif::valid_response_next, hardware::specs::Failures::failure_of, crate::specs::Left::response_next_left, crate::specs::Hostif::status_of, crate::specs::Hostif::words_of, crate::specs::Hostif::valid_response))]
 fn head(last: u32, block: &mut [u32], w: Word) -> ResponseNext
     ensures { Bounds (response_next result block.new ≡ erase (head_seen last block.old (word w))) (valid_response_next (length block.old) result ≡ true) (response_next_left result ≤ 64) }
 {
@@ -97,6 +103,7 @@ fn head(last: u32, block: &mut [u32], w: Word) -> ResponseNext
     }
 }
 
+#[tactic(auto, unfolding(hardware::specs::Registers::word, crate::specs::Hostif::word_seen, crate::specs::Hostif::response_next, hardware::specs::Prog::erase, hardware::specs::Registers::byte, crate::specs::Hostif::status_of, crate::specs::Hostif::words_of, crate::specs::Hostif::valid_response, crate::specs::Hostif::valid_response_next, crate::specs::Left::response_next_left))]
 fn rest(head: u32, left: u8, block: &mut [u32], w: Word) -> ResponseNext
     ensures { Bounds (response_next result block.new ≡ erase (word_seen (fill head left) (words_of head - left) block.old (word w))) (left ≤ words_of head → words_of head < length block.old → valid_response_next (length block.old) result ≡ true) (response_next_left result ≤ left) }
 {
@@ -109,6 +116,7 @@ fn rest(head: u32, left: u8, block: &mut [u32], w: Word) -> ResponseNext
     }
 }
 
+#[tactic(auto, using(crate::proofs::Laws::rest_fits), unfolding(crate::specs::Hostif::rest_response, crate::specs::Left::response_left))]
 pub(crate) fn step(s: Response, block: &mut [u32], a: Answer) -> ResponseNext
     ensures { Bounds (response_next result block.new ≡ erase (rest_response s block.old a)) (valid_response (length block.old) s ≡ true → valid_response_next (length block.old) result ≡ true) (response_next_left result < response_left s) }
 {
@@ -118,6 +126,7 @@ pub(crate) fn step(s: Response, block: &mut [u32], a: Answer) -> ResponseNext
     }
 }
 
+#[tactic(auto, unfolding(crate::specs::Hostif::valid_response, hardware::specs::Prog::pick))]
 pub(crate) fn valid(n: usize, s: Response) -> bool
     ensures { result ≡ valid_response n s }
 {

@@ -28,12 +28,14 @@ pub enum TokenNext {
 }
 
 // Byte 3 of a header is FF, byte 1 the length, byte 0 the command.
+#[tactic(auto, unfolding(crate::specs::Hostif::tokened, crate::specs::Hostif::header, crate::specs::Hostif::valid_token))]
 pub fn header(command: u8, len: u8) -> u32
     ensures { result ≡ header command len }
 {
     0xff00_0000 + len as u32 * 256 + command as u32
 }
 
+#[tactic(auto, unfolding(hardware::specs::Prog::pick, crate::specs::Hostif::token_second, crate::specs::Hostif::tokened, crate::specs::Hostif::header, crate::specs::Hostif::valid_token))]
 fn second(port: Port, take: bool) -> u32
     ensures { result ≡ token_second port take }
 {
@@ -43,6 +45,7 @@ fn second(port: Port, take: bool) -> u32
     port.lan as u32 + 256
 }
 
+#[tactic(auto, unfolding(hardware::specs::Prog::pick, hardware::specs::Registers::byte, hardware::specs::Registers::flag, crate::specs::Hostif::token_status, crate::specs::Hostif::tokened, crate::specs::Hostif::header, crate::specs::Hostif::valid_token, hardware::specs::Failures::failure_of))]
 fn status(take: bool, s: Byte) -> Flag
     ensures { flag result ≡ token_status take (byte s) }
 {
@@ -62,6 +65,7 @@ fn status(take: bool, s: Byte) -> Flag
     }
 }
 
+#[tactic(auto, using(hardware::proofs::Prog::going), unfolding(crate::specs::Hostif::command_next, crate::specs::Hostif::token_next, crate::specs::Hostif::access_token, crate::specs::Hostif::rest_token, crate::specs::Hostif::valid_token_next, crate::specs::Hostif::valid_token, crate::specs::Hostif::valid_command_next, hardware::specs::Prog::followed, hardware::specs::Prog::erase, crate::specs::Hostif::tokened, crate::specs::Hostif::header))]
 fn commanded(port: Port, take: bool, first: u32, second: u32, n: CommandNext) -> TokenNext
     ensures result_value { token_next port take result ≡ followed (command_next port n (first ∷ second ∷ [])) (tokened take) }
     ensures result_value_2 { valid_command_next port 2 n ≡ true → valid_token_next port result ≡ true }
@@ -76,6 +80,7 @@ fn commanded(port: Port, take: bool, first: u32, second: u32, n: CommandNext) ->
     }
 }
 
+#[tactic(auto, using(hardware::proofs::Prog::over), unfolding(crate::specs::Hostif::token, crate::specs::Hostif::token_block))]
 pub fn open(port: Port, take: bool) -> TokenNext
     ensures result_value { token_next port take result ≡ erase (token port take) }
     ensures result_value_2 { valid_token_next port result ≡ true }
@@ -89,6 +94,7 @@ pub fn open(port: Port, take: bool) -> TokenNext
     )
 }
 
+#[tactic(auto, unfolding(crate::specs::Hostif::access_token))]
 pub fn access(port: Port, s: Token) -> Access
     ensures { result ≡ access_token port s }
 {
@@ -97,6 +103,7 @@ pub fn access(port: Port, s: Token) -> Access
     crate::command::access(port, command, &block)
 }
 
+#[tactic(auto, using(crate::proofs::Laws::two_words, hardware::proofs::Prog::over), unfolding(crate::specs::Hostif::rest_token, crate::specs::Hostif::valid_token))]
 pub fn step(port: Port, take: bool, s: Token, a: Answer) -> TokenNext
     ensures result_value { token_next port take result ≡ erase (rest_token port take s a) }
     ensures result_value_2 { valid_token port s ≡ true → valid_token_next port result ≡ true }
@@ -107,6 +114,7 @@ pub fn step(port: Port, take: bool, s: Token, a: Answer) -> TokenNext
     commanded(port, take, block[0], block[1], n)
 }
 
+#[tactic(auto, unfolding(crate::specs::Hostif::valid_token))]
 pub fn valid(port: Port, s: Token) -> bool
     ensures { result ≡ valid_token port s }
 {

@@ -50,6 +50,7 @@ pub enum SetupTold {
 }
 
 // The most attempts of a call.
+#[tactic(auto, unfolding(crate::specs::Calls::limit_of))]
 pub fn limit(r: Request) -> u32
     ensures { result ≡ limit_of r }
 {
@@ -61,12 +62,14 @@ pub fn limit(r: Request) -> u32
     }
 }
 
+#[tactic(auto, unfolding(crate::specs::Calls::even_device))]
 fn even(r: Request) -> bool
     ensures { result ≡ even_device r }
 {
     crate::once::device(r) % 2 == 0
 }
 
+#[tactic(auto, using(bus::proofs::Laws::picked, hardware::proofs::Prog::asked_on, hardware::proofs::Prog::going_on, crate::proofs::Laws::fits_valid, crate::proofs::Laws::limit_most, crate::proofs::Laws::operands_on), unfolding(crate::specs::Calls::said_transfer, crate::specs::Calls::rest_call, crate::specs::Handshake::handshake_next, crate::specs::Calls::stands_transfer, crate::specs::Calls::valid_call, crate::specs::Handshake::valid_handshake_next, crate::specs::Handshake::due_handshake_next, hardware::specs::Prog::followed, crate::specs::I2c::gives_value, hardware::specs::Prog::erase, hardware::specs::Prog::tally))]
 fn told(port: Port, r: Request, how: How, m: Meter, n: HandshakeNext) -> TransferTold
     ensures { Keeps (m.transfers < FULL → said_transfer result ≡ yes (tally m (followed (handshake_next port r how n) (gives_value r)))) (valid_operands port r m ≡ true → valid_handshake_next (limit_of r) port r n ≡ true → m.transfers + due_handshake_next r n ≤ limit_of r → stands_transfer result) }
 {
@@ -80,6 +83,7 @@ fn told(port: Port, r: Request, how: How, m: Meter, n: HandshakeNext) -> Transfe
 }
 
 // The attempts of a read; a write makes two.
+#[tactic(auto, unfolding(crate::specs::Calls::tries_of))]
 fn tries(r: Request, attempts: u8) -> u8
     ensures { result ≡ tries_of r attempts }
 {
@@ -92,6 +96,7 @@ fn tries(r: Request, attempts: u8) -> u8
 }
 
 // Questions 1 to 4.
+#[tactic(auto, using(bus::proofs::Laws::picked, hardware::proofs::Laws::held_blank, hardware::proofs::Laws::opened_valid, hardware::proofs::Prog::over_tally, crate::proofs::Laws::limit_allows, crate::proofs::Laws::limit_room), unfolding(crate::specs::Calls::open_transfer, hardware::specs::Asked::and_then, hardware::specs::Asked::port_opened, hardware::specs::Asked::question, crate::specs::I2c::transferred, crate::specs::Calls::valid_operands, crate::specs::Calls::said_transfer, crate::specs::Calls::stands_transfer))]
 fn opened(family: u32, device: u16, lan: u32, r: Request, attempts: u32, how: How) -> TransferTold
     ensures { Keeps (said_transfer result ≡ open_transfer family device lan r attempts how) (stands_transfer result) }
 {
@@ -299,6 +304,7 @@ pub fn write_combined_open_with(
 }
 
 // A state's port and device are such as an opening gives, and its meter's sample is one of ten.
+#[tactic(auto, unfolding(crate::specs::Calls::valid_operands, hardware::specs::Prog::pick))]
 pub fn valid_operands(port: Port, r: Request, m: Meter) -> bool
     ensures { result ≡ valid_operands port r m }
 {
@@ -308,6 +314,7 @@ pub fn valid_operands(port: Port, r: Request, m: Meter) -> bool
     false
 }
 
+#[tactic(auto, unfolding(crate::specs::Calls::valid_call, hardware::specs::Prog::pick))]
 fn valid(port: Port, r: Request, m: Meter, t: Handshake) -> bool
     ensures { result ≡ valid_call port r m t }
 {
@@ -319,6 +326,7 @@ fn valid(port: Port, r: Request, m: Meter, t: Handshake) -> bool
 }
 
 // A step inside a command.
+#[tactic(auto, using(crate::proofs::Moves::transfer_on, crate::proofs::Moves::went_map), unfolding(crate::specs::Direct::WentBy))]
 fn direct(port: Port, r: Request, m: Meter, t: Handshake, a: Answer) -> Went
     ensures { WentBy (λ x g. (how : How) → Keeps (said_transfer (TransferTold.Ask x (TransferCall.Going port r how m g)) ≡ step_transfer (TransferCall.Going port r how m t) a) (stands_transfer (TransferTold.Ask x (TransferCall.Going port r how m g)))) result }
 {
@@ -330,6 +338,7 @@ fn direct(port: Port, r: Request, m: Meter, t: Handshake, a: Answer) -> Went
 }
 
 // Questions 10 to 12, of each of the four, one after the other.
+#[tactic(auto, using(bus::proofs::Laws::picked_first, bus::proofs::Laws::picked_second, hardware::proofs::Laws::admits_no, hardware::proofs::Laws::admits_valid, hardware::proofs::Laws::admits_yes, hardware::proofs::Prog::over_tally, crate::proofs::Laws::fits_below, crate::proofs::Laws::limit_most, crate::proofs::Laws::valid_fits), unfolding(crate::specs::Calls::step_transfer, crate::specs::Calls::rest_call, crate::specs::Calls::valid_call, crate::specs::Calls::said_transfer, crate::specs::Calls::stands_transfer))]
 pub fn plain(s: TransferCall, a: Answer) -> TransferTold
     ensures { Keeps (said_transfer result ≡ step_transfer s a) (stands_transfer result) }
 {
@@ -345,6 +354,7 @@ pub fn plain(s: TransferCall, a: Answer) -> TransferTold
 }
 
 // The same: the direct way where there is one, else the plain one.
+#[tactic(auto, unfolding(crate::specs::Direct::WentBy))]
 pub fn transfer_step(s: TransferCall, a: Answer) -> TransferTold
     ensures { Keeps (said_transfer result ≡ step_transfer s a) (stands_transfer result) }
 {
@@ -372,6 +382,7 @@ fn setup_bus() -> Change
     }
 }
 
+#[tactic(auto, unfolding(crate::specs::Calls::said_setup, hardware::specs::Change::update_next, crate::specs::Calls::stands_setup))]
 fn setup_told(n: UpdateNext) -> SetupTold
     ensures { Keeps (said_setup result ≡ yes (update_next setup_bus n)) (stands_setup result) }
 {
@@ -384,12 +395,14 @@ fn setup_told(n: UpdateNext) -> SetupTold
     }
 }
 
+#[tactic(auto, unfolding(hardware::specs::Change::update_next, hardware::specs::Change::access_update, hardware::specs::Change::rest_update, hardware::specs::Change::change, hardware::specs::Prog::erase))]
 pub fn qsfp_setup_open() -> SetupTold
     ensures { Keeps (said_setup result ≡ yes (erase (change setup_bus))) (stands_setup result) }
 {
     setup_told(UpdateNext::Going(Update::Reading))
 }
 
+#[tactic(auto, using(hardware::proofs::Laws::admits_no, hardware::proofs::Laws::admits_yes), unfolding(crate::specs::Calls::step_setup, crate::specs::Calls::said_setup, crate::specs::Calls::stands_setup))]
 pub fn qsfp_setup_step(s: SetupCall, a: Answer) -> SetupTold
     ensures { Keeps (said_setup result ≡ step_setup s a) (stands_setup result) }
 {

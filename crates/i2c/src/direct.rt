@@ -29,6 +29,7 @@ pub enum Went {
 }
 
 // The command at a position of a request's script.
+#[tactic(auto, unfolding(crate::specs::Direct::FoundIn, script::specs::Script::on_command, script::specs::Script::starts, script::specs::Script::command_at, script::specs::Script::head_command, script::specs::Script::head_sends, script::specs::Script::alone, crate::specs::I2c::script_of, script::specs::Scripts::read_byte_script, hardware::specs::Prog::pick))]
 fn read_byte(device: u8, offset: u8, at: usize) -> Found
     ensures { FoundAt (Request.ReadByte device offset) at result }
 {
@@ -44,6 +45,7 @@ fn read_byte(device: u8, offset: u8, at: usize) -> Found
     }
 }
 
+#[tactic(auto, unfolding(crate::specs::Direct::FoundIn, script::specs::Script::on_command, script::specs::Script::starts, script::specs::Script::command_at, script::specs::Script::head_command, script::specs::Script::head_sends, script::specs::Script::alone, crate::specs::I2c::script_of, script::specs::Scripts::write_byte_script, hardware::specs::Prog::pick))]
 fn write_byte(device: u8, offset: u8, value: u8, at: usize) -> Found
     ensures { FoundAt (Request.WriteByte device offset value) at result }
 {
@@ -57,6 +59,7 @@ fn write_byte(device: u8, offset: u8, value: u8, at: usize) -> Found
     }
 }
 
+#[tactic(auto, unfolding(crate::specs::Direct::FoundIn))]
 fn scripted(script: &[u8], at: usize) -> Found
     ensures { FoundIn script.now at result }
 {
@@ -66,6 +69,7 @@ fn scripted(script: &[u8], at: usize) -> Found
     Found::Off
 }
 
+#[tactic(auto, unfolding(crate::specs::I2c::script_of))]
 fn command(r: Request, at: usize) -> Found
     ensures { FoundAt r at result }
 {
@@ -84,6 +88,7 @@ fn command(r: Request, at: usize) -> Found
 }
 
 // Whether so many attempts are within the limits.
+#[tactic(auto, unfolding(crate::specs::Direct::within, hardware::specs::Prog::pick))]
 fn within(tries: u32, cap: u32, made: u32, left: u8) -> bool
     ensures { result ≡ within tries cap made left }
 {
@@ -94,6 +99,7 @@ fn within(tries: u32, cap: u32, made: u32, left: u8) -> bool
 }
 
 // A step of the job at a position of the script, with so many attempts left. tries, cap: the limits of the request.
+#[tactic(auto, using(bus::proofs::Laws::moved_map, bus::proofs::Laws::picked_first, bus::proofs::Laws::picked_second, crate::proofs::Moves::carrying_on), unfolding(crate::specs::Direct::within, crate::specs::Direct::FoundIn, bus::specs::Quick::MovedBy))]
 pub fn job(
     port: Port,
     r: Request,
@@ -120,6 +126,7 @@ pub fn job(
 }
 
 // A step of an attempt that carries out its script.
+#[tactic(auto, unfolding(crate::specs::Direct::WentBy, bus::specs::Quick::MovedBy))]
 fn moving(
     port: Port,
     r: Request,
@@ -148,6 +155,7 @@ fn moving(
 }
 
 // A step of a request.
+#[tactic(auto, unfolding(crate::specs::Direct::WentBy))]
 pub fn request(
     port: Port,
     r: Request,

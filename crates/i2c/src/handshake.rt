@@ -57,6 +57,7 @@ fn give_bus() -> Change
     }
 }
 
+#[tactic(auto, unfolding(crate::specs::Handshake::has_handshake))]
 pub fn has_handshake(port: Port, r: Request) -> bool
     ensures { result ≡ has_handshake port r }
 {
@@ -68,6 +69,7 @@ pub fn has_handshake(port: Port, r: Request) -> bool
     }
 }
 
+#[tactic(auto, using(hardware::proofs::Prog::going), unfolding(hardware::specs::Marks::marked, hardware::specs::Marks::acknowledged, crate::specs::Handshake::handshake_next, crate::specs::Handshake::access_handshake, crate::specs::Handshake::rest_handshake, crate::specs::Handshake::valid_handshake_next, crate::specs::Handshake::valid_handshake, crate::specs::Handshake::due_handshake_next, crate::specs::Handshake::due_handshake, hardware::specs::Marks::more, hardware::specs::Prog::pick, hardware::specs::Change::update_next, hardware::specs::Prog::followed, hardware::specs::Prog::or_err, hardware::specs::Registers::outcome, hardware::specs::Prog::erase, transfer::specs::Attempt::got))]
 fn given(g: Got, n: UpdateNext) -> HandshakeNext
     ensures { Counts ((port : Port) (r : Request) (how : How) → handshake_next port r how result ≡ followed (update_next give_bus n) (or_err (λ _. ret (got g)))) ((most : ℕ) (port : Port) (r : Request) → valid_handshake_next most port r result ≡ true) ((r : Request) → due_handshake_next r result ≡ 0) }
 {
@@ -80,6 +82,7 @@ fn given(g: Got, n: UpdateNext) -> HandshakeNext
     }
 }
 
+#[tactic(auto, unfolding(crate::specs::Handshake::handshake_next, crate::specs::Handshake::access_handshake, crate::specs::Handshake::rest_handshake, hardware::specs::Marks::marked, hardware::specs::Marks::acknowledged, crate::specs::Handshake::valid_handshake_next, crate::specs::Handshake::valid_handshake, crate::specs::Handshake::due_handshake_next, crate::specs::Handshake::due_handshake, hardware::specs::Marks::more, hardware::specs::Prog::pick, crate::specs::Handshake::closing, crate::specs::I2c::given_bus, hardware::specs::Change::change, hardware::specs::Change::access_update, hardware::specs::Change::rest_update, hardware::specs::Prog::erase))]
 fn close(port: Port, r: Request, g: Got) -> HandshakeNext
     ensures { Counts ((how : How) → handshake_next port r how result ≡ erase (closing port r (got g))) ((most : ℕ) → valid_handshake_next most port r result ≡ true) (due_handshake_next r result ≡ 0) }
 {
@@ -89,6 +92,7 @@ fn close(port: Port, r: Request, g: Got) -> HandshakeNext
     HandshakeNext::End(g)
 }
 
+#[tactic(auto, using(hardware::proofs::Prog::going_on), unfolding(crate::specs::Handshake::handshake_next, crate::specs::Handshake::access_handshake, crate::specs::Handshake::rest_handshake, crate::specs::Handshake::valid_handshake_next, crate::specs::Handshake::valid_handshake, crate::specs::Handshake::due_handshake_next, crate::specs::Handshake::due_handshake, crate::specs::Retry::retry_next, crate::specs::Retry::valid_retry_next, crate::specs::Retry::due_retry_next, hardware::specs::Prog::followed))]
 fn inside(port: Port, r: Request, n: RetryNext) -> HandshakeNext
     ensures { Counts ((how : How) → handshake_next port r how result ≡ followed (retry_next port r how n) (closing port r)) ((most : ℕ) → valid_retry_next most port r n ≡ true → valid_handshake_next most port r result ≡ true) (due_handshake_next r result ≤ due_retry_next n) }
 {
@@ -98,6 +102,7 @@ fn inside(port: Port, r: Request, n: RetryNext) -> HandshakeNext
     }
 }
 
+#[tactic(auto, using(crate::proofs::Laws::allows_wanted, crate::proofs::Laws::upto, hardware::proofs::Prog::over), unfolding(crate::specs::Handshake::entered))]
 fn enter(port: Port, r: Request, how: How, tries: u8) -> HandshakeNext
     ensures { Counts (handshake_next port r how result ≡ erase (entered port r how tries)) ((most : ℕ) → allows most r tries ≡ true → valid_handshake_next most port r result ≡ true) (due_handshake_next r result ≤ wanted r tries) }
 {
@@ -105,6 +110,7 @@ fn enter(port: Port, r: Request, how: How, tries: u8) -> HandshakeNext
 }
 
 // The looks for the grant that are left.
+#[tactic(auto, using(bus::proofs::Laws::picked, crate::proofs::Laws::granted_more), unfolding(crate::specs::Handshake::awaiting_grant, crate::specs::I2c::granted, crate::specs::Handshake::on_granted, hardware::specs::Prog::erase, hardware::specs::Prog::or_err, hardware::specs::Prog::pick, transfer::specs::Attempt::got, hardware::specs::Failures::failure_of, crate::specs::Handshake::valid_handshake_next, crate::specs::Handshake::valid_handshake, crate::specs::Handshake::due_handshake_next, crate::specs::Handshake::due_handshake, hardware::specs::Marks::more))]
 fn grant(port: Port, r: Request, tries: u8, left: u8) -> HandshakeNext
     ensures { Counts ((how : How) → handshake_next port r how result ≡ erase (awaiting_grant port r how tries left)) ((most : ℕ) → left ≤ 200 → allows most r tries ≡ true → valid_handshake_next most port r result ≡ true) (due_handshake_next r result ≤ wanted r tries) }
 {
@@ -115,6 +121,7 @@ fn grant(port: Port, r: Request, tries: u8, left: u8) -> HandshakeNext
     HandshakeNext::Going(UNMARKED, Handshake::Granting(tries, after))
 }
 
+#[tactic(auto, using(bus::proofs::Laws::picked), unfolding(crate::specs::Handshake::handshake_next, crate::specs::Handshake::access_handshake, crate::specs::Handshake::rest_handshake, hardware::specs::Marks::marked, hardware::specs::Marks::acknowledged, crate::specs::Handshake::valid_handshake_next, crate::specs::Handshake::valid_handshake, crate::specs::Handshake::due_handshake_next, crate::specs::Handshake::due_handshake, hardware::specs::Marks::more, hardware::specs::Prog::pick, crate::specs::Handshake::looked_at, hardware::specs::Registers::word, hardware::specs::Prog::or_err, crate::specs::I2c::granting, hardware::specs::Prog::erase, crate::specs::Handshake::awaiting_grant, crate::specs::Handshake::on_granted, crate::specs::Handshake::entered, transfer::specs::Attempt::got))]
 fn looked(port: Port, r: Request, how: How, tries: u8, left: u8, w: Word) -> HandshakeNext
     ensures { Counts (handshake_next port r how result ≡ erase (looked_at port r how tries left (word w))) ((most : ℕ) → left < 200 → allows most r tries ≡ true → valid_handshake_next most port r result ≡ true) (due_handshake_next r result ≤ wanted r tries) }
 {
@@ -129,6 +136,7 @@ fn looked(port: Port, r: Request, how: How, tries: u8, left: u8, w: Word) -> Han
     }
 }
 
+#[tactic(auto, using(hardware::proofs::Prog::going), unfolding(hardware::specs::Marks::marked, hardware::specs::Marks::acknowledged, crate::specs::Handshake::handshake_next, crate::specs::Handshake::access_handshake, crate::specs::Handshake::rest_handshake, crate::specs::Handshake::valid_handshake_next, crate::specs::Handshake::valid_handshake, crate::specs::Handshake::due_handshake_next, crate::specs::Handshake::due_handshake, hardware::specs::Marks::more, hardware::specs::Prog::pick, hardware::specs::Change::update_next, hardware::specs::Prog::followed, hardware::specs::Prog::or_err, hardware::specs::Registers::outcome, hardware::specs::Prog::erase, transfer::specs::Attempt::got))]
 fn asked(port: Port, r: Request, tries: u8, n: UpdateNext) -> HandshakeNext
     ensures { Counts ((how : How) → handshake_next port r how result ≡ followed (update_next ask_bus n) (or_err (λ _. awaiting_grant port r how tries 200))) ((most : ℕ) → allows most r tries ≡ true → valid_handshake_next most port r result ≡ true) (due_handshake_next r result ≤ wanted r tries) }
 {
@@ -141,6 +149,7 @@ fn asked(port: Port, r: Request, tries: u8, n: UpdateNext) -> HandshakeNext
     }
 }
 
+#[tactic(auto, using(crate::proofs::Laws::no_handshake, crate::proofs::Laws::handshake_opens), unfolding(crate::specs::Handshake::valid_handshake_next, crate::specs::Handshake::valid_handshake, crate::specs::Handshake::due_handshake_next, crate::specs::Handshake::due_handshake, hardware::specs::Marks::more, hardware::specs::Prog::pick))]
 pub fn open(port: Port, r: Request, how: How, tries: u8) -> HandshakeNext
     ensures { Counts (handshake_next port r how result ≡ erase (handshaken port r (retried port r how tries))) ((most : ℕ) → allows most r tries ≡ true → valid_handshake_next most port r result ≡ true) (due_handshake_next r result ≤ wanted r tries) }
 {
@@ -150,6 +159,7 @@ pub fn open(port: Port, r: Request, how: How, tries: u8) -> HandshakeNext
     enter(port, r, how, tries)
 }
 
+#[tactic(auto, unfolding(crate::specs::Handshake::access_handshake))]
 pub fn access(port: Port, s: Handshake) -> Access
     ensures { result ≡ access_handshake port s }
 {
@@ -162,6 +172,7 @@ pub fn access(port: Port, s: Handshake) -> Access
     }
 }
 
+#[tactic(auto, using(bus::proofs::Laws::picked_first, bus::proofs::Laws::picked_second, crate::proofs::Laws::less, crate::proofs::Laws::upto, hardware::proofs::Prog::over), unfolding(crate::specs::Handshake::rest_handshake, crate::specs::Handshake::valid_handshake, crate::specs::Handshake::due_handshake))]
 pub fn step(port: Port, r: Request, how: How, s: Handshake, a: Answer) -> HandshakeNext
     ensures { Counts (handshake_next port r how result ≡ erase (rest_handshake port r how s a)) ((most : ℕ) → valid_handshake most port r s ≡ true → valid_handshake_next most port r result ≡ true) (due_handshake_next r result ≤ due_handshake r s) }
 {
@@ -179,6 +190,7 @@ pub fn step(port: Port, r: Request, how: How, s: Handshake, a: Answer) -> Handsh
     }
 }
 
+#[tactic(auto, unfolding(crate::specs::Retry::wanted, hardware::specs::Prog::pick))]
 fn wanted(r: Request, tries: u8) -> u32
     ensures { result ≡ wanted r tries }
 {
@@ -189,6 +201,7 @@ fn wanted(r: Request, tries: u8) -> u32
 }
 
 // The most attempts that are to come.
+#[tactic(auto, unfolding(crate::specs::Handshake::due_handshake))]
 pub fn due(r: Request, s: Handshake) -> u32
     ensures { result ≡ due_handshake r s }
 {
@@ -201,6 +214,7 @@ pub fn due(r: Request, s: Handshake) -> u32
     }
 }
 
+#[tactic(auto, unfolding(crate::specs::Handshake::allows, hardware::specs::Prog::pick))]
 fn allows(most: u32, r: Request, tries: u8) -> bool
     ensures { result ≡ allows most r tries }
 {
@@ -210,6 +224,7 @@ fn allows(most: u32, r: Request, tries: u8) -> bool
     false
 }
 
+#[tactic(auto, unfolding(hardware::specs::Prog::pick))]
 fn valid_looks(most: u32, r: Request, tries: u8, left: u8) -> bool
     ensures { result ≡ pick (allows most r tries) (ltb left 200) false }
 {
@@ -220,6 +235,7 @@ fn valid_looks(most: u32, r: Request, tries: u8, left: u8) -> bool
 }
 
 // The counters of a request that has so many attempts.
+#[tactic(auto, unfolding(crate::specs::Handshake::valid_handshake))]
 pub fn valid(most: u32, port: Port, r: Request, s: Handshake) -> bool
     ensures { result ≡ valid_handshake most port r s }
 {
@@ -233,6 +249,7 @@ pub fn valid(most: u32, port: Port, r: Request, s: Handshake) -> bool
 }
 
 // A call's request within its limits: those of its attempts, and with the transfers made those to come are at most cap.
+#[tactic(auto, unfolding(crate::specs::Handshake::valid_request, hardware::specs::Prog::pick))]
 pub fn valid_request(port: Port, r: Request, tries: u32, cap: u32, m: Meter, s: Handshake) -> bool
     ensures { result ≡ valid_request port r tries cap m s }
 {

@@ -1,4 +1,6 @@
 // `read_byte`, `write_byte`, `read_combined` and `write_combined`: attempts under the lock and the QSFP handshake.
+#![tactic(auto)]
+
 ghost use Rattle.std.specs.Prelude.{◌≡◌};
 ghost use Rattle.i2c.specs.I2c.{mask, attempts, qsfp, standard};
 
@@ -29,6 +31,7 @@ pub fn standard() -> Sequence
 }
 
 // The bits that guard the port's bus.
+#[tactic(auto, unfolding(crate::specs::I2c::mask, hardware::specs::Prog::pick))]
 pub fn mask(port: Port) -> u32
     ensures { result ≡ mask port }
 {
@@ -40,6 +43,7 @@ pub fn mask(port: Port) -> u32
 }
 
 // Read attempts for a byte.
+#[tactic(auto, unfolding(crate::specs::I2c::attempts, hardware::specs::Prog::pick))]
 pub fn attempts(port: Port) -> u32
     ensures { result ≡ attempts port }
 {
@@ -51,6 +55,7 @@ pub fn attempts(port: Port) -> u32
 }
 
 // The 82599 with PCI device 1558: its bus is shared by the ports.
+#[tactic(auto, unfolding(crate::specs::I2c::qsfp, hardware::specs::Prog::pick))]
 pub fn qsfp(port: Port) -> bool
     ensures { result ≡ qsfp port }
 {

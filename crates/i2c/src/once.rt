@@ -20,6 +20,7 @@ pub enum Request {
     WriteCombined(u8, u16, u16),
 }
 
+#[tactic(auto, unfolding(crate::specs::I2c::device_of))]
 pub fn device(r: Request) -> u8
     ensures { result ≡ device_of r }
 {
@@ -31,6 +32,7 @@ pub fn device(r: Request) -> u8
     }
 }
 
+#[tactic(auto, unfolding(crate::specs::I2c::is_write))]
 pub fn is_write(r: Request) -> bool
     ensures { result ≡ is_write r }
 {
@@ -43,6 +45,7 @@ pub fn is_write(r: Request) -> bool
 }
 
 // Whether an attempt ended in I2c.
+#[tactic(auto, unfolding(crate::specs::I2c::failed_i2c, transfer::specs::Attempt::got))]
 pub fn failed(g: Got) -> bool
     ensures { result ≡ failed_i2c (got g) }
 {
@@ -60,6 +63,7 @@ fn combined(t: Taken) -> Word
 }
 
 // What the Rust gives for the bytes read; 0 stands for its `()`.
+#[tactic(auto, unfolding(crate::specs::I2c::value_of, transfer::specs::Attempt::got, crate::specs::I2c::read_off, hardware::specs::Registers::word))]
 pub fn value(r: Request, g: Got) -> Word
     ensures { word result ≡ value_of r (got g) }
 {
@@ -74,6 +78,7 @@ pub fn value(r: Request, g: Got) -> Word
     }
 }
 
+#[tactic(auto, using(crate::proofs::Laws::on_start), unfolding(crate::specs::I2c::device_of, crate::specs::I2c::script_of))]
 pub fn step(q: Sequence, l: Layout, r: Request, s: Attempt, a: Answer) -> AttemptNext
     ensures { Keeps (attempt_next keeping q l (device_of r) (script_of r) result ≡ erase (rest_attempt keeping q l (device_of r) (script_of r) s a)) (valid_attempt l (script_of r) s ≡ true → valid_attempt_next l (script_of r) result ≡ true) }
 {
@@ -97,6 +102,7 @@ pub fn step(q: Sequence, l: Layout, r: Request, s: Attempt, a: Answer) -> Attemp
     }
 }
 
+#[tactic(auto, unfolding(crate::specs::I2c::script_of))]
 pub fn valid(l: Layout, r: Request, s: Attempt) -> bool
     ensures { result ≡ valid_attempt l (script_of r) s }
 {

@@ -40,6 +40,7 @@ pub enum RetryNext {
 }
 
 // An attempt begins.
+#[tactic(auto, using(bus::proofs::Laws::picked, crate::proofs::Laws::begins), unfolding(crate::specs::Retry::valid_retry_next, crate::specs::Retry::valid_retry, crate::specs::Retry::valid_stage, transfer::specs::Attempt::valid_attempt, crate::specs::Retry::due_retry_next, crate::specs::Retry::due_retry, crate::specs::Retry::due_stage, hardware::specs::Marks::more, hardware::specs::Prog::pick))]
 fn begin(left: u8) -> RetryNext
     ensures { Counts ((port : Port) (r : Request) (how : How) → retry_next port r how result ≡ erase (try_now port r how left)) ((tries : ℕ) (port : Port) (r : Request) → left < tries → valid_retry_next tries port r result ≡ true) (due_retry_next result ≤ suc left) }
 {
@@ -52,6 +53,7 @@ fn begin(left: u8) -> RetryNext
     )
 }
 
+#[tactic(auto, using(bus::proofs::Laws::picked, hardware::proofs::Prog::going), unfolding(hardware::specs::Marks::marked, hardware::specs::Marks::acknowledged, crate::specs::Retry::retry_next, crate::specs::Retry::access_retry, crate::specs::Retry::access_stage, crate::specs::Retry::rest_retry, crate::specs::Retry::rest_stage, crate::specs::Retry::valid_retry_next, crate::specs::Retry::valid_retry, crate::specs::Retry::valid_stage, crate::specs::Retry::due_retry_next, crate::specs::Retry::due_retry, crate::specs::Retry::due_stage, hardware::specs::Marks::more, hardware::specs::Prog::pick, sync::specs::Resource::acquire_bits_next, sync::specs::Resource::valid_acquire_bits_next, hardware::specs::Prog::followed, hardware::specs::Prog::or_err, hardware::specs::Registers::outcome, transfer::specs::Attempt::got, hardware::specs::Prog::erase))]
 fn acquired(left: u8, n: AcquireBitsNext) -> RetryNext
     ensures { Counts ((port : Port) (r : Request) (how : How) → retry_next port r how result ≡ followed (acquire_bits_next port (mask port) n) (or_err (λ _. try_now port r how left))) ((tries : ℕ) (port : Port) (r : Request) → left < tries → valid_acquire_bits_next port.family n ≡ true → valid_retry_next tries port r result ≡ true) (due_retry_next result ≤ suc left) }
 {
@@ -71,6 +73,7 @@ fn acquired(left: u8, n: AcquireBitsNext) -> RetryNext
 }
 
 // An attempt is made, under the lock where it is wanted.
+#[tactic(auto, using(hardware::proofs::Prog::over, crate::proofs::Laws::when_no, crate::proofs::Laws::when_yes, crate::proofs::Masks::taken_first), unfolding(crate::specs::Retry::locked_try, sync::specs::Resource::acquire_bits))]
 fn locked(port: Port, how: How, left: u8) -> RetryNext
     ensures { Counts ((r : Request) → retry_next port r how result ≡ erase (locked_try port r how left)) ((tries : ℕ) (r : Request) → left < tries → valid_retry_next tries port r result ≡ true) (due_retry_next result ≤ suc left) }
 {
@@ -85,6 +88,7 @@ fn locked(port: Port, how: How, left: u8) -> RetryNext
 }
 
 // The attempts that are left.
+#[tactic(auto, using(crate::proofs::Laws::again_more), unfolding(crate::specs::Retry::retry_next, transfer::specs::Attempt::got, crate::specs::Retry::tries_left, hardware::specs::Prog::erase, crate::specs::Retry::valid_retry_next, crate::specs::Retry::due_retry_next, hardware::specs::Failures::failure_of))]
 fn again(port: Port, r: Request, how: How, left: u8) -> RetryNext
     ensures { Counts (retry_next port r how result ≡ erase (tries_left port r how left)) ((tries : ℕ) → left ≤ tries → valid_retry_next tries port r result ≡ true) (due_retry_next result ≤ left) }
 {
@@ -94,6 +98,7 @@ fn again(port: Port, r: Request, how: How, left: u8) -> RetryNext
     locked(port, how, left - 1)
 }
 
+#[tactic(auto, unfolding(crate::specs::I2c::pauses))]
 fn pauses(r: Request, lock: bool) -> bool
     ensures { result ≡ pauses r lock }
 {
@@ -105,6 +110,7 @@ fn pauses(r: Request, lock: bool) -> bool
     }
 }
 
+#[tactic(auto, using(bus::proofs::Laws::picked, crate::proofs::Laws::tries_reads), unfolding(crate::specs::I2c::read_judged, crate::specs::Retry::retry_next, crate::specs::Retry::access_retry, crate::specs::Retry::access_stage, crate::specs::Retry::rest_retry, crate::specs::Retry::rest_stage, hardware::specs::Marks::marked, hardware::specs::Marks::acknowledged, crate::specs::Retry::valid_retry_next, crate::specs::Retry::valid_retry, crate::specs::Retry::valid_stage, crate::specs::Retry::due_retry_next, crate::specs::Retry::due_retry, crate::specs::Retry::due_stage, hardware::specs::Marks::more, hardware::specs::Prog::pick, hardware::specs::Prog::erase, hardware::specs::Prog::or_err))]
 fn judge(port: Port, r: Request, how: How, left: u8, g: Got) -> RetryNext
     ensures { Counts (is_write r ≡ false → retry_next port r how result ≡ erase (read_judged r how.lock (λ _. read_tries port r how left) (got g))) ((tries : ℕ) → left < tries → valid_retry_next tries port r result ≡ true) (due_retry_next result ≤ left) }
 {
@@ -123,6 +129,7 @@ fn judge(port: Port, r: Request, how: How, left: u8, g: Got) -> RetryNext
     RetryNext::End(g)
 }
 
+#[tactic(auto, unfolding(crate::specs::Retry::after_release, hardware::specs::Prog::pick, crate::specs::Retry::retry_next, hardware::specs::Prog::erase, crate::specs::Retry::valid_retry_next, crate::specs::Retry::due_retry_next))]
 fn after_release(port: Port, r: Request, how: How, left: u8, g: Got) -> RetryNext
     ensures { Counts (retry_next port r how result ≡ erase (after_release port r how left (got g))) ((tries : ℕ) → left < tries → valid_retry_next tries port r result ≡ true) (due_retry_next result ≤ left) }
 {
@@ -132,6 +139,7 @@ fn after_release(port: Port, r: Request, how: How, left: u8, g: Got) -> RetryNex
     judge(port, r, how, left, g)
 }
 
+#[tactic(auto, using(bus::proofs::Laws::picked, hardware::proofs::Prog::going), unfolding(hardware::specs::Marks::marked, hardware::specs::Marks::acknowledged, crate::specs::Retry::retry_next, crate::specs::Retry::access_retry, crate::specs::Retry::access_stage, crate::specs::Retry::rest_retry, crate::specs::Retry::rest_stage, crate::specs::Retry::valid_retry_next, crate::specs::Retry::valid_retry, crate::specs::Retry::valid_stage, crate::specs::Retry::due_retry_next, crate::specs::Retry::due_retry, crate::specs::Retry::due_stage, hardware::specs::Marks::more, hardware::specs::Prog::pick, sync::specs::Resource::release_bits_next, sync::specs::Resource::valid_release_bits_next, hardware::specs::Prog::followed, hardware::specs::Prog::or_err, hardware::specs::Registers::outcome, transfer::specs::Attempt::got, hardware::specs::Prog::erase))]
 fn released(port: Port, r: Request, how: How, left: u8, g: Got, n: ReleaseBitsNext) -> RetryNext
     ensures { Counts (retry_next port r how result ≡ followed (release_bits_next port (mask port) n) (or_err (λ _. after_release port r how left (got g)))) ((tries : ℕ) → left < tries → valid_release_bits_next n ≡ true → valid_retry_next tries port r result ≡ true) (due_retry_next result ≤ left) }
 {
@@ -151,6 +159,7 @@ fn released(port: Port, r: Request, how: How, left: u8, g: Got, n: ReleaseBitsNe
 }
 
 // The lock is given back where it was taken.
+#[tactic(auto, using(hardware::proofs::Prog::over, crate::proofs::Laws::when_no, crate::proofs::Laws::when_yes, crate::proofs::Masks::given_first), unfolding(crate::specs::Retry::back_then))]
 fn give_back(port: Port, r: Request, how: How, left: u8, g: Got) -> RetryNext
     ensures { Counts (retry_next port r how result ≡ erase (back_then port how.lock (after_release port r how left (got g)))) ((tries : ℕ) → left < tries → valid_retry_next tries port r result ≡ true) (due_retry_next result ≤ left) }
 {
@@ -168,6 +177,7 @@ fn give_back(port: Port, r: Request, how: How, left: u8, g: Got) -> RetryNext
 }
 
 // A write that failed is tried again while an attempt is left.
+#[tactic(auto, using(crate::proofs::Laws::write_again, crate::proofs::Laws::write_done, crate::proofs::Laws::write_last))]
 fn after_write(port: Port, r: Request, how: How, left: u8, g: Got) -> RetryNext
     ensures { Counts (is_write r ≡ true → retry_next port r how result ≡ erase (after_try port r how left (got g))) ((tries : ℕ) → left < tries → valid_retry_next tries port r result ≡ true) (due_retry_next result ≤ left) }
 {
@@ -180,6 +190,7 @@ fn after_write(port: Port, r: Request, how: How, left: u8, g: Got) -> RetryNext
     give_back(port, r, how, left, g)
 }
 
+#[tactic(auto, using(crate::proofs::Laws::read_done))]
 fn after_try(port: Port, r: Request, how: How, left: u8, g: Got) -> RetryNext
     ensures { Counts (retry_next port r how result ≡ erase (after_try port r how left (got g))) ((tries : ℕ) → left < tries → valid_retry_next tries port r result ≡ true) (due_retry_next result ≤ left) }
 {
@@ -190,6 +201,7 @@ fn after_try(port: Port, r: Request, how: How, left: u8, g: Got) -> RetryNext
 }
 
 // An attempt goes on, and says whether a byte was acknowledged.
+#[tactic(auto, using(bus::proofs::Laws::picked, hardware::proofs::Prog::heard_on), unfolding(hardware::specs::Marks::marked, crate::specs::Retry::retry_next, crate::specs::Retry::access_retry, crate::specs::Retry::access_stage, crate::specs::Retry::rest_retry, crate::specs::Retry::rest_stage, crate::specs::Retry::valid_retry_next, crate::specs::Retry::valid_retry, crate::specs::Retry::valid_stage, crate::specs::Retry::due_retry_next, crate::specs::Retry::due_retry, crate::specs::Retry::due_stage, hardware::specs::Marks::more, hardware::specs::Prog::pick, transfer::specs::Attempt::attempt_next, transfer::specs::Attempt::awaiting, transfer::specs::Attempt::valid_attempt_next))]
 fn trying(left: u8, s: Attempt) -> RetryNext
     ensures { Counts ((port : Port) (r : Request) (how : How) → retry_next port r how result ≡ followed (attempt_next keeping how.sequence (layout_of port.family) (device_of r) (script_of r) (AttemptNext.Going s)) (after_try port r how left)) ((tries : ℕ) (port : Port) (r : Request) → left < tries → valid_attempt_next (layout_of port.family) (script_of r) (AttemptNext.Going s) ≡ true → valid_retry_next tries port r result ≡ true) (due_retry_next result ≤ left) }
 {
@@ -202,6 +214,7 @@ fn trying(left: u8, s: Attempt) -> RetryNext
     )
 }
 
+#[tactic(auto, unfolding(transfer::specs::Attempt::attempt_next, transfer::specs::Transfer::tells, transfer::specs::Attempt::valid_attempt_next, hardware::specs::Prog::followed))]
 fn tried(port: Port, r: Request, how: How, left: u8, n: AttemptNext) -> RetryNext
     ensures { Counts (retry_next port r how result ≡ followed (attempt_next keeping how.sequence (layout_of port.family) (device_of r) (script_of r) n) (after_try port r how left)) ((tries : ℕ) → left < tries → valid_attempt_next (layout_of port.family) (script_of r) n ≡ true → valid_retry_next tries port r result ≡ true) (due_retry_next result ≤ left) }
 {
@@ -213,6 +226,7 @@ fn tried(port: Port, r: Request, how: How, left: u8, n: AttemptNext) -> RetryNex
 }
 
 // The attempts of a call, tries of them for a read.
+#[tactic(auto, using(crate::proofs::Laws::read_open, crate::proofs::Laws::tries_reads, crate::proofs::Laws::write_open), unfolding(crate::specs::Retry::wanted, hardware::specs::Prog::pick))]
 pub fn open(port: Port, r: Request, how: How, tries: u8) -> RetryNext
     ensures { Counts (retry_next port r how result ≡ erase (retried port r how tries)) ((most : ℕ) → wanted r tries ≤ most → valid_retry_next most port r result ≡ true) (due_retry_next result ≤ wanted r tries) }
 {
@@ -222,6 +236,7 @@ pub fn open(port: Port, r: Request, how: How, tries: u8) -> RetryNext
     again(port, r, how, tries)
 }
 
+#[tactic(auto, unfolding(crate::specs::Retry::access_retry, crate::specs::Retry::access_stage))]
 pub fn access(port: Port, s: Retry) -> Access
     ensures { result ≡ access_retry port s }
 {
@@ -235,6 +250,7 @@ pub fn access(port: Port, s: Retry) -> Access
     }
 }
 
+#[tactic(auto, using(bus::proofs::Laws::picked_first, bus::proofs::Laws::picked_second, crate::proofs::Laws::less, hardware::proofs::Prog::over), unfolding(crate::specs::Retry::rest_retry, crate::specs::Retry::rest_stage, crate::specs::Retry::valid_retry, crate::specs::Retry::valid_stage, crate::specs::Retry::due_retry, crate::specs::Retry::due_stage))]
 pub fn step(port: Port, r: Request, how: How, s: Retry, a: Answer) -> RetryNext
     ensures { Counts (retry_next port r how result ≡ erase (rest_retry port r how s a)) ((tries : ℕ) → valid_retry tries port r s ≡ true → valid_retry_next tries port r result ≡ true) (due_retry_next result ≤ due_retry s) }
 {
@@ -266,6 +282,7 @@ pub fn step(port: Port, r: Request, how: How, s: Retry, a: Answer) -> RetryNext
 }
 
 // The most attempts that are to come.
+#[tactic(auto, unfolding(crate::specs::Retry::due_retry, crate::specs::Retry::due_stage))]
 pub fn due(s: Retry) -> u32
     ensures { result ≡ due_retry s }
 {
@@ -278,6 +295,7 @@ pub fn due(s: Retry) -> u32
     }
 }
 
+#[tactic(auto, unfolding(crate::specs::Retry::valid_stage))]
 fn valid_stage(port: Port, r: Request, stage: Stage) -> bool
     ensures { result ≡ valid_stage port r stage }
 {
@@ -291,6 +309,7 @@ fn valid_stage(port: Port, r: Request, stage: Stage) -> bool
 }
 
 // Fewer attempts are left than the request has.
+#[tactic(auto, unfolding(crate::specs::Retry::valid_retry, hardware::specs::Prog::pick))]
 pub fn valid(tries: u32, port: Port, r: Request, s: Retry) -> bool
     ensures { result ≡ valid_retry tries port r s }
 {

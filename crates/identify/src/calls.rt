@@ -31,6 +31,7 @@ pub enum IdentifyTold {
     Refused(Refusal),
 }
 
+#[tactic(auto, using(bus::proofs::Laws::picked, hardware::proofs::Laws::held_on, hardware::proofs::Prog::asked_on), unfolding(crate::specs::Calls::said_identify, crate::specs::Walk::identify_next, crate::specs::Calls::stands_identify, crate::specs::Calls::valid_call, crate::specs::Walk::valid_identify_next, hardware::specs::Prog::tally))]
 fn told(port: Port, q: Sequence, m: Meter, n: IdentifyNext) -> IdentifyTold
     ensures { Keeps (m.transfers < FULL → said_identify result ≡ yes (tally m (identify_next q port n))) (valid_held port m ≡ true → valid_identify_next port m n ≡ true → stands_identify result) }
 {
@@ -44,6 +45,7 @@ fn told(port: Port, q: Sequence, m: Meter, n: IdentifyNext) -> IdentifyTold
 }
 
 // The call from its first place on.
+#[tactic(auto, using(hardware::proofs::Laws::held_blank, hardware::proofs::Prog::tally_erase))]
 fn opened(port: Port, q: Sequence, p: Place) -> IdentifyTold
     ensures { Keeps (said_identify result ≡ yes (tally blank (placed q port p))) (valid_port port ≡ true → valid_place p ≡ true → tries_at port p ≤ cap_at port p → stands_identify result) }
 {
@@ -51,6 +53,7 @@ fn opened(port: Port, q: Sequence, p: Place) -> IdentifyTold
 }
 
 // Questions 1 and 2. sequence: the clearing after a failed attempt, by its name.
+#[tactic(auto, using(hardware::proofs::Laws::opened_valid), unfolding(crate::specs::Calls::open_identify, sfp::specs::Identify::identify, sfp::specs::Identify::identifier_of, hardware::specs::Asked::and_then, hardware::specs::Asked::port_opened, crate::specs::Place::placed, crate::specs::Place::tries_at, crate::specs::Place::most, crate::specs::Place::on_at, crate::specs::Place::valid_place, crate::specs::Place::cap_at, hardware::specs::Prog::pick, crate::specs::Calls::said_identify, crate::specs::Calls::stands_identify))]
 pub fn identify_open_with(family: u32, device: u16, lan: u32, sequence: Sequence) -> IdentifyTold
     ensures { Keeps (said_identify result ≡ open_identify sequence family device lan) (stands_identify result) }
 {
@@ -60,6 +63,7 @@ pub fn identify_open_with(family: u32, device: u16, lan: u32, sequence: Sequence
     }
 }
 
+#[tactic(auto, using(hardware::proofs::Laws::opened_valid), unfolding(crate::specs::Calls::open_qsfp, sfp::specs::Qsfp::identify_qsfp, hardware::specs::Asked::and_then, hardware::specs::Asked::port_opened, crate::specs::Place::placed, crate::specs::Place::tries_at, crate::specs::Place::most, crate::specs::Place::on_at, crate::specs::Place::valid_place, crate::specs::Place::cap_at, hardware::specs::Prog::pick, crate::specs::Calls::said_identify, crate::specs::Calls::stands_identify))]
 pub fn identify_qsfp_open_with(
     family: u32,
     device: u16,
@@ -87,6 +91,7 @@ pub fn identify_qsfp_open(family: u32, device: u16, lan: u32) -> IdentifyTold
     identify_qsfp_open_with(family, device, lan, i2c::standard())
 }
 
+#[tactic(auto, unfolding(crate::specs::Calls::valid_call, hardware::specs::Prog::pick))]
 fn valid(port: Port, m: Meter, t: Identify) -> bool
     ensures { result ≡ valid_call port m t }
 {
@@ -97,6 +102,7 @@ fn valid(port: Port, m: Meter, t: Identify) -> bool
 }
 
 // A step inside a command.
+#[tactic(auto, using(i2c::proofs::Moves::went_map, crate::proofs::Moves::identify_on), unfolding(i2c::specs::Direct::WentBy))]
 fn direct(port: Port, m: Meter, t: Identify, a: Answer) -> Went
     ensures { WentBy (λ x g. (q : Sequence) → Keeps (said_identify (IdentifyTold.Ask x (IdentifyCall.Going port q m (record { place = t.place; request = g }))) ≡ step_identify (IdentifyCall.Going port q m t) a) (stands_identify (IdentifyTold.Ask x (IdentifyCall.Going port q m (record { place = t.place; request = g }))))) result }
 {
@@ -119,6 +125,7 @@ fn direct(port: Port, m: Meter, t: Identify, a: Answer) -> Went
 }
 
 // Questions 10 to 12, of both, one after the other.
+#[tactic(auto, using(bus::proofs::Laws::picked_first, bus::proofs::Laws::picked_second, hardware::proofs::Laws::admits_no, hardware::proofs::Laws::admits_valid, hardware::proofs::Laws::admits_yes, hardware::proofs::Prog::tally_erase, crate::proofs::Laws::valid_below), unfolding(crate::specs::Calls::step_identify, crate::specs::Calls::valid_call, crate::specs::Calls::said_identify, crate::specs::Calls::stands_identify))]
 pub fn plain(s: IdentifyCall, a: Answer) -> IdentifyTold
     ensures { Keeps (said_identify result ≡ step_identify s a) (stands_identify result) }
 {
@@ -134,6 +141,7 @@ pub fn plain(s: IdentifyCall, a: Answer) -> IdentifyTold
 }
 
 // The same: the direct way where there is one, else the plain one.
+#[tactic(auto, unfolding(i2c::specs::Direct::WentBy))]
 pub fn identify_step(s: IdentifyCall, a: Answer) -> IdentifyTold
     ensures { Keeps (said_identify result ≡ step_identify s a) (stands_identify result) }
 {

@@ -71,6 +71,7 @@ fn row_at(p: Place) -> Row
     }
 }
 
+#[tactic(auto, unfolding(crate::specs::Place::request_at))]
 pub fn request(p: Place) -> Request
     ensures { result ≡ request_at p }
 {
@@ -89,6 +90,7 @@ fn readings(p: Place) -> u8
 }
 
 // A module's first byte gets the long probe's attempts.
+#[tactic(auto, using(i2c::proofs::Laws::attempts_few), unfolding(crate::specs::Place::tries_at, hardware::specs::Prog::pick))]
 pub fn tries(port: Port, p: Place) -> u8
     ensures { result ≡ tries_at port p }
 {
@@ -99,6 +101,7 @@ pub fn tries(port: Port, p: Place) -> u8
 }
 
 // The most transfers up to this place's end.
+#[tactic(auto, using(crate::proofs::Laws::few_requests), unfolding(crate::specs::Place::cap_at, crate::specs::Place::most))]
 pub fn cap(port: Port, p: Place) -> u32
     ensures { result ≡ cap_at port p }
 {
@@ -106,18 +109,21 @@ pub fn cap(port: Port, p: Place) -> u32
 }
 
 // Byte 0 is requested at most five times.
+#[tactic(auto, unfolding(crate::specs::Place::valid_place))]
 pub fn valid(p: Place) -> bool
     ensures { result ≡ valid_place p }
 {
     0 < readings(p)
 }
 
+#[tactic(auto, unfolding(crate::specs::Place::rest_then, crate::specs::Place::Later))]
 fn found(c: Codes, kind: Kind) -> Then
     ensures { Keeps ((q : Sequence) (port : Port) → rest_then q port result ≡ ret (Ok (recorded 3 c kind))) ((port : Port) (n : ℕ) → Later port n result) }
 {
     Then::Found(class::recorded(class::SFP, c, kind))
 }
 
+#[tactic(auto, using(crate::proofs::Laws::cap_again, crate::proofs::Laws::cap_first, crate::proofs::Laws::placed_again), unfolding(crate::specs::Place::rest_then, crate::specs::Place::Later, crate::specs::Place::placed, crate::specs::Place::tries_at, crate::specs::Place::valid_place, hardware::specs::Prog::pick, crate::specs::Place::on_at, sfp::specs::Identify::identified, sfp::specs::Identify::known, sfp::specs::Identify::identifier_of))]
 fn after_identifier(left: u8, v: u8) -> Then
     ensures { Keeps ((q : Sequence) (port : Port) → rest_then q port result ≡ on_at q port (Place.Identifier left) v) ((port : Port) → valid_place (Place.Identifier left) ≡ true → Later port (cap_at port (Place.Identifier left)) result) }
 {
@@ -131,6 +137,7 @@ fn after_identifier(left: u8, v: u8) -> Then
 }
 
 // The kind, or byte 60 for it.
+#[tactic(auto, using(crate::proofs::Laws::kinded_known, crate::proofs::Laws::kinded_open), unfolding(crate::specs::Place::rest_then, crate::specs::Place::Later, crate::specs::Place::tries_at, crate::specs::Place::valid_place, hardware::specs::Prog::pick, crate::specs::Place::cap_at, crate::specs::Place::most))]
 fn kinded(c: Codes, bx: bool) -> Then
     ensures { Keeps ((q : Sequence) (port : Port) → rest_then q port result ≡ kinded q port c bx) ((port : Port) (n : ℕ) → n + attempts port ≤ most port 5 7 → Later port n result) }
 {
@@ -140,6 +147,7 @@ fn kinded(c: Codes, bx: bool) -> Then
     }
 }
 
+#[tactic(auto, unfolding(crate::specs::Place::rest_then, crate::specs::Place::Later, crate::specs::Place::placed, crate::specs::Place::tries_at, crate::specs::Place::valid_place, hardware::specs::Prog::pick, crate::specs::Place::on_at, sfp::specs::Identify::classify, sfp::specs::Identify::bx10g_of, crate::specs::Place::kinded, sfp::specs::Bytes::codes_ask_rate, crate::specs::Place::cap_at, crate::specs::Place::most))]
 fn after_cable(c: Codes) -> Then
     ensures { Keeps ((q : Sequence) (port : Port) → rest_then q port result ≡ classify q port 3 c) ((port : Port) → Later port (most port 5 3) result) }
 {
@@ -149,6 +157,7 @@ fn after_cable(c: Codes) -> Then
     kinded(c, false)
 }
 
+#[tactic(auto, unfolding(crate::specs::Place::rest_then, crate::specs::Place::Later, crate::specs::Place::placed, crate::specs::Place::tries_at, crate::specs::Place::valid_place, hardware::specs::Prog::pick, crate::specs::Place::on_at, sfp::specs::Identify::reach_of, crate::specs::Place::cap_at, crate::specs::Place::most))]
 fn after_rate(c: Codes, v: u8) -> Then
     ensures { Keeps ((q : Sequence) (port : Port) → rest_then q port result ≡ on_at q port (Place.Rate c) v) ((port : Port) → Later port (most port 5 4) result) }
 {
@@ -158,12 +167,14 @@ fn after_rate(c: Codes, v: u8) -> Then
     kinded(c, false)
 }
 
+#[tactic(auto, unfolding(crate::specs::Place::rest_then, crate::specs::Place::Later))]
 fn qsfp_found(g10: u8, g1: u8, kind: Kind) -> Then
     ensures { Keeps ((q : Sequence) (port : Port) → rest_then q port result ≡ qsfp_found g10 g1 kind) ((port : Port) (n : ℕ) → Later port n result) }
 {
     Then::Found(sfp::qsfp::qsfp_recorded(g10, g1, kind))
 }
 
+#[tactic(auto, unfolding(crate::specs::Place::rest_then, crate::specs::Place::Later, crate::specs::Place::placed, crate::specs::Place::tries_at, crate::specs::Place::valid_place, hardware::specs::Prog::pick, crate::specs::Place::on_at, sfp::specs::Qsfp::qsfp_identified, sfp::specs::Qsfp::qsfp_known, crate::specs::Place::cap_at, crate::specs::Place::most))]
 fn after_qsfp_identifier(v: u8) -> Then
     ensures { Keeps ((q : Sequence) (port : Port) → rest_then q port result ≡ qsfp_identified q port v) ((port : Port) → Later port (most port 1 0) result) }
 {
@@ -173,6 +184,7 @@ fn after_qsfp_identifier(v: u8) -> Then
     Then::Found(sfp::methods::other(v))
 }
 
+#[tactic(auto, using(crate::proofs::Laws::qsfp_known_lem, crate::proofs::Laws::qsfp_open), unfolding(crate::specs::Place::rest_then, crate::specs::Place::Later, crate::specs::Place::tries_at, crate::specs::Place::valid_place, hardware::specs::Prog::pick, crate::specs::Place::cap_at, crate::specs::Place::most))]
 fn qsfp_codes(g10: u8, g1: u8) -> Then
     ensures { Keeps ((q : Sequence) (port : Port) → rest_then q port result ≡ qsfp_classify q port g10 g1) ((port : Port) → Later port (most port 1 2) result) }
 {
@@ -182,6 +194,7 @@ fn qsfp_codes(g10: u8, g1: u8) -> Then
     }
 }
 
+#[tactic(auto, unfolding(crate::specs::Place::rest_then, crate::specs::Place::Later, crate::specs::Place::placed, crate::specs::Place::tries_at, crate::specs::Place::valid_place, hardware::specs::Prog::pick, crate::specs::Place::on_at, sfp::specs::Qsfp::qsfp_connector, crate::specs::Place::cap_at, crate::specs::Place::most))]
 fn after_connector(g10: u8, g1: u8, v: u8) -> Then
     ensures { Keeps ((q : Sequence) (port : Port) → rest_then q port result ≡ on_at q port (Place.QsfpConnector g10 g1) v) ((port : Port) → Later port (most port 1 3) result) }
 {
@@ -191,6 +204,7 @@ fn after_connector(g10: u8, g1: u8, v: u8) -> Then
     qsfp_found(g10, g1, Kind::Unknown)
 }
 
+#[tactic(auto, unfolding(crate::specs::Place::rest_then, crate::specs::Place::Later, crate::specs::Place::placed, crate::specs::Place::tries_at, crate::specs::Place::valid_place, hardware::specs::Prog::pick, crate::specs::Place::on_at, sfp::specs::Qsfp::qsfp_length, crate::specs::Place::cap_at, crate::specs::Place::most))]
 fn after_length(g10: u8, g1: u8, v: u8) -> Then
     ensures { Keeps ((q : Sequence) (port : Port) → rest_then q port result ≡ on_at q port (Place.QsfpLength g10 g1) v) ((port : Port) → Later port (most port 1 4) result) }
 {
@@ -200,6 +214,7 @@ fn after_length(g10: u8, g1: u8, v: u8) -> Then
     qsfp_found(g10, g1, Kind::Unknown)
 }
 
+#[tactic(auto, using(crate::proofs::Laws::technology_is), unfolding(crate::specs::Place::on_at))]
 fn after_technology(g10: u8, g1: u8, v: u8) -> Then
     ensures { Keeps ((q : Sequence) (port : Port) → rest_then q port result ≡ on_at q port (Place.QsfpTechnology g10 g1) v) ((port : Port) (n : ℕ) → Later port n result) }
 {
@@ -207,6 +222,7 @@ fn after_technology(g10: u8, g1: u8, v: u8) -> Then
 }
 
 // A byte was read.
+#[tactic(auto, unfolding(crate::specs::Place::rest_then, crate::specs::Place::Later, crate::specs::Place::placed, crate::specs::Place::tries_at, crate::specs::Place::valid_place, hardware::specs::Prog::pick, crate::specs::Place::on_at, crate::specs::Place::cap_at, crate::specs::Place::most))]
 fn on(p: Place, v: u8) -> Then
     ensures { Keeps ((q : Sequence) (port : Port) → rest_then q port result ≡ on_at q port p v) ((port : Port) → valid_place p ≡ true → Later port (cap_at port p) result) }
 {
@@ -229,6 +245,7 @@ fn on(p: Place, v: u8) -> Then
 }
 
 // Nothing answered; any other failure ends the call.
+#[tactic(auto, unfolding(crate::specs::Place::rest_then, crate::specs::Place::Later, sfp::specs::Identify::or_absent, hardware::specs::Prog::pick))]
 fn failed(e: Error) -> Then
     ensures { Keeps ((q : Sequence) (port : Port) (p : Place) → rest_then q port result ≡ or_absent (on_at q port p) (Err (failure_of e))) ((port : Port) (n : ℕ) → Later port n result) }
 {
@@ -239,6 +256,7 @@ fn failed(e: Error) -> Then
 }
 
 // A request has ended.
+#[tactic(auto, unfolding(crate::specs::Place::told_at, i2c::specs::Handshake::valued, transfer::specs::Attempt::got, i2c::specs::I2c::value_of, i2c::specs::I2c::read_off, sfp::specs::Identify::or_absent, crate::specs::Place::request_at))]
 pub fn after(p: Place, g: Got) -> Then
     ensures { Keeps ((q : Sequence) (port : Port) → rest_then q port result ≡ told_at q port p (got g)) ((port : Port) → valid_place p ≡ true → Later port (cap_at port p) result) }
 {

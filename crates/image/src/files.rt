@@ -20,6 +20,7 @@ pub struct Image {
 }
 
 // count: the bytes read of at most 512. past: what a read after them answered.
+#[tactic(auto, using(crate::proofs::Laws::below, crate::proofs::Laws::above, crate::proofs::Laws::nothing))]
 fn sized(count: usize, past: isize) -> Size
     ensures { SizeOf count past result }
 {
@@ -35,6 +36,7 @@ fn sized(count: usize, past: isize) -> Size
     Size::Whole
 }
 
+#[tactic(auto, using(crate::proofs::Laws::told))]
 fn pages(fd: i32) -> Image
     ensures { Told result.size }
 {

@@ -1,3 +1,5 @@
 // Received light as a level in dBm.
+#![tactic(auto)]
+
 pub mod dbm;
 pub mod lookup;

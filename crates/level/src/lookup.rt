@@ -34,6 +34,7 @@ const LEAST: [u16; 482] = [
     61660, 63096, 64566,
 ];
 
+#[tactic(auto, using(crate::proofs::Table::right))]
 pub(crate) fn table() -> [u16; 482]
     ensures { LeastCounts result }
 {
@@ -41,6 +42,7 @@ pub(crate) fn table() -> [u16; 482]
 }
 
 // The place of the last entry that is not above the count. Nine halvings leave one place of 482.
+#[tactic(auto, using(crate::proofs::Search::Between, crate::proofs::Search::start, crate::proofs::Search::up, crate::proofs::Search::down, crate::proofs::Search::found))]
 pub(crate) fn place(count: u16) -> usize
     requires { 1 ≤ count }
     ensures { Greatest count result }
@@ -59,6 +61,7 @@ pub(crate) fn place(count: u16) -> usize
     lo
 }
 
+#[tactic(auto, using(crate::proofs::Levels::place_fits, crate::proofs::Levels::tenths_fits, crate::proofs::Levels::tenths_is))]
 pub fn level(count: u16) -> Level
     ensures { LevelOf count result }
 {

@@ -30,6 +30,7 @@ pub enum LightTold {
     Refused(Refusal),
 }
 
+#[tactic(auto, using(bus::proofs::Laws::picked, hardware::proofs::Laws::held_on, hardware::proofs::Prog::asked_on), unfolding(crate::specs::Calls::said_light, crate::specs::Walk::light_next, crate::specs::Calls::stands_light, crate::specs::Calls::valid_call, crate::specs::Walk::valid_light_next, hardware::specs::Prog::tally))]
 fn told(port: Port, q: Sequence, tries: u8, m: Meter, n: LightNext) -> LightTold
     ensures { Keeps (m.transfers < FULL → said_light result ≡ yes (tally m (light_next q port tries n))) (valid_held port m ≡ true → valid_light_next port tries m n ≡ true → stands_light result) }
 {
@@ -43,6 +44,7 @@ fn told(port: Port, q: Sequence, tries: u8, m: Meter, n: LightNext) -> LightTold
 }
 
 // Question 4.
+#[tactic(auto, using(hardware::proofs::Laws::held_blank, hardware::proofs::Prog::tally_erase, crate::proofs::Laws::cap_first), unfolding(crate::specs::Calls::open_on, hardware::specs::Asked::question, crate::specs::Calls::said_light, crate::specs::Calls::stands_light, crate::specs::Light::light))]
 fn opened(port: Port, q: Sequence, attempts: u32) -> LightTold
     ensures { Keeps (said_light result ≡ open_on q attempts port) (valid_port port ≡ true → stands_light result) }
 {
@@ -60,6 +62,7 @@ fn opened(port: Port, q: Sequence, attempts: u32) -> LightTold
 }
 
 // Questions 1, 2 and 4. attempts: of each byte. sequence: the clearing after a failed attempt, by its name.
+#[tactic(auto, using(hardware::proofs::Laws::opened_valid), unfolding(crate::specs::Calls::open_light, hardware::specs::Asked::and_then, hardware::specs::Asked::port_opened, crate::specs::Calls::said_light, crate::specs::Calls::stands_light))]
 pub fn light_open_with(
     family: u32,
     device: u16,
@@ -82,6 +85,7 @@ pub fn light_open(family: u32, device: u16, lan: u32, attempts: u32) -> LightTol
     light_open_with(family, device, lan, attempts, i2c::standard())
 }
 
+#[tactic(auto, unfolding(crate::specs::Calls::valid_call, hardware::specs::Prog::pick))]
 fn valid(port: Port, tries: u8, m: Meter, t: Light) -> bool
     ensures { result ≡ valid_call port tries m t }
 {
@@ -92,6 +96,7 @@ fn valid(port: Port, tries: u8, m: Meter, t: Light) -> bool
 }
 
 // A step inside a command.
+#[tactic(auto, using(i2c::proofs::Moves::went_map, crate::proofs::Moves::light_on_lem), unfolding(i2c::specs::Direct::WentBy))]
 fn direct(port: Port, tries: u8, m: Meter, t: Light, a: Answer) -> Went
     ensures { WentBy (λ x g. (q : Sequence) → Keeps (said_light (LightTold.Ask x (LightCall.Going port q tries m (record { left = t.left; sensed = t.sensed; request = g }))) ≡ step_light (LightCall.Going port q tries m t) a) (stands_light (LightTold.Ask x (LightCall.Going port q tries m (record { left = t.left; sensed = t.sensed; request = g }))))) result }
 {
@@ -114,6 +119,7 @@ fn direct(port: Port, tries: u8, m: Meter, t: Light, a: Answer) -> Went
 }
 
 // Questions 10 to 12, one after the other.
+#[tactic(auto, using(bus::proofs::Laws::picked_first, bus::proofs::Laws::picked_second, hardware::proofs::Laws::admits_no, hardware::proofs::Laws::admits_valid, hardware::proofs::Laws::admits_yes, hardware::proofs::Prog::tally_erase, crate::proofs::Laws::valid_below), unfolding(crate::specs::Calls::step_light, crate::specs::Calls::valid_call, crate::specs::Calls::said_light, crate::specs::Calls::stands_light))]
 pub fn plain(s: LightCall, a: Answer) -> LightTold
     ensures { Keeps (said_light result ≡ step_light s a) (stands_light result) }
 {
@@ -129,6 +135,7 @@ pub fn plain(s: LightCall, a: Answer) -> LightTold
 }
 
 // The same: the direct way where there is one, else the plain one.
+#[tactic(auto, unfolding(i2c::specs::Direct::WentBy))]
 pub fn light_step(s: LightCall, a: Answer) -> LightTold
     ensures { Keeps (said_light result ≡ step_light s a) (stands_light result) }
 {

@@ -1,4 +1,6 @@
 // Temperature and received light of a module, from its bytes (SFF-8472, page A2).
+#![tactic(auto)]
+
 pub mod calls;
 pub mod power;
 pub mod sensed;

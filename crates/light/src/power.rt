@@ -49,6 +49,7 @@ pub fn finite_pattern(bits: u32) -> bool
 }
 
 // Neither an infinity nor a NaN, which is below and above nothing.
+#[tactic(auto, using(crate::proofs::Finite::below_infinity, crate::proofs::Finite::not_above))]
 pub fn finite(x: f32) -> bool
     ensures { result ≡ finite x }
 {
@@ -57,6 +58,7 @@ pub fn finite(x: f32) -> bool
 }
 
 // Horner's rule, each product and each sum rounded once.
+#[tactic(auto, unfolding(crate::specs::Power::horner_of, crate::specs::Power::horner_from))]
 pub fn horner(c: Coefficients, count: u16) -> f32
     ensures { result ≡ horner_of c count }
 {
@@ -74,6 +76,7 @@ pub(crate) fn all_finite(p: Patterns) -> bool
         & finite_pattern(p.c0)
 }
 
+#[tactic(auto, using(crate::proofs::Finite::pattern_no_nan))]
 pub(crate) fn coefficient(bits: u32) -> f32
     requires { finite_pattern bits ≡ true }
     ensures { result ≡ of_bits binary32 bits }
@@ -81,6 +84,7 @@ pub(crate) fn coefficient(bits: u32) -> f32
     f32::from_bits(bits)
 }
 
+#[tactic(auto, using(crate::proofs::Finite::each_finite))]
 pub(crate) fn floats(p: Patterns) -> Coefficients
     requires { all_finite p ≡ true }
     ensures { result ≡ coefficients_of p }
@@ -95,6 +99,7 @@ pub(crate) fn floats(p: Patterns) -> Coefficients
 }
 
 // 28 before 29: the power is worked out only of finite coefficients.
+#[tactic(auto, unfolding(crate::specs::Power::power_of, crate::specs::Power::powered_of, hardware::specs::Prog::pick, crate::specs::Power::judged))]
 pub fn power(p: Patterns, count: u16) -> Powered
     ensures { powered_of result ≡ power_of p count }
 {

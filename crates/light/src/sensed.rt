@@ -75,6 +75,7 @@ pub fn measured_number(r: Measured) -> u8
 }
 
 // A word with a byte behind its low one, where the byte is this word's.
+#[tactic(auto, unfolding(crate::specs::Sensed::word_on, hardware::specs::Prog::pick))]
 fn word_on(here: bool, word: u16, byte: u8) -> u16
     ensures { result ≡ word_on here word byte }
 {
@@ -85,6 +86,7 @@ fn word_on(here: bool, word: u16, byte: u8) -> u16
 }
 
 // A pattern with a byte behind its low three.
+#[tactic(auto, unfolding(crate::specs::Sensed::pattern_on, hardware::specs::Prog::pick))]
 fn pattern_on(here: bool, pattern: u32, byte: u8) -> u32
     ensures { result ≡ pattern_on here pattern byte }
 {
@@ -94,6 +96,7 @@ fn pattern_on(here: bool, pattern: u32, byte: u8) -> u32
     pattern
 }
 
+#[tactic(auto, unfolding(crate::specs::Sensed::patterns_on))]
 fn patterns_on(p: Patterns, left: u8, byte: u8) -> Patterns
     ensures { result ≡ patterns_on p left byte }
 {
@@ -106,6 +109,7 @@ fn patterns_on(p: Patterns, left: u8, byte: u8) -> Patterns
     }
 }
 
+#[tactic(auto, unfolding(hardware::specs::Prog::pick))]
 fn kind_on(here: bool, kind: u8, byte: u8) -> u8
     ensures { result ≡ pick here byte kind }
 {
@@ -116,6 +120,7 @@ fn kind_on(here: bool, kind: u8, byte: u8) -> u8
 }
 
 // The byte with so many after it has been read.
+#[tactic(auto, unfolding(crate::specs::Sensed::taken))]
 pub fn take(s: Sensed, left: u8, byte: u8) -> Sensed
     ensures { result ≡ taken s left byte }
 {
@@ -132,6 +137,7 @@ pub fn take(s: Sensed, left: u8, byte: u8) -> Sensed
 }
 
 // The four values beside a reading.
+#[tactic(auto, using(crate::proofs::Signed::signed_held), unfolding(crate::specs::Sensed::measures_of))]
 fn values(s: Sensed, reading: Reading) -> Measures
     ensures { result ≡ measures_of s reading }
 {
@@ -145,6 +151,7 @@ fn values(s: Sensed, reading: Reading) -> Measures
 }
 
 // Without an external calibration.
+#[tactic(auto, unfolding(crate::specs::Sensed::reading_of, hardware::specs::Prog::pick))]
 fn uncalibrated(kind: u8, received: u16) -> Reading
     ensures { result ≡ reading_of kind received }
 {
@@ -155,6 +162,7 @@ fn uncalibrated(kind: u8, received: u16) -> Reading
 }
 
 // With one.
+#[tactic(auto, unfolding(crate::specs::Sensed::measured_of, crate::specs::Sensed::calibrated_of, crate::specs::Power::powered_of))]
 fn calibrated(s: Sensed, p: Powered) -> Measured
     ensures { measured_of result ≡ calibrated_of (measures_of s) (powered_of p) }
 {
@@ -166,6 +174,7 @@ fn calibrated(s: Sensed, p: Powered) -> Measured
 }
 
 // What the bytes say, once all are read that byte 92 asks for.
+#[tactic(auto, unfolding(crate::specs::Sensed::measured, crate::specs::Sensed::measured_of, crate::specs::Sensed::measures_of, crate::specs::Words::signed, hardware::specs::Prog::pick))]
 pub fn judge(s: Sensed) -> Measured
     ensures { measured_of result ≡ measured s }
 {

@@ -33,6 +33,7 @@ const EEPROM: u8 = 0xa0;
 
 const DIAG: u8 = 0xa2;
 
+#[tactic(auto, unfolding(crate::specs::Light::device_at, hardware::specs::Prog::pick))]
 fn device(left: u8) -> u8
     ensures { result ≡ device_at left }
 {
@@ -43,6 +44,7 @@ fn device(left: u8) -> u8
 }
 
 // Byte 92 of A0; bytes 96 to 105 of A2, and last its coefficients, bytes 56 to 75.
+#[tactic(auto, unfolding(crate::specs::Light::offset_at, hardware::specs::Prog::pick))]
 fn offset(left: u8) -> u8
     ensures { result ≡ offset_at left }
 {
@@ -55,6 +57,7 @@ fn offset(left: u8) -> u8
     56 + (19 - left)
 }
 
+#[tactic(auto, unfolding(crate::specs::Light::request_at))]
 pub(crate) fn request(left: u8) -> Request
     ensures { result ≡ request_at left }
 {
@@ -62,6 +65,7 @@ pub(crate) fn request(left: u8) -> Request
 }
 
 // Whether no byte follows this one. kind: byte 92, which asks for those after it.
+#[tactic(auto, unfolding(crate::specs::Light::stops, hardware::specs::Prog::pick))]
 fn last(kind: u8, left: u8) -> bool
     ensures { result ≡ stops kind left }
 {
@@ -75,6 +79,7 @@ fn last(kind: u8, left: u8) -> bool
 }
 
 // The most transfers up to the byte that is read now, its own included.
+#[tactic(auto, using(crate::proofs::Laws::cap_few, crate::proofs::Laws::cap_is))]
 pub(crate) fn cap(tries: u8, left: u8) -> u32
     requires { left ≤ 30 }
     ensures { result ≡ cap_at tries left }
@@ -83,6 +88,7 @@ pub(crate) fn cap(tries: u8, left: u8) -> u32
 }
 
 // A byte's request. With no attempt it can be over at once, and then it has failed: no byte is read without an access.
+#[tactic(auto, using(bus::proofs::Laws::picked, i2c::proofs::Request::begun_valid, i2c::proofs::Request::none_read, i2c::proofs::Request::own_allows, i2c::proofs::Request::request_begun, i2c::proofs::Request::request_over, crate::proofs::Laws::cap_most, crate::proofs::Laws::own), unfolding(crate::specs::Walk::light_next, crate::specs::Walk::access_light, crate::specs::Walk::rest_light, crate::specs::Light::light_from, crate::specs::Walk::valid_light_next, crate::specs::Walk::valid_light, crate::specs::Light::request_at, crate::specs::Sensed::measured_of, hardware::specs::Prog::erase, i2c::specs::Handshake::valued, i2c::specs::I2c::value_of, transfer::specs::Attempt::got, crate::specs::Light::byte_seen, hardware::specs::Prog::or_err))]
 pub fn begin(port: Port, q: Sequence, tries: u8, left: u8, s: Sensed) -> LightNext
     ensures { Keeps (light_next q port tries result ≡ erase (light_from q port tries (suc left) s)) ((m : Meter) → left ≤ 30 → m.transfers + tries ≤ cap_at tries left → valid_light_next port tries m result ≡ true) }
 {
@@ -107,6 +113,7 @@ pub fn begin(port: Port, q: Sequence, tries: u8, left: u8, s: Sensed) -> LightNe
 }
 
 // A byte was taken, and so many may come after it: the next, or the end.
+#[tactic(auto, using(crate::proofs::Laws::again, crate::proofs::Laws::cap_next, crate::proofs::Laws::follows_some), unfolding(crate::specs::Walk::light_next, crate::specs::Light::light_on, hardware::specs::Prog::pick, hardware::specs::Prog::erase, crate::specs::Walk::valid_light_next))]
 fn next(port: Port, q: Sequence, tries: u8, left: u8, s: Sensed) -> LightNext
     ensures { Keeps (light_next q port tries result ≡ erase (light_on (light_from q port tries left) left s)) ((m : Meter) → left ≤ 30 → m.transfers ≤ cap_at tries left → valid_light_next port tries m result ≡ true) }
 {
@@ -118,6 +125,7 @@ fn next(port: Port, q: Sequence, tries: u8, left: u8, s: Sensed) -> LightNext
 }
 
 // A byte's request has ended: the byte is taken, or the call has failed.
+#[tactic(auto, unfolding(crate::specs::Light::request_at, i2c::specs::Handshake::valued, i2c::specs::I2c::value_of, i2c::specs::I2c::read_off, transfer::specs::Attempt::got, crate::specs::Light::byte_seen, hardware::specs::Prog::or_err, crate::specs::Walk::light_next, crate::specs::Sensed::measured_of, hardware::specs::Prog::erase, crate::specs::Walk::valid_light_next))]
 fn ended(port: Port, q: Sequence, tries: u8, left: u8, s: Sensed, g: Got) -> LightNext
     ensures { Keeps (light_next q port tries result ≡ erase (valued (request_at left) (byte_seen (light_from q port tries left) left s) (got g))) ((m : Meter) → left ≤ 30 → m.transfers ≤ cap_at tries left → valid_light_next port tries m result ≡ true) }
 {
@@ -127,6 +135,7 @@ fn ended(port: Port, q: Sequence, tries: u8, left: u8, s: Sensed, g: Got) -> Lig
     }
 }
 
+#[tactic(auto, using(bus::proofs::Laws::picked, hardware::proofs::Prog::going_on, i2c::proofs::Laws::fits_valid, crate::proofs::Laws::cap_most), unfolding(crate::specs::Walk::light_next, crate::specs::Walk::access_light, crate::specs::Walk::rest_light, i2c::specs::Handshake::rest_request, i2c::specs::Handshake::handshake_next, i2c::specs::Handshake::valid_handshake_next, i2c::specs::Handshake::due_handshake_next, crate::specs::Walk::valid_light_next, crate::specs::Walk::valid_light, hardware::specs::Prog::followed))]
 fn from_request(
     port: Port,
     q: Sequence,
@@ -150,6 +159,7 @@ fn from_request(
     }
 }
 
+#[tactic(auto, unfolding(crate::specs::Walk::access_light))]
 pub fn access(port: Port, s: Light) -> Access
     ensures { result ≡ access_light port s }
 {
@@ -157,6 +167,7 @@ pub fn access(port: Port, s: Light) -> Access
     i2c::handshake::access(port, t)
 }
 
+#[tactic(auto, unfolding(crate::specs::Walk::valid_light, hardware::specs::Prog::pick))]
 pub fn valid(port: Port, tries: u8, m: Meter, s: Light) -> bool
     ensures { result ≡ valid_light port tries m s }
 {
@@ -175,6 +186,7 @@ pub fn valid(port: Port, tries: u8, m: Meter, s: Light) -> bool
     false
 }
 
+#[tactic(auto, using(bus::proofs::Laws::picked_first, bus::proofs::Laws::picked_second, hardware::proofs::Prog::over, i2c::proofs::Laws::valid_fits), unfolding(crate::specs::Walk::rest_light, i2c::specs::Handshake::rest_request, crate::specs::Walk::valid_light))]
 pub fn step(port: Port, q: Sequence, tries: u8, s: Light, a: Answer) -> LightNext
     ensures { Keeps (light_next q port tries result ≡ erase (rest_light q port tries s a)) ((m : Meter) → valid_light port tries m s ≡ true → valid_light_next port tries m result ≡ true) }
 {

@@ -9,6 +9,7 @@ pub fn word(high: u8, low: u8) -> u16
 }
 
 // Two's complement, where all ones is -1 and each clear bit takes its value off.
+#[tactic(auto, using(crate::proofs::Signed::signed_is, crate::proofs::Signed::turned_bits, crate::proofs::Signed::turned_fits))]
 pub fn signed(count: u16) -> i16
     ensures { result ≡ signed count }
 {
@@ -20,6 +21,7 @@ pub fn signed(count: u16) -> i16
 }
 
 // In 1/256 degree Celsius.
+#[tactic(auto, using(crate::proofs::Signed::signed_held))]
 pub fn temperature(high: u8, low: u8) -> i16
     ensures { result ≡ temperature_of high low }
 {

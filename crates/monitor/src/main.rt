@@ -1,5 +1,7 @@
 // Reads the temperature and the light of modules on the bench, where every lock and grant comes at once. The words of the
 // command line name images of modules; each is opened before anything is printed.
+#![tactic(auto)]
+
 mod decimals;
 mod faults;
 mod power;

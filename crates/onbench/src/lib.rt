@@ -1,5 +1,7 @@
 // The whole call of `identify`, from its opening to its end, with the bench module. The answers to all other accesses are
 // lent, or fixed ones with which every lock and grant comes at once.
+#![tactic(auto)]
+
 ghost use Rattle.std.specs.Prelude.{ℕ, ◌<◌, ◌≤◌, ◌≡◌, true, false, [], ◌⊎◌, length, get_or, drop};
 ghost use Rattle.hardware.specs.Asked.{yes, open_port};
 ghost use Rattle.wire.specs.Run.{listed, fixed, Finished};
@@ -60,6 +62,7 @@ pub struct Progress {
 const MOST_ACCESSES: u64 = 1_600_450_488;
 
 // A number below 2^32 is a value that was read, 2^32 a write or a wait that is done, and any other a failed access.
+#[tactic(auto, unfolding(crate::specs::Run::decoded, hardware::specs::Prog::pick))]
 pub fn decode(n: u64) -> Answer
     ensures { result ≡ decoded n }
 {
@@ -72,6 +75,7 @@ pub fn decode(n: u64) -> Answer
     Answer::Failed
 }
 
+#[tactic(auto, using(crate::proofs::Laws::next_lent, crate::proofs::Laws::next_none), unfolding(crate::specs::Run::source_of, crate::specs::Run::next_of, wire::specs::Run::fixed))]
 fn next_answer(origin: Origin, x: Access, used: usize, answers: &[u64]) -> Next
     ensures { next_of answers.now result ≡ source_of origin x (decoded_all (drop used answers.now)) }
 {
@@ -87,6 +91,7 @@ fn next_answer(origin: Origin, x: Access, used: usize, answers: &[u64]) -> Next
 }
 
 // The access is the machine's own, and is answered there; or it gets the next answer, if there is one.
+#[tactic(auto, using(crate::proofs::Laws::visit_given, crate::proofs::Laws::visit_none, crate::proofs::Laws::visit_own))]
 fn visit(
     port: Port,
     origin: Origin,
@@ -125,6 +130,7 @@ fn visit(
     }
 }
 
+#[tactic(auto, using(crate::proofs::Laws::one_ask, crate::proofs::Laws::one_end, crate::proofs::Laws::one_refused))]
 fn one(port: Port, origin: Origin, s: Progress, answers: &[u64]) -> Progress
     ensures { s.over ≡ false → Advances (left_of port origin answers.now) s result }
 {
@@ -148,6 +154,7 @@ fn one(port: Port, origin: Origin, s: Progress, answers: &[u64]) -> Progress
     }
 }
 
+#[tactic(auto, unfolding(crate::specs::Run::outcome_of, crate::specs::Run::ending_of, crate::specs::Run::stops_at))]
 fn finish(s: Progress) -> Run
     ensures { outcome_of result ≡ stops_at s.told (world s.state) }
 {
@@ -169,6 +176,7 @@ fn finish(s: Progress) -> Run
     }
 }
 
+#[tactic(auto, using(crate::proofs::Laws::Invariant, crate::proofs::Laws::invariant_first, crate::proofs::Laws::invariant_next, crate::proofs::Laws::invariant_stops, crate::proofs::Laws::invariant_ends))]
 fn play(port: Port, origin: Origin, told: IdentifyTold, d: BenchState, answers: &[u64]) -> Run
     ensures { stands_identify told → Bounded (said_identify told) 1600450488 → outcome_of result ≡ left_of port origin answers.now (record { told = told; state = d; used = 0; over = false }) }
 {
@@ -190,6 +198,7 @@ fn play(port: Port, origin: Origin, told: IdentifyTold, d: BenchState, answers: 
 }
 
 // The call from its opening on, with a clearing sequence by its name; a refused opening alters nothing.
+#[tactic(auto, using(crate::proofs::Laws::opened, crate::proofs::Laws::unopened))]
 fn from_opening(
     family: u32,
     device: u16,
@@ -229,6 +238,7 @@ fn bytes(page: &[u8]) -> usize
 
 // Demand 3 of the call, with either sequence: what it comes to for every list of answers, and the claim where they meet the
 // premises and it comes to its end, as it does over every list that is long enough.
+#[tactic(auto, using(crate::proofs::Laws::lent_claim), unfolding(crate::specs::Run::source_of))]
 pub fn identify_on_bench(
     family: u32,
     device: u16,
@@ -246,6 +256,7 @@ pub fn identify_on_bench(
 }
 
 // Demand 3 of the call where every lock and grant comes at once: no answers are lent.
+#[tactic(auto, using(crate::proofs::Laws::at_once_claim), unfolding(crate::specs::Run::source_of, crate::specs::Run::decoded_all))]
 pub fn identify_at_once(
     family: u32,
     device: u16,

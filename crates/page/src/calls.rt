@@ -31,6 +31,7 @@ pub enum PageTold {
     Refused(Refusal),
 }
 
+#[tactic(auto, using(bus::proofs::Laws::picked, hardware::proofs::Laws::held_on, hardware::proofs::Prog::asked_on), unfolding(crate::specs::Calls::said_page, crate::specs::Walk::page_next, crate::specs::Calls::stands_page, crate::specs::Calls::valid_call, crate::specs::Walk::valid_page_next, crate::specs::Calls::FilledAs, crate::specs::Calls::filled_call, crate::specs::Walk::filled_next, hardware::specs::Prog::tally))]
 fn told(port: Port, q: Sequence, form: Form, tries: u8, m: Meter, n: PageNext) -> PageTold
     ensures { Stores ((l : List ℕ) → m.transfers < FULL → said_page result l ≡ goes (tally m (page_next q port form tries n l))) (valid_held port m ≡ true → valid_page_next port form tries m n ≡ true → stands_page result) ((b : List ℕ) → FilledAs result b (filled_next q port form tries n b)) }
 {
@@ -44,6 +45,7 @@ fn told(port: Port, q: Sequence, form: Form, tries: u8, m: Meter, n: PageNext) -
 }
 
 // Questions 4 and 9.
+#[tactic(auto, using(hardware::proofs::Laws::held_blank, hardware::proofs::Prog::tally_erase, crate::proofs::Laws::cap_first, crate::proofs::Laws::filled_as), unfolding(crate::specs::Calls::open_form, hardware::specs::Asked::question, hardware::specs::Lent::lent, crate::specs::Calls::said_page, crate::specs::Calls::stands_page, crate::specs::Calls::FilledAs, crate::specs::Calls::buffer_fits, crate::specs::Page::page))]
 fn opened(port: Port, q: Sequence, form: Form, attempts: u32, buffer: &[u8]) -> PageTold
     ensures { Stores (said_page result buffer.now ≡ lent buffer.now (open_form q form attempts buffer.now port)) (valid_port port ≡ true → stands_page result) (FilledAs result buffer.now (filled_from q port form attempts 96 buffer.now)) }
 {
@@ -65,6 +67,7 @@ fn opened(port: Port, q: Sequence, form: Form, attempts: u32, buffer: &[u8]) -> 
 }
 
 // SFF-8472's page. Questions 1, 2, 4 and 9. sequence: the clearing after a failed attempt, by its name.
+#[tactic(auto, using(hardware::proofs::Laws::opened_valid, crate::proofs::Laws::filled_port), unfolding(crate::specs::Calls::open_page, hardware::specs::Asked::and_then, hardware::specs::Asked::port_opened, hardware::specs::Lent::lent, crate::specs::Calls::said_page, crate::specs::Calls::stands_page, crate::specs::Calls::FilledAs))]
 pub fn page_open_with(
     family: u32,
     device: u16,
@@ -82,6 +85,7 @@ pub fn page_open_with(
 }
 
 // SFF-8636's.
+#[tactic(auto, using(hardware::proofs::Laws::opened_valid, crate::proofs::Laws::filled_port), unfolding(crate::specs::Calls::open_qsfp_page, hardware::specs::Asked::and_then, hardware::specs::Asked::port_opened, hardware::specs::Lent::lent, crate::specs::Calls::said_page, crate::specs::Calls::stands_page, crate::specs::Calls::FilledAs))]
 pub fn qsfp_page_open_with(
     family: u32,
     device: u16,
@@ -111,6 +115,7 @@ pub fn qsfp_page_open(family: u32, device: u16, lan: u32, attempts: u32, buffer:
     qsfp_page_open_with(family, device, lan, attempts, buffer, i2c::standard())
 }
 
+#[tactic(auto, unfolding(crate::specs::Calls::valid_call, hardware::specs::Prog::pick))]
 fn valid(port: Port, form: Form, tries: u8, m: Meter, t: Page) -> bool
     ensures { result ≡ valid_call port form tries m t }
 {
@@ -120,6 +125,7 @@ fn valid(port: Port, form: Form, tries: u8, m: Meter, t: Page) -> bool
     false
 }
 
+#[tactic(auto, using(hardware::proofs::Laws::admits_no, hardware::proofs::Laws::admits_valid, hardware::proofs::Laws::admits_yes, hardware::proofs::Laws::both_true, hardware::proofs::Prog::tally_erase, crate::proofs::Laws::filled_as, crate::proofs::Laws::valid_below), unfolding(crate::specs::Calls::stepped_page, crate::specs::Calls::buffer_stepped, crate::specs::Calls::kept, hardware::specs::Lent::lent, crate::specs::Calls::valid_call, crate::specs::Calls::filled_call, crate::specs::Calls::said_page, crate::specs::Calls::stands_page, crate::specs::Calls::FilledAs))]
 fn page_on(
     port: Port,
     q: Sequence,
@@ -144,6 +150,7 @@ fn page_on(
 }
 
 // A step inside a command: nothing is stored.
+#[tactic(auto, using(i2c::proofs::Moves::went_map, crate::proofs::Moves::page_on), unfolding(i2c::specs::Direct::WentBy))]
 fn direct(port: Port, form: Form, tries: u8, m: Meter, t: Page, a: Answer) -> Went
     ensures { WentBy (λ x g. (q : Sequence) (buffer : List ℕ) → Fills (said_page (PageTold.Ask x (PageCall.Going port q form tries m (record { left = t.left; request = g }))) buffer ≡ lent buffer (stepped_page (PageCall.Going port q form tries m t) buffer a)) (stands_page (PageTold.Ask x (PageCall.Going port q form tries m (record { left = t.left; request = g })))) (buffer ≡ kept buffer (buffer_stepped (PageCall.Going port q form tries m t) buffer a)) (FilledAs (PageTold.Ask x (PageCall.Going port q form tries m (record { left = t.left; request = g }))) buffer (λ l. filled_call (PageCall.Going port q form tries m t) buffer (a ∷ l)))) result }
 {
@@ -166,6 +173,7 @@ fn direct(port: Port, form: Form, tries: u8, m: Meter, t: Page, a: Answer) -> We
 }
 
 // Questions 9, and then 10 to 12, of both.
+#[tactic(auto, unfolding(crate::specs::Calls::step_page, crate::specs::Calls::buffer_after, crate::specs::Calls::kept, hardware::specs::Lent::lent, hardware::specs::Asked::question, crate::specs::Calls::buffer_fits, crate::specs::Calls::said_page, crate::specs::Calls::stands_page, crate::specs::Calls::FilledAs, crate::specs::Calls::buffer_stepped, crate::specs::Calls::stepped_page))]
 pub fn plain(s: PageCall, buffer: &mut [u8], a: Answer) -> PageTold
     ensures { Fills (said_page result buffer.new ≡ step_page s buffer.old a) (stands_page result) (buffer.new ≡ buffer_after s buffer.old a) (FilledAs result buffer.new (λ l. filled_call s buffer.old (a ∷ l))) }
 {
@@ -181,6 +189,7 @@ pub fn plain(s: PageCall, buffer: &mut [u8], a: Answer) -> PageTold
 }
 
 // The same: the direct way where there is one, else the plain one.
+#[tactic(auto, unfolding(crate::specs::Calls::step_page, crate::specs::Calls::buffer_after, crate::specs::Calls::kept, hardware::specs::Lent::lent, hardware::specs::Asked::question, crate::specs::Calls::buffer_fits, crate::specs::Calls::said_page, crate::specs::Calls::stands_page, crate::specs::Calls::FilledAs, i2c::specs::Direct::WentBy, crate::specs::Calls::buffer_stepped, crate::specs::Calls::stepped_page))]
 pub fn page_step(s: PageCall, buffer: &mut [u8], a: Answer) -> PageTold
     ensures { Fills (said_page result buffer.new ≡ step_page s buffer.old a) (stands_page result) (buffer.new ≡ buffer_after s buffer.old a) (FilledAs result buffer.new (λ l. filled_call s buffer.old (a ∷ l))) }
 {

@@ -26,6 +26,7 @@ pub fn paged_number(p: Paged) -> u8
 }
 
 // The sums of a buffer that holds a page, in their order.
+#[tactic(auto, using(crate::proofs::Laws::sum_right_lem, crate::proofs::Laws::sum_wrong), unfolding(crate::specs::Page::sums_of, crate::specs::Page::paged_of, hardware::specs::Prog::pick))]
 pub(crate) fn judge(buffer: &[u8]) -> Paged
     requires { 96 ≤ length buffer.now }
     ensures { paged_of result ≡ sums_of buffer.now }

@@ -47,6 +47,7 @@ fn place(left: u8) -> u8
     95 - left
 }
 
+#[tactic(auto, unfolding(crate::specs::Page::offset_of))]
 fn offset(form: Form, place: u8) -> u8
     requires { place < 96 }
     ensures { result ≡ offset_of form place }
@@ -57,6 +58,7 @@ fn offset(form: Form, place: u8) -> u8
     }
 }
 
+#[tactic(auto, unfolding(crate::specs::Page::request_at))]
 pub(crate) fn request(form: Form, left: u8) -> Request
     ensures { result ≡ request_at form left }
 {
@@ -64,6 +66,7 @@ pub(crate) fn request(form: Form, left: u8) -> Request
 }
 
 // The most transfers up to the byte that is read now, its own included.
+#[tactic(auto, using(crate::proofs::Laws::cap_few, crate::proofs::Laws::cap_is))]
 pub(crate) fn cap(tries: u8, left: u8) -> u32
     ensures { result ≡ cap_at tries left }
 {
@@ -79,6 +82,7 @@ fn store(buffer: &mut [u8], at: usize, v: u8)
 }
 
 // A byte's request. With no attempt it can be over at once, and then it has failed: no byte is read without an access.
+#[tactic(auto, using(bus::proofs::Laws::picked, i2c::proofs::Request::begun_valid, i2c::proofs::Request::none_read, i2c::proofs::Request::own_allows, i2c::proofs::Request::request_begun, i2c::proofs::Request::request_over, crate::proofs::Laws::cap_most, crate::proofs::Laws::filled_begun, crate::proofs::Laws::filled_over, crate::proofs::Laws::own), unfolding(crate::specs::Walk::page_next, crate::specs::Walk::filled_next, crate::specs::Walk::access_page, crate::specs::Walk::rest_page, crate::specs::Page::page_from, crate::specs::Walk::valid_page_next, crate::specs::Walk::valid_page, crate::specs::Page::request_at, crate::specs::Walk::filling, crate::specs::Page::paged_of, hardware::specs::Prog::erase, i2c::specs::Handshake::valued, i2c::specs::I2c::value_of, transfer::specs::Attempt::got, crate::specs::Page::byte_seen))]
 pub fn begin(port: Port, q: Sequence, form: Form, tries: u8, left: u8) -> PageNext
     ensures { Stores ((l : List ℕ) → page_next q port form tries result l ≡ erase (page_from q port form tries (suc left) l)) ((m : Meter) → left < 96 → m.transfers + tries ≤ cap_at tries left → valid_page_next port form tries m result ≡ true) ((b : List ℕ) (l : List Answer) → filled_next q port form tries result b l ≡ filled_from q port form tries (suc left) b l) }
 {
@@ -96,6 +100,7 @@ pub fn begin(port: Port, q: Sequence, form: Form, tries: u8, left: u8) -> PageNe
 }
 
 // So many bytes are left: the next, or the sums.
+#[tactic(auto, using(crate::proofs::Laws::again, crate::proofs::Laws::cap_next, crate::proofs::Laws::filled_again), unfolding(crate::specs::Walk::page_next, crate::specs::Walk::filled_next, crate::specs::Walk::filled_from, crate::specs::Page::page_from, hardware::specs::Prog::erase, crate::specs::Walk::valid_page_next))]
 fn next(port: Port, q: Sequence, form: Form, tries: u8, left: u8, buffer: &[u8]) -> PageNext
     requires { 96 ≤ length buffer.now }
     ensures { Stores (page_next q port form tries result buffer.now ≡ erase (page_from q port form tries left buffer.now)) ((m : Meter) → left < 96 → m.transfers ≤ cap_at tries left → valid_page_next port form tries m result ≡ true) ((l : List Answer) → filled_next q port form tries result buffer.now l ≡ filled_from q port form tries left buffer.now l) }
@@ -108,6 +113,7 @@ fn next(port: Port, q: Sequence, form: Form, tries: u8, left: u8, buffer: &[u8])
 }
 
 // A byte's request has ended: the byte is stored, or the call has failed.
+#[tactic(auto, unfolding(crate::specs::Page::request_at, i2c::specs::Handshake::valued, i2c::specs::I2c::value_of, i2c::specs::I2c::read_off, transfer::specs::Attempt::got, crate::specs::Page::byte_seen, crate::specs::Walk::stored, crate::specs::Walk::filling, crate::specs::Walk::page_next, crate::specs::Page::paged_of, hardware::specs::Prog::erase, crate::specs::Walk::valid_page_next, crate::specs::Walk::filled_next))]
 fn ended(
     port: Port,
     q: Sequence,
@@ -129,6 +135,7 @@ fn ended(
     }
 }
 
+#[tactic(auto, using(bus::proofs::Laws::picked, hardware::proofs::Prog::going_on, i2c::proofs::Laws::fits_valid, crate::proofs::Laws::cap_most, crate::proofs::Laws::filled_going, crate::proofs::Laws::stored_asks), unfolding(crate::specs::Walk::page_next, crate::specs::Walk::filled_next, crate::specs::Walk::access_page, crate::specs::Walk::rest_page, i2c::specs::Handshake::rest_request, i2c::specs::Handshake::handshake_next, i2c::specs::Handshake::valid_handshake_next, i2c::specs::Handshake::due_handshake_next, crate::specs::Walk::valid_page_next, crate::specs::Walk::valid_page, hardware::specs::Prog::followed, i2c::specs::Handshake::valued, hardware::specs::Prog::erase))]
 fn from_request(
     port: Port,
     q: Sequence,
@@ -147,6 +154,7 @@ fn from_request(
     }
 }
 
+#[tactic(auto, unfolding(crate::specs::Walk::access_page))]
 pub fn access(port: Port, s: Page) -> Access
     ensures { result ≡ access_page port s }
 {
@@ -154,6 +162,7 @@ pub fn access(port: Port, s: Page) -> Access
     i2c::handshake::access(port, t)
 }
 
+#[tactic(auto, unfolding(crate::specs::Walk::valid_page, hardware::specs::Prog::pick))]
 pub fn valid(port: Port, form: Form, tries: u8, m: Meter, s: Page) -> bool
     ensures { result ≡ valid_page port form tries m s }
 {
@@ -172,6 +181,7 @@ pub fn valid(port: Port, form: Form, tries: u8, m: Meter, s: Page) -> bool
     false
 }
 
+#[tactic(auto, using(bus::proofs::Laws::picked_first, bus::proofs::Laws::picked_second, hardware::proofs::Prog::over, i2c::proofs::Laws::valid_fits, crate::proofs::Laws::filling_on, crate::proofs::Laws::stored_erase), unfolding(crate::specs::Walk::rest_page, i2c::specs::Handshake::rest_request, crate::specs::Walk::valid_page, crate::specs::Walk::buffer_page, crate::specs::Walk::filled_at, crate::specs::Walk::filling))]
 pub(crate) fn step(
     port: Port,
     q: Sequence,

@@ -1,5 +1,7 @@
 // Runs the port over the cases of a list, which it reads from standard input, and says how many agree with what the list
 // has the original do.
+#![tactic(auto)]
+
 mod calls;
 mod case;
 mod host;

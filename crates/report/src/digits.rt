@@ -10,6 +10,7 @@ pub struct Digits {
 }
 
 // The value of a digit, in either case; 16 is that of any other byte.
+#[tactic(auto, using(crate::proofs::Laws::above, crate::proofs::Laws::below, crate::proofs::Laws::between, crate::proofs::Laws::between_cases, crate::proofs::Laws::capital, crate::proofs::Laws::decimal, crate::proofs::Laws::small))]
 fn digit(b: u8) -> u8
     ensures { result ≡ digit_of b }
 {
@@ -21,6 +22,7 @@ fn digit(b: u8) -> u8
     }
 }
 
+#[tactic(auto, unfolding(crate::specs::Number::most_of, hardware::specs::Prog::pick))]
 fn most(n: u64) -> u32
     ensures { result ≡ most_of n }
 {
@@ -31,6 +33,7 @@ fn most(n: u64) -> u32
 }
 
 // One more byte; `base` is 10 or 16.
+#[tactic(auto, using(crate::proofs::Laws::product), unfolding(crate::specs::Number::more_of))]
 fn more(d: Digits, b: u8, base: u8) -> Digits
     ensures { result ≡ more_of base d b }
 {
@@ -45,6 +48,7 @@ fn more(d: Digits, b: u8, base: u8) -> Digits
     Digits { value, good: false }
 }
 
+#[tactic(auto, using(crate::proofs::Laws::run_end, crate::proofs::Laws::run_next))]
 fn run(text: &[u8], base: u8) -> Digits
     ensures { result ≡ run_of base none text.now }
 {
@@ -70,6 +74,7 @@ fn bad() -> Digits
 }
 
 // A number of 1 to `limit` digits.
+#[tactic(auto, unfolding(crate::specs::Number::read_of, hardware::specs::Prog::pick))]
 pub(crate) fn read(text: &[u8], base: u8, limit: u8) -> Digits
     ensures { result ≡ read_of base limit text.now }
 {

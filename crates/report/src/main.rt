@@ -1,6 +1,8 @@
 // Identifies a module on the bench, where every lock and grant comes at once. The words of the command line name an image
 // and the state in which a reset left the module, and the record is printed; without words the shipped images are taken
 // through every stage of the receiver.
+#![tactic(auto)]
+
 mod digits;
 mod ends;
 mod faults;

@@ -87,6 +87,7 @@ fn defaults() -> Settings {
 }
 
 // The first place of the byte, or the text's length.
+#[tactic(auto, using(crate::proofs::Laws::place_end, crate::proofs::Laws::place_found, crate::proofs::Laws::place_next))]
 fn find(text: &[u8], b: u8) -> usize
     ensures value { result ≡ place_of b text.now }
     ensures upper_bound { result ≤ length text.now }

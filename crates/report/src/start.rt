@@ -31,6 +31,7 @@ pub(crate) fn stage_at(n: u8) -> Stage {
 }
 
 // I2CCTL with both lines released: on the X552's layout with BB_EN clear and both enables off.
+#[tactic(auto, unfolding(bus::specs::Layout::layout_of, hardware::specs::Prog::pick, wire::specs::Lines::ready, wire::specs::Lines::banging, hardware::specs::Registers::none_of))]
 pub(crate) fn released(family: Family) -> u32
     ensures { ready (layout_of family) result ≡ true }
 {

@@ -24,6 +24,7 @@ pub enum Judged {
     Refused(Refusal),
 }
 
+#[tactic(auto, unfolding(crate::specs::Script::alone, hardware::specs::Prog::pick))]
 fn alone(b: u8) -> Command
     ensures { result ≡ alone b }
 {
@@ -35,6 +36,7 @@ fn alone(b: u8) -> Command
     }
 }
 
+#[tactic(auto, unfolding(crate::specs::Script::single, hardware::specs::Prog::pick))]
 fn single(b: u8) -> bool
     ensures { result ≡ single b }
 {
@@ -48,6 +50,7 @@ fn single(b: u8) -> bool
 }
 
 // Whether a send and its operand stand at the position.
+#[tactic(auto, using(crate::proofs::Laws::sending_here, crate::proofs::Laws::sending_short))]
 fn sending(script: &[u8], at: usize) -> bool
     ensures { result ≡ head_sends (drop at script.now) }
 {
@@ -60,6 +63,7 @@ fn sending(script: &[u8], at: usize) -> bool
 }
 
 // The command at a position.
+#[tactic(auto, using(crate::proofs::Laws::first_at, crate::proofs::Laws::sending_at), unfolding(crate::specs::Script::command_at, crate::specs::Script::head_command, hardware::specs::Prog::pick, crate::specs::Script::head_sends, crate::specs::Script::alone))]
 pub fn command(script: &[u8], at: usize) -> Command
     ensures { result ≡ command_at script.now at }
 {
@@ -73,6 +77,7 @@ pub fn command(script: &[u8], at: usize) -> Command
 }
 
 // The position behind the command at a position.
+#[tactic(auto, using(crate::proofs::Laws::sending_at, crate::proofs::Laws::width_one, crate::proofs::Laws::width_two), unfolding(crate::specs::Script::next_at, crate::specs::Script::head_width))]
 pub fn next(script: &[u8], at: usize) -> usize
     ensures { result ≡ next_at script.now at }
 {
@@ -86,6 +91,7 @@ pub fn next(script: &[u8], at: usize) -> usize
 }
 
 // Whether the command at a position is known and complete.
+#[tactic(auto, using(crate::proofs::Laws::first_at), unfolding(crate::specs::Script::head_known, hardware::specs::Prog::pick, crate::specs::Script::head_sends, crate::specs::Script::single))]
 fn known(script: &[u8], at: usize) -> bool
     ensures { result ≡ head_known (drop at script.now) }
 {
@@ -99,6 +105,7 @@ fn known(script: &[u8], at: usize) -> bool
 }
 
 // Question 6.
+#[tactic(auto, using(crate::proofs::Laws::complete_at, crate::proofs::Laws::complete_past, crate::proofs::Laws::next_in, crate::proofs::Laws::next_less), unfolding(hardware::specs::Prog::pick))]
 fn complete(script: &[u8]) -> bool
     ensures { result ≡ complete script.now }
 {
@@ -112,6 +119,7 @@ fn complete(script: &[u8]) -> bool
     true
 }
 
+#[tactic(auto, unfolding(crate::specs::Script::follows, crate::specs::Script::leads, hardware::specs::Prog::pick))]
 fn started(w: Where) -> Where
     ensures { result ≡ follows w Command.Start }
 {
@@ -126,6 +134,7 @@ fn started(w: Where) -> Where
     }
 }
 
+#[tactic(auto, unfolding(crate::specs::Script::follows, crate::specs::Script::leads, hardware::specs::Prog::pick))]
 fn sent(w: Where, a: u8) -> Where
     ensures { result ≡ follows w (Command.Send a) }
 {
@@ -145,6 +154,7 @@ fn sent(w: Where, a: u8) -> Where
     }
 }
 
+#[tactic(auto, unfolding(crate::specs::Script::follows, crate::specs::Script::leads, hardware::specs::Prog::pick))]
 fn taken(w: Where, level: bool) -> Where
     ensures { result ≡ follows w (Command.Read level) }
 {
@@ -164,6 +174,7 @@ fn taken(w: Where, level: bool) -> Where
     }
 }
 
+#[tactic(auto, unfolding(crate::specs::Script::follows, crate::specs::Script::leads, hardware::specs::Prog::pick))]
 fn stopped(w: Where) -> Where
     ensures { result ≡ follows w Command.Stop }
 {
@@ -178,6 +189,7 @@ fn stopped(w: Where) -> Where
     }
 }
 
+#[tactic(auto, using(crate::proofs::Laws::free_wrong))]
 fn follows(w: Where, c: Command) -> Where
     ensures { result ≡ follows w c }
 {
@@ -190,6 +202,7 @@ fn follows(w: Where, c: Command) -> Where
     }
 }
 
+#[tactic(auto, unfolding(crate::specs::Script::at_end))]
 fn closed(w: Where) -> bool
     ensures { result ≡ at_end w }
 {
@@ -205,6 +218,7 @@ fn closed(w: Where) -> bool
 }
 
 // Question 7.
+#[tactic(auto, using(crate::proofs::Laws::commands_at, crate::proofs::Laws::commands_past, crate::proofs::Laws::next_in, crate::proofs::Laws::next_less), unfolding(crate::specs::Script::walked, crate::specs::Script::is_script))]
 fn is_script(script: &[u8]) -> bool
     ensures { result ≡ is_script script.now }
 {
@@ -218,6 +232,7 @@ fn is_script(script: &[u8]) -> bool
 }
 
 // Question 5.
+#[tactic(auto, unfolding(crate::specs::Script::length_fits, hardware::specs::Prog::pick))]
 fn length_fits(n: usize) -> bool
     ensures { (s : List ℕ) → length s ≡ n → result ≡ length_fits s }
 {
@@ -228,6 +243,7 @@ fn length_fits(n: usize) -> bool
 }
 
 // Questions 5, 6 and 7, in this order.
+#[tactic(auto, unfolding(crate::specs::Script::judged, crate::specs::Script::judged_as, hardware::specs::Prog::pick))]
 pub fn judge(script: &[u8]) -> Judged
     ensures { judged_as result ≡ judged script.now }
 {
@@ -244,6 +260,7 @@ pub fn judge(script: &[u8]) -> Judged
 }
 
 // Whether the position is that of a command.
+#[tactic(auto, using(crate::proofs::Laws::Aligned, crate::proofs::Laws::aligned_before, crate::proofs::Laws::aligned_first, crate::proofs::Laws::aligned_next, crate::proofs::Laws::aligned_past, crate::proofs::Laws::next_in, crate::proofs::Laws::next_less))]
 pub fn on_command(script: &[u8], at: usize) -> bool
     ensures { result ≡ on_command script.now at }
 {
@@ -257,6 +274,7 @@ pub fn on_command(script: &[u8], at: usize) -> bool
     false
 }
 
+#[tactic(auto, unfolding(crate::specs::Script::operand))]
 fn operand(c: Command) -> u8
     ensures { result ≡ operand c }
 {
@@ -270,6 +288,7 @@ fn operand(c: Command) -> u8
 }
 
 // The first address, which a script sends by its second command, with the lowest bit cleared.
+#[tactic(auto, using(crate::proofs::Laws::commands_second), unfolding(crate::specs::Script::device, crate::specs::Script::first_address))]
 pub fn device(script: &[u8]) -> u8
     ensures { result ≡ device script.now }
 {

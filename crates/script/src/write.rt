@@ -12,6 +12,7 @@ pub enum Wrote {
     Refused(Refusal),
 }
 
+#[tactic(auto, unfolding(crate::specs::Scripts::read_byte_script))]
 pub fn read_byte_script(device: u8, offset: u8) -> [u8; 10]
     ensures { result ≡ read_byte_script device offset }
 {
@@ -29,12 +30,14 @@ pub fn read_byte_script(device: u8, offset: u8) -> [u8; 10]
     ]
 }
 
+#[tactic(auto, unfolding(crate::specs::Scripts::write_byte_script))]
 pub fn write_byte_script(device: u8, offset: u8, value: u8) -> [u8; 8]
     ensures { result ≡ write_byte_script device offset value }
 {
     [0x10, 0x20, device, 0x20, offset, 0x20, value, 0x40]
 }
 
+#[tactic(auto, unfolding(crate::specs::Scripts::read_combined_script))]
 pub fn read_combined_script(device: u8, reg: u16) -> [u8; 16]
     ensures { result ≡ read_combined_script device reg }
 {
@@ -61,6 +64,7 @@ pub fn read_combined_script(device: u8, reg: u16) -> [u8; 16]
     ]
 }
 
+#[tactic(auto, unfolding(crate::specs::Scripts::write_combined_script))]
 pub fn write_combined_script(device: u8, reg: u16, value: u16) -> [u8; 14]
     ensures { result ≡ write_combined_script device reg value }
 {
@@ -75,12 +79,14 @@ pub fn write_combined_script(device: u8, reg: u16, value: u16) -> [u8; 14]
     ]
 }
 
+#[tactic(auto, unfolding(crate::specs::Scripts::is_even))]
 fn even(device: u8) -> bool
     ensures { result ≡ is_even device }
 {
     device % 2 == 0
 }
 
+#[tactic(auto, using(crate::proofs::Laws::put_all, crate::proofs::Laws::put_one))]
 fn put(buffer: &mut [u8], script: &[u8])
     requires { length script.now ≤ length buffer.old }
     ensures { buffer.new ≡ script.now ++ drop (length script.now) buffer.old }
@@ -93,6 +99,7 @@ fn put(buffer: &mut [u8], script: &[u8])
 }
 
 // Questions 3 and 9, and then the script's bytes.
+#[tactic(auto, unfolding(crate::specs::Scripts::write_script, crate::specs::Scripts::wrote_as, hardware::specs::Prog::pick))]
 fn write(buffer: &mut [u8], device: u8, script: &[u8]) -> Wrote
     ensures { wrote_as result buffer.new ≡ write_script device script.now buffer.old }
 {

@@ -1,4 +1,6 @@
 // SFP+ modules: their classes by SFF-8472, and what the driver records of one.
+#![tactic(auto)]
+
 ghost use Rattle.std.specs.Prelude.{◌≡◌};
 ghost use Rattle.sfp.specs.Kinds.{kind_number, is_kind};
 
@@ -77,6 +79,7 @@ pub fn number(kind: Kind) -> u8
 }
 
 // Whether the two are one kind.
+#[tactic(auto, unfolding(crate::specs::Kinds::is_kind))]
 pub fn same(kind: Kind, other: Kind) -> bool
     ensures { result ≡ is_kind kind other }
 {

@@ -57,6 +57,7 @@ pub fn present(m: Module) -> bool
 }
 
 // 1G only.
+#[tactic(auto, unfolding(crate::specs::Module::is_one_gig))]
 pub fn one_gig(m: Module) -> bool
     ensures { result ≡ is_one_gig m.identity.kind }
 {
@@ -84,6 +85,7 @@ pub fn linear(m: Module) -> bool
 }
 
 // Something answered, and a rule fits it.
+#[tactic(auto, unfolding(crate::specs::Module::is_known))]
 fn known(m: Module) -> bool
     ensures { result ≡ is_known m.identity.kind }
 {
@@ -96,6 +98,7 @@ fn known(m: Module) -> bool
 }
 
 // Whether the family takes the module.
+#[tactic(auto, unfolding(crate::specs::Module::is_supported))]
 pub fn supported(m: Module, family: Family) -> bool
     ensures { result ≡ is_supported m.identity.kind family }
 {
@@ -111,6 +114,7 @@ pub fn supported(m: Module, family: Family) -> bool
 }
 
 // The key of the 82599's NVM sequence for the module on a port.
+#[tactic(auto, unfolding(crate::specs::Module::key_of, hardware::specs::Prog::pick))]
 pub fn nvm_key(m: Module, lan: u8) -> Key
     ensures { result ≡ key_of m.identity.kind lan }
 {

@@ -24,6 +24,7 @@ pub struct QsfpBytes {
     pub b93: u8,
 }
 
+#[tactic(auto, unfolding(crate::specs::Qsfp::qsfp_recorded))]
 fn multispeed(g10: u8, g1: u8) -> bool
     ensures { result ≡ (qsfp_recorded g10 g1 Unknown).multispeed }
 {
@@ -33,6 +34,7 @@ fn multispeed(g10: u8, g1: u8) -> bool
     class::both(g1, class::LX, g10, class::LR)
 }
 
+#[tactic(auto, unfolding(crate::specs::Qsfp::qsfp_recorded))]
 pub fn qsfp_recorded(g10: u8, g1: u8, kind: Kind) -> Identity
     ensures { result ≡ qsfp_recorded g10 g1 kind }
 {
@@ -47,6 +49,7 @@ pub fn qsfp_recorded(g10: u8, g1: u8, kind: Kind) -> Identity
 }
 
 // The kind, where byte 83 decides it.
+#[tactic(auto, unfolding(crate::specs::Coded::qsfp_coded, hardware::specs::Prog::pick))]
 pub fn coded(g10: u8) -> Coded
     ensures { result ≡ qsfp_coded g10 }
 {
@@ -77,6 +80,7 @@ pub fn measured(metres: u8) -> bool
 }
 
 // A cable by byte 93, whose high half is the transmitter's technology.
+#[tactic(auto, unfolding(crate::specs::Coded::qsfp_cable, hardware::specs::Prog::pick))]
 pub fn cable_of(technology: u8) -> Kind
     ensures { result ≡ qsfp_cable technology }
 {
@@ -87,6 +91,7 @@ pub fn cable_of(technology: u8) -> Kind
 }
 
 // The kind where byte 83 does not decide it.
+#[tactic(auto, unfolding(hardware::specs::Prog::pick))]
 fn cabled(b: QsfpBytes) -> Kind
     ensures { result ≡ pick (b.b82 == 0x23) (pick (nat_lt 0 b.b92) (qsfp_cable b.b93) Unknown) Unknown }
 {
@@ -98,6 +103,7 @@ fn cabled(b: QsfpBytes) -> Kind
     Kind::Unknown
 }
 
+#[tactic(auto, using(crate::proofs::Laws::qsfp_coded_kind), unfolding(crate::specs::Bytes::qsfp_bytes, hardware::specs::Prog::pick))]
 fn kind_of(b: QsfpBytes) -> Kind
     ensures { result ≡ qsfp_kind_of (qsfp_bytes b) }
 {
@@ -108,6 +114,7 @@ fn kind_of(b: QsfpBytes) -> Kind
 }
 
 // The class of a module with these bytes.
+#[tactic(auto, using(crate::proofs::Laws::qsfp_recorded_class), unfolding(crate::specs::Classes::qsfp_class_of, crate::specs::Bytes::qsfp_bytes, hardware::specs::Prog::pick))]
 pub fn qsfp_class(b: QsfpBytes) -> Classed
     ensures { classed result ≡ qsfp_class_of (qsfp_bytes b) }
 {

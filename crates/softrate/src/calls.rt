@@ -31,6 +31,7 @@ pub enum RateTold {
     Refused(Refusal),
 }
 
+#[tactic(auto, using(bus::proofs::Laws::picked, hardware::proofs::Laws::held_on, hardware::proofs::Prog::asked_on), unfolding(crate::specs::Calls::said_rate, crate::specs::Walk::rate_next, crate::specs::Calls::stands_rate, crate::specs::Calls::valid_call, crate::specs::Walk::valid_rate_next, hardware::specs::Prog::tally))]
 fn told(port: Port, q: Sequence, ten: bool, m: Meter, n: RateNext) -> RateTold
     ensures { Keeps (m.transfers < FULL → said_rate result ≡ yes (tally m (rate_next q port ten n))) (valid_held port m ≡ true → valid_rate_next port ten m n ≡ true → stands_rate result) }
 {
@@ -44,6 +45,7 @@ fn told(port: Port, q: Sequence, ten: bool, m: Meter, n: RateNext) -> RateTold
 }
 
 // The call from its first byte on.
+#[tactic(auto, using(hardware::proofs::Laws::held_blank, hardware::proofs::Prog::tally_erase, crate::proofs::Laws::first_placed), unfolding(crate::specs::Spot::valid_spot, crate::specs::Spot::cap_at, crate::specs::Spot::before, crate::specs::Spot::up_to, crate::specs::Spot::tries_at, hardware::specs::Prog::pick))]
 fn opened(port: Port, q: Sequence, ten: bool) -> RateTold
     ensures { Keeps (said_rate result ≡ yes (tally blank (soft_rate_select q port ten))) (valid_port port ≡ true → stands_rate result) }
 {
@@ -56,6 +58,7 @@ fn opened(port: Port, q: Sequence, ten: bool) -> RateTold
 }
 
 // Questions 1 and 2. ten: 10G is selected, else 1G. sequence: the clearing after a failed attempt, by its name.
+#[tactic(auto, using(hardware::proofs::Laws::opened_valid), unfolding(crate::specs::Calls::open_rate, hardware::specs::Asked::and_then, hardware::specs::Asked::port_opened, crate::specs::Calls::said_rate, crate::specs::Calls::stands_rate))]
 pub fn soft_rate_select_open_with(
     family: u32,
     device: u16,
@@ -78,6 +81,7 @@ pub fn soft_rate_select_open(family: u32, device: u16, lan: u32, ten: bool) -> R
     soft_rate_select_open_with(family, device, lan, ten, i2c::standard())
 }
 
+#[tactic(auto, unfolding(crate::specs::Calls::valid_call, hardware::specs::Prog::pick))]
 fn valid(port: Port, ten: bool, m: Meter, t: Rate) -> bool
     ensures { result ≡ valid_call port ten m t }
 {
@@ -88,6 +92,7 @@ fn valid(port: Port, ten: bool, m: Meter, t: Rate) -> bool
 }
 
 // A step inside a command.
+#[tactic(auto, using(i2c::proofs::Moves::went_map, crate::proofs::Moves::rate_on), unfolding(i2c::specs::Direct::WentBy))]
 fn direct(port: Port, ten: bool, m: Meter, t: Rate, a: Answer) -> Went
     ensures { WentBy (λ x g. (q : Sequence) → Keeps (said_rate (RateTold.Ask x (RateCall.Going port q ten m (record { spot = t.spot; request = g }))) ≡ step_rate (RateCall.Going port q ten m t) a) (stands_rate (RateTold.Ask x (RateCall.Going port q ten m (record { spot = t.spot; request = g }))))) result }
 {
@@ -111,6 +116,7 @@ fn direct(port: Port, ten: bool, m: Meter, t: Rate, a: Answer) -> Went
 }
 
 // Questions 10 to 12, one after the other.
+#[tactic(auto, using(bus::proofs::Laws::picked_first, bus::proofs::Laws::picked_second, hardware::proofs::Laws::admits_no, hardware::proofs::Laws::admits_valid, hardware::proofs::Laws::admits_yes, hardware::proofs::Prog::tally_erase, crate::proofs::Laws::valid_below), unfolding(crate::specs::Calls::step_rate, crate::specs::Calls::valid_call, crate::specs::Calls::said_rate, crate::specs::Calls::stands_rate))]
 pub fn plain(s: RateCall, a: Answer) -> RateTold
     ensures { Keeps (said_rate result ≡ step_rate s a) (stands_rate result) }
 {
@@ -126,6 +132,7 @@ pub fn plain(s: RateCall, a: Answer) -> RateTold
 }
 
 // The same: the direct way where there is one, else the plain one.
+#[tactic(auto, unfolding(i2c::specs::Direct::WentBy))]
 pub fn soft_rate_select_step(s: RateCall, a: Answer) -> RateTold
     ensures { Keeps (said_rate result ≡ step_rate s a) (stands_rate result) }
 {

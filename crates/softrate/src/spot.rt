@@ -22,6 +22,7 @@ pub struct Spot {
 
 const DIAG: u8 = 0xa2;
 
+#[tactic(auto, unfolding(crate::specs::Spot::offset_of))]
 fn offset(second: bool) -> u8
     ensures { result ≡ offset_of second }
 {
@@ -31,6 +32,7 @@ fn offset(second: bool) -> u8
     0x6e
 }
 
+#[tactic(auto, unfolding(crate::specs::Spot::request_of))]
 fn requested(ten: bool, second: bool, p: Place) -> Request
     ensures { result ≡ request_of ten second p }
 {
@@ -42,6 +44,7 @@ fn requested(ten: bool, second: bool, p: Place) -> Request
     }
 }
 
+#[tactic(auto, unfolding(crate::specs::Spot::request_at))]
 pub fn request(ten: bool, s: Spot) -> Request
     ensures { result ≡ request_at ten s }
 {
@@ -50,6 +53,7 @@ pub fn request(ten: bool, s: Spot) -> Request
 }
 
 // A write has two attempts.
+#[tactic(auto, using(i2c::proofs::Laws::attempts_few), unfolding(crate::specs::Spot::tries_at))]
 pub fn tries(port: Port, p: Place) -> u8
     ensures { result ≡ tries_at port p }
 {
@@ -60,6 +64,7 @@ pub fn tries(port: Port, p: Place) -> u8
 }
 
 // The most transfers of a byte up to a request's end.
+#[tactic(auto, using(i2c::proofs::Laws::attempts_few), unfolding(crate::specs::Spot::up_to))]
 fn up_to(port: Port, p: Place) -> u32
     ensures { result ≡ up_to port p }
 {
@@ -70,6 +75,7 @@ fn up_to(port: Port, p: Place) -> u32
 }
 
 // The most transfers before a byte.
+#[tactic(auto, using(i2c::proofs::Laws::attempts_few), unfolding(crate::specs::Spot::before, hardware::specs::Prog::pick))]
 fn before(port: Port, second: bool) -> u32
     ensures { result ≡ before port second }
 {
@@ -80,6 +86,7 @@ fn before(port: Port, second: bool) -> u32
 }
 
 // The most transfers up to this spot's end.
+#[tactic(auto, using(i2c::proofs::Laws::attempts_few, crate::proofs::Laws::before_fits, crate::proofs::Laws::up_done), unfolding(crate::specs::Spot::cap_at))]
 pub fn cap(port: Port, s: Spot) -> u32
     ensures { result ≡ cap_at port s }
 {
@@ -88,6 +95,7 @@ pub fn cap(port: Port, s: Spot) -> u32
 }
 
 // Before the first byte nothing has failed.
+#[tactic(auto, unfolding(crate::specs::Spot::valid_spot, hardware::specs::Prog::pick))]
 pub fn valid(s: Spot) -> bool
     ensures { result ≡ valid_spot s }
 {

@@ -28,6 +28,7 @@ pub enum RateNext {
 }
 
 // A locked request has an access at once, so that the second arm is never met.
+#[tactic(auto, using(bus::proofs::Laws::picked, i2c::proofs::Request::begun_valid, i2c::proofs::Request::own_allows, i2c::proofs::Request::request_asks, i2c::proofs::Request::request_begun, crate::proofs::Laws::cap_most, crate::proofs::Laws::own), unfolding(crate::specs::Walk::rate_next, crate::specs::Walk::access_rate, crate::specs::Walk::rest_rate, crate::specs::Spot::placed, crate::specs::Walk::valid_rate_next, crate::specs::Walk::valid_rate))]
 pub fn begin(port: Port, q: Sequence, ten: bool, s: Spot) -> RateNext
     ensures { Keeps (rate_next q port ten result ≡ erase (placed q port ten s)) ((m : Meter) → valid_spot s ≡ true → m.transfers + tries_at port s.place ≤ cap_at port s → valid_rate_next port ten m result ≡ true) }
 {
@@ -53,6 +54,7 @@ pub fn begin(port: Port, q: Sequence, ten: bool, s: Spot) -> RateNext
 }
 
 // A byte is done, well or not: the second follows, or the end.
+#[tactic(auto, using(crate::proofs::Laws::cap_next, crate::proofs::Laws::next_placed), unfolding(crate::specs::Walk::rate_next, crate::specs::Spot::next_byte, hardware::specs::Registers::flag, hardware::specs::Prog::erase, crate::specs::Walk::valid_rate_next, crate::specs::Spot::valid_spot, hardware::specs::Prog::pick))]
 fn next_byte(port: Port, q: Sequence, ten: bool, second: bool, ok: bool) -> RateNext
     ensures { Keeps (rate_next q port ten result ≡ erase (next_byte q port ten second ok)) ((m : Meter) → m.transfers ≤ before port second + (attempts port + 2) → valid_rate_next port ten m result ≡ true) }
 {
@@ -72,6 +74,7 @@ fn next_byte(port: Port, q: Sequence, ten: bool, second: bool, ok: bool) -> Rate
 }
 
 // Nothing answered, and the next byte has its turn; any other failure ends the call.
+#[tactic(auto, using(crate::proofs::Laws::cap_done), unfolding(crate::specs::Spot::told_at, i2c::specs::Handshake::valued, i2c::specs::I2c::value_of, sfp::specs::Rate::or_not, hardware::specs::Prog::pick, crate::specs::Walk::rate_next, hardware::specs::Registers::flag, hardware::specs::Prog::erase, crate::specs::Walk::valid_rate_next))]
 fn failed(port: Port, q: Sequence, ten: bool, s: Spot, e: Error) -> RateNext
     ensures { Keeps (rate_next q port ten result ≡ erase (told_at q port ten s (Err (failure_of e)))) ((m : Meter) → m.transfers ≤ cap_at port s → valid_rate_next port ten m result ≡ true) }
 {
@@ -82,6 +85,7 @@ fn failed(port: Port, q: Sequence, ten: bool, s: Spot, e: Error) -> RateNext
 }
 
 // A byte was read, or written.
+#[tactic(auto, using(crate::proofs::Laws::cap_done, crate::proofs::Laws::read_room, crate::proofs::Laws::write_placed), unfolding(crate::specs::Spot::valid_spot, crate::specs::Spot::on_place))]
 fn on(port: Port, q: Sequence, ten: bool, s: Spot, v: u8) -> RateNext
     ensures { Keeps (rate_next q port ten result ≡ erase (on_place q port ten s.second s.ok s.place v)) ((m : Meter) → valid_spot s ≡ true → m.transfers ≤ cap_at port s → valid_rate_next port ten m result ≡ true) }
 {
@@ -102,6 +106,7 @@ fn on(port: Port, q: Sequence, ten: bool, s: Spot, v: u8) -> RateNext
 }
 
 // A request has ended.
+#[tactic(auto, using(crate::proofs::Laws::on_told), unfolding(transfer::specs::Attempt::got))]
 fn concluded(port: Port, q: Sequence, ten: bool, s: Spot, g: Got) -> RateNext
     ensures { Keeps (rate_next q port ten result ≡ erase (told_at q port ten s (got g))) ((m : Meter) → valid_spot s ≡ true → m.transfers ≤ cap_at port s → valid_rate_next port ten m result ≡ true) }
 {
@@ -111,6 +116,7 @@ fn concluded(port: Port, q: Sequence, ten: bool, s: Spot, g: Got) -> RateNext
     }
 }
 
+#[tactic(auto, using(bus::proofs::Laws::picked, hardware::proofs::Prog::going_on, i2c::proofs::Laws::fits_valid, crate::proofs::Laws::cap_most), unfolding(crate::specs::Walk::rate_next, crate::specs::Walk::access_rate, crate::specs::Walk::rest_rate, i2c::specs::Handshake::rest_request, crate::specs::Spot::told_at, i2c::specs::Handshake::handshake_next, i2c::specs::Handshake::valid_handshake_next, i2c::specs::Handshake::due_handshake_next, crate::specs::Walk::valid_rate_next, crate::specs::Walk::valid_rate, hardware::specs::Prog::followed))]
 fn from_request(port: Port, q: Sequence, ten: bool, s: Spot, n: HandshakeNext) -> RateNext
     ensures { Keeps (rate_next q port ten result ≡ followed (handshake_next port (request_at ten s) (locked q) n) (told_at q port ten s)) ((m : Meter) → valid_spot s ≡ true → valid_handshake_next (tries_at port s.place) port (request_at ten s) n ≡ true → m.transfers + due_handshake_next (request_at ten s) n ≤ cap_at port s → valid_rate_next port ten m result ≡ true) }
 {
@@ -126,6 +132,7 @@ fn from_request(port: Port, q: Sequence, ten: bool, s: Spot, n: HandshakeNext) -
     }
 }
 
+#[tactic(auto, unfolding(crate::specs::Walk::access_rate))]
 pub fn access(port: Port, s: Rate) -> Access
     ensures { result ≡ access_rate port s }
 {
@@ -133,6 +140,7 @@ pub fn access(port: Port, s: Rate) -> Access
     i2c::handshake::access(port, t)
 }
 
+#[tactic(auto, unfolding(crate::specs::Walk::valid_rate, hardware::specs::Prog::pick))]
 pub fn valid(port: Port, ten: bool, m: Meter, s: Rate) -> bool
     ensures { result ≡ valid_rate port ten m s }
 {
@@ -152,6 +160,7 @@ pub fn valid(port: Port, ten: bool, m: Meter, s: Rate) -> bool
     false
 }
 
+#[tactic(auto, using(bus::proofs::Laws::picked_first, bus::proofs::Laws::picked_second, i2c::proofs::Laws::valid_fits, hardware::proofs::Prog::over), unfolding(crate::specs::Walk::rest_rate, i2c::specs::Handshake::rest_request, crate::specs::Spot::told_at, crate::specs::Walk::valid_rate))]
 pub fn step(port: Port, q: Sequence, ten: bool, s: Rate, a: Answer) -> RateNext
     ensures { Keeps (rate_next q port ten result ≡ erase (rest_rate q port ten s a)) ((m : Meter) → valid_rate port ten m s ≡ true → valid_rate_next port ten m result ≡ true) }
 {

@@ -39,6 +39,7 @@ pub enum AcquireBitsNext {
 }
 
 // The bits of SW_FW_SYNC that stand against the mask.
+#[tactic(auto, unfolding(crate::specs::Resource::against, hardware::specs::Change::access_update, hardware::specs::Change::rest_update, crate::specs::Resource::valid_acquire_stage, crate::specs::Resource::valid_acquire_bits))]
 fn all(family: Family, mask: u32) -> u32
     ensures { result ≡ against family mask }
 {
@@ -46,6 +47,7 @@ fn all(family: Family, mask: u32) -> u32
     m.sw | m.fw | m.hw
 }
 
+#[tactic(auto, using(hardware::proofs::Prog::going), unfolding(crate::specs::Resource::acquire_bits_next, crate::specs::Resource::access_acquire_bits, crate::specs::Resource::access_acquire_stage, crate::specs::Resource::rest_acquire_bits, crate::specs::Resource::rest_acquire_stage, crate::specs::Lock::lock_next, crate::specs::Resource::valid_acquire_bits_next, crate::specs::Resource::valid_acquire_bits, crate::specs::Resource::valid_acquire_stage, hardware::specs::Prog::pick, crate::specs::Lock::valid_lock_next, hardware::specs::Prog::followed, hardware::specs::Prog::erase, hardware::specs::Prog::or_err, hardware::specs::Registers::outcome, crate::specs::Resource::try_read, hardware::specs::Change::access_update, hardware::specs::Change::rest_update))]
 fn locking(port: Port, mask: u32, left: u32, n: LockNext) -> AcquireBitsNext
     ensures result_value { acquire_bits_next port mask result ≡ followed (lock_next port.family n) (or_err (λ _. try_read port mask left)) }
     ensures result_value_2 { left < tries_of port.family → valid_lock_next n ≡ true → valid_acquire_bits_next port.family result ≡ true }
@@ -65,6 +67,7 @@ fn locking(port: Port, mask: u32, left: u32, n: LockNext) -> AcquireBitsNext
     }
 }
 
+#[tactic(auto, using(hardware::proofs::Laws::one_less, hardware::proofs::Prog::over, crate::proofs::Laws::acquire_more), unfolding(crate::specs::Resource::acquire_tries, hardware::specs::Prog::erase, crate::specs::Resource::acquire_bits_next, hardware::specs::Registers::outcome, crate::specs::Resource::valid_acquire_bits_next, hardware::specs::Failures::failure_of))]
 pub fn open(port: Port, mask: u32, tries: u32, held: u32) -> AcquireBitsNext
     ensures result_value { acquire_bits_next port mask result ≡ erase (acquire_tries port mask tries held) }
     ensures result_value_2 { tries ≤ tries_of port.family → valid_acquire_bits_next port.family result ≡ true }
@@ -76,6 +79,7 @@ pub fn open(port: Port, mask: u32, tries: u32, held: u32) -> AcquireBitsNext
     locking(port, mask, tries - 1, crate::lock::open(family))
 }
 
+#[tactic(auto, unfolding(crate::specs::Resource::acquire_bits_next, crate::specs::Resource::access_acquire_bits, crate::specs::Resource::access_acquire_stage, crate::specs::Resource::rest_acquire_bits, crate::specs::Resource::rest_acquire_stage, hardware::specs::Prog::erase, hardware::specs::Prog::pick, crate::specs::Resource::muxed, hardware::specs::Change::change, hardware::specs::Change::access_update, hardware::specs::Change::rest_update, crate::specs::Resource::valid_acquire_stage, crate::specs::Resource::valid_acquire_bits, crate::specs::Resource::valid_acquire_bits_next, hardware::specs::Registers::outcome))]
 fn mux(port: Port, mask: u32, left: u32) -> AcquireBitsNext
     ensures result_value { acquire_bits_next port mask result ≡ erase (muxed port mask true) }
     ensures result_value_2 { left < tries_of port.family → valid_acquire_bits_next port.family result ≡ true }
@@ -89,6 +93,7 @@ fn mux(port: Port, mask: u32, left: u32) -> AcquireBitsNext
     AcquireBitsNext::End(Outcome::Ok)
 }
 
+#[tactic(auto, unfolding(crate::specs::Resource::acquire_bits_next, crate::specs::Resource::access_acquire_bits, crate::specs::Resource::access_acquire_stage, crate::specs::Resource::rest_acquire_bits, crate::specs::Resource::rest_acquire_stage, hardware::specs::Change::update_next, hardware::specs::Prog::pick, hardware::specs::Change::access_update, hardware::specs::Change::rest_update, crate::specs::Resource::valid_acquire_stage, crate::specs::Resource::valid_acquire_bits, crate::specs::Resource::valid_acquire_bits_next))]
 fn muxing(port: Port, mask: u32, left: u32, n: UpdateNext) -> AcquireBitsNext
     ensures result_value { acquire_bits_next port mask result ≡ update_next (set_mux true) n }
     ensures result_value_2 { left < tries_of port.family → valid_acquire_bits_next port.family result ≡ true }
@@ -102,6 +107,7 @@ fn muxing(port: Port, mask: u32, left: u32, n: UpdateNext) -> AcquireBitsNext
     }
 }
 
+#[tactic(auto, unfolding(hardware::specs::Prog::or_err, hardware::specs::Registers::outcome, crate::specs::Resource::taken, hardware::specs::Change::access_update, hardware::specs::Change::rest_update, crate::specs::Resource::valid_acquire_stage, crate::specs::Resource::valid_acquire_bits, crate::specs::Resource::acquire_bits_next, hardware::specs::Prog::erase, crate::specs::Resource::valid_acquire_bits_next))]
 fn wrote(port: Port, mask: u32, left: u32, w: Outcome) -> AcquireBitsNext
     ensures result_value { acquire_bits_next port mask result ≡ erase (taken port mask (outcome w)) }
     ensures result_value_2 { left < tries_of port.family → valid_acquire_bits_next port.family result ≡ true }
@@ -112,6 +118,7 @@ fn wrote(port: Port, mask: u32, left: u32, w: Outcome) -> AcquireBitsNext
     }
 }
 
+#[tactic(auto, using(hardware::proofs::Prog::going), unfolding(crate::specs::Resource::acquire_bits_next, crate::specs::Resource::access_acquire_bits, crate::specs::Resource::access_acquire_stage, crate::specs::Resource::rest_acquire_bits, crate::specs::Resource::rest_acquire_stage, crate::specs::Lock::unlock_next, crate::specs::Resource::valid_acquire_bits_next, crate::specs::Resource::valid_acquire_bits, crate::specs::Resource::valid_acquire_stage, hardware::specs::Prog::pick, hardware::specs::Prog::followed, hardware::specs::Prog::or_err, hardware::specs::Registers::outcome, hardware::specs::Change::access_update, hardware::specs::Change::rest_update, hardware::specs::Prog::erase))]
 fn taking(port: Port, mask: u32, left: u32, w: Outcome, n: UnlockNext) -> AcquireBitsNext
     ensures result_value { acquire_bits_next port mask result ≡ followed (unlock_next port.family n) (or_err (λ _. taken port mask (outcome w))) }
     ensures result_value_2 { left < tries_of port.family → valid_acquire_bits_next port.family result ≡ true }
@@ -128,6 +135,7 @@ fn taking(port: Port, mask: u32, left: u32, w: Outcome, n: UnlockNext) -> Acquir
     }
 }
 
+#[tactic(auto, using(hardware::proofs::Prog::going), unfolding(crate::specs::Resource::acquire_bits_next, crate::specs::Resource::access_acquire_bits, crate::specs::Resource::access_acquire_stage, crate::specs::Resource::rest_acquire_bits, crate::specs::Resource::rest_acquire_stage, crate::specs::Lock::unlock_next, crate::specs::Resource::valid_acquire_bits_next, crate::specs::Resource::valid_acquire_bits, crate::specs::Resource::valid_acquire_stage, hardware::specs::Prog::pick, hardware::specs::Prog::followed, hardware::specs::Prog::erase, hardware::specs::Prog::or_err, hardware::specs::Registers::outcome, crate::specs::Resource::try_again, hardware::specs::Change::access_update, hardware::specs::Change::rest_update))]
 fn unlocking(port: Port, mask: u32, left: u32, held: u32, n: UnlockNext) -> AcquireBitsNext
     ensures result_value { acquire_bits_next port mask result ≡ followed (unlock_next port.family n) (or_err (λ _. try_again port mask left held)) }
     ensures result_value_2 { left < tries_of port.family → valid_acquire_bits_next port.family result ≡ true }
@@ -147,6 +155,7 @@ fn unlocking(port: Port, mask: u32, left: u32, held: u32, n: UnlockNext) -> Acqu
     }
 }
 
+#[tactic(auto, using(hardware::proofs::Prog::over), unfolding(hardware::specs::Registers::word, crate::specs::Resource::sync_seen, hardware::specs::Prog::pick, crate::specs::Resource::free, hardware::specs::Prog::erase, crate::specs::Resource::acquire_bits_next, crate::specs::Resource::access_acquire_bits, crate::specs::Resource::access_acquire_stage, crate::specs::Resource::rest_acquire_bits, crate::specs::Resource::rest_acquire_stage, crate::specs::Resource::valid_acquire_bits_next, crate::specs::Resource::valid_acquire_bits, crate::specs::Resource::valid_acquire_stage, crate::specs::Resource::try_again, crate::specs::Resource::taken, hardware::specs::Prog::or_err, hardware::specs::Registers::outcome))]
 fn seen(port: Port, mask: u32, left: u32, w: Word) -> AcquireBitsNext
     ensures result_value { acquire_bits_next port mask result ≡ erase (sync_seen port mask (acquire_tries port mask left) (word w)) }
     ensures result_value_2 { left < tries_of port.family → valid_acquire_bits_next port.family result ≡ true }
@@ -180,6 +189,7 @@ fn seen(port: Port, mask: u32, left: u32, w: Word) -> AcquireBitsNext
     }
 }
 
+#[tactic(auto, unfolding(crate::specs::Resource::access_acquire_stage, crate::specs::Resource::access_acquire_bits))]
 fn stage_access(port: Port, mask: u32, s: Stage) -> Access
     ensures { result ≡ access_acquire_stage port mask s }
 {
@@ -195,6 +205,7 @@ fn stage_access(port: Port, mask: u32, s: Stage) -> Access
     }
 }
 
+#[tactic(auto, unfolding(crate::specs::Resource::access_acquire_stage, crate::specs::Resource::access_acquire_bits))]
 pub fn access(port: Port, mask: u32, s: AcquireBits) -> Access
     ensures { result ≡ access_acquire_bits port mask s }
 {
@@ -202,6 +213,7 @@ pub fn access(port: Port, mask: u32, s: AcquireBits) -> Access
     stage_access(port, mask, stage)
 }
 
+#[tactic(auto, using(hardware::proofs::Prog::over), unfolding(crate::specs::Resource::rest_acquire_stage, crate::specs::Resource::rest_acquire_bits, crate::specs::Resource::valid_acquire_stage))]
 fn stage_step(port: Port, mask: u32, left: u32, s: Stage, a: Answer) -> AcquireBitsNext
     ensures result_value { acquire_bits_next port mask result ≡ erase (rest_acquire_stage port mask left s a) }
     ensures result_value_2 { left < tries_of port.family → valid_acquire_stage s ≡ true → valid_acquire_bits_next port.family result ≡ true }
@@ -235,6 +247,7 @@ fn stage_step(port: Port, mask: u32, left: u32, s: Stage, a: Answer) -> AcquireB
     }
 }
 
+#[tactic(auto, using(hardware::proofs::Laws::both_true), unfolding(crate::specs::Resource::rest_acquire_stage, crate::specs::Resource::rest_acquire_bits, crate::specs::Resource::valid_acquire_bits))]
 pub fn step(port: Port, mask: u32, s: AcquireBits, a: Answer) -> AcquireBitsNext
     ensures result_value { acquire_bits_next port mask result ≡ erase (rest_acquire_bits port mask s a) }
     ensures result_value_2 { valid_acquire_bits port.family s ≡ true → valid_acquire_bits_next port.family result ≡ true }
@@ -243,6 +256,7 @@ pub fn step(port: Port, mask: u32, s: AcquireBits, a: Answer) -> AcquireBitsNext
     stage_step(port, mask, s.left, stage, a)
 }
 
+#[tactic(auto, unfolding(crate::specs::Resource::valid_acquire_stage, hardware::specs::Prog::pick, crate::specs::Resource::valid_acquire_bits))]
 fn stage_valid(s: Stage) -> bool
     ensures { result ≡ valid_acquire_stage s }
 {
@@ -257,6 +271,7 @@ fn stage_valid(s: Stage) -> bool
     }
 }
 
+#[tactic(auto, unfolding(crate::specs::Resource::valid_acquire_bits, hardware::specs::Prog::pick))]
 pub fn valid(family: Family, s: AcquireBits) -> bool
     ensures { result ≡ valid_acquire_bits family s }
 {

@@ -35,6 +35,7 @@ pub enum UnlockTold {
     Refused(Refusal),
 }
 
+#[tactic(auto, unfolding(crate::specs::Calls::said_lock, crate::specs::Lock::lock_next, crate::specs::Calls::stands_lock, crate::specs::Lock::valid_lock_next))]
 fn lock_told(family: Family, n: LockNext) -> LockTold
     ensures { Keeps (said_lock result ≡ yes (lock_next family n)) (valid_lock_next n ≡ true → stands_lock result) }
 {
@@ -47,6 +48,7 @@ fn lock_told(family: Family, n: LockNext) -> LockTold
     }
 }
 
+#[tactic(auto, unfolding(crate::specs::Calls::open_lock, hardware::specs::Asked::and_then, hardware::specs::Asked::family_opened, crate::specs::Calls::said_lock, crate::specs::Calls::stands_lock))]
 pub fn lock_open(family: u32) -> LockTold
     ensures { Keeps (said_lock result ≡ open_lock family) (stands_lock result) }
 {
@@ -56,6 +58,7 @@ pub fn lock_open(family: u32) -> LockTold
     }
 }
 
+#[tactic(auto, using(hardware::proofs::Laws::admits_no, hardware::proofs::Laws::admits_valid, hardware::proofs::Laws::admits_yes), unfolding(crate::specs::Calls::step_lock, crate::specs::Calls::said_lock, crate::specs::Calls::stands_lock))]
 pub fn lock_step(s: LockCall, a: Answer) -> LockTold
     ensures { Keeps (said_lock result ≡ step_lock s a) (stands_lock result) }
 {
@@ -70,6 +73,7 @@ pub fn lock_step(s: LockCall, a: Answer) -> LockTold
     }
 }
 
+#[tactic(auto, unfolding(crate::specs::Calls::said_unlock, crate::specs::Lock::unlock_next, crate::specs::Calls::stands_unlock))]
 fn unlock_told(family: Family, n: UnlockNext) -> UnlockTold
     ensures { Keeps (said_unlock result ≡ yes (unlock_next family n)) (stands_unlock result) }
 {
@@ -82,6 +86,7 @@ fn unlock_told(family: Family, n: UnlockNext) -> UnlockTold
     }
 }
 
+#[tactic(auto, unfolding(crate::specs::Calls::open_unlock, hardware::specs::Asked::and_then, hardware::specs::Asked::family_opened, crate::specs::Calls::said_unlock, crate::specs::Calls::stands_unlock))]
 pub fn unlock_open(family: u32) -> UnlockTold
     ensures { Keeps (said_unlock result ≡ open_unlock family) (stands_unlock result) }
 {
@@ -91,6 +96,7 @@ pub fn unlock_open(family: u32) -> UnlockTold
     }
 }
 
+#[tactic(auto, using(hardware::proofs::Laws::admits_no, hardware::proofs::Laws::admits_yes), unfolding(crate::specs::Calls::step_unlock, crate::specs::Calls::said_unlock, crate::specs::Calls::stands_unlock))]
 pub fn unlock_step(s: UnlockCall, a: Answer) -> UnlockTold
     ensures { Keeps (said_unlock result ≡ step_unlock s a) (stands_unlock result) }
 {

@@ -1,4 +1,6 @@
 // The software/firmware semaphores: the register semaphore, and the bits of SW_FW_SYNC under it.
+#![tactic(auto)]
+
 pub mod acquire_bits;
 pub mod calls;
 pub mod lock;

@@ -29,6 +29,7 @@ pub enum LockNext {
 }
 
 // SWESMBI or REGSMP did not come.
+#[tactic(auto, unfolding(crate::specs::Lock::lapsed, crate::specs::Lock::lock_next, crate::specs::Lock::access_lock, crate::specs::Lock::rest_lock, hardware::specs::Change::change, hardware::specs::Change::access_update, hardware::specs::Change::rest_update, hardware::specs::Prog::erase, crate::specs::Lock::valid_lock_next, crate::specs::Lock::valid_lock))]
 fn lapse(family: Family, held: u32) -> LockNext
     ensures result_value { lock_next family result ≡ erase (lapsed family held) }
     ensures result_value_2 { valid_lock_next result ≡ true }
@@ -36,6 +37,7 @@ fn lapse(family: Family, held: u32) -> LockNext
     LockNext::Going(Lock::Back(held, Update::Reading))
 }
 
+#[tactic(auto, using(hardware::proofs::Prog::going), unfolding(crate::specs::Lock::lock_next, crate::specs::Lock::access_lock, crate::specs::Lock::rest_lock, hardware::specs::Change::update_next, crate::specs::Lock::valid_lock_next, crate::specs::Lock::valid_lock, hardware::specs::Prog::followed, hardware::specs::Prog::erase, hardware::specs::Prog::or_err, hardware::specs::Registers::outcome, hardware::specs::Failures::failure_of))]
 fn back(family: Family, held: u32, n: UpdateNext) -> LockNext
     ensures result_value { lock_next family result ≡ followed (update_next (back_swsm family) n) (or_err (λ _. ret (Err (Semaphore held)))) }
     ensures result_value_2 { valid_lock_next result ≡ true }
@@ -49,6 +51,7 @@ fn back(family: Family, held: u32, n: UpdateNext) -> LockNext
     }
 }
 
+#[tactic(auto, unfolding(crate::specs::Lock::lock_next, crate::specs::Lock::swesmbi_done, hardware::specs::Prog::erase, hardware::specs::Prog::or_err, hardware::specs::Prog::pick, hardware::specs::Registers::outcome, hardware::specs::Registers::flag, crate::specs::Lock::valid_lock_next))]
 fn swesmbi_done(family: Family, v: Flag) -> LockNext
     ensures result_value { lock_next family result ≡ erase (or_err (swesmbi_done family) (flag v)) }
     ensures result_value_2 { valid_lock_next result ≡ true }
@@ -64,6 +67,7 @@ fn swesmbi_done(family: Family, v: Flag) -> LockNext
     }
 }
 
+#[tactic(auto, using(hardware::proofs::Prog::going), unfolding(crate::specs::Lock::swesmbi_next, crate::specs::Lock::rest_lock, crate::specs::Lock::access_lock, crate::specs::Lock::lock_next, crate::specs::Lock::valid_lock_next, crate::specs::Lock::valid_lock, crate::specs::Lock::valid_swesmbi_next, hardware::specs::Prog::followed))]
 fn swesmbi(family: Family, n: SwesmbiNext) -> LockNext
     ensures result_value { lock_next family result ≡ followed (swesmbi_next n) (or_err (swesmbi_done family)) }
     ensures result_value_2 { valid_swesmbi_next n ≡ true → valid_lock_next result ≡ true }
@@ -74,6 +78,7 @@ fn swesmbi(family: Family, n: SwesmbiNext) -> LockNext
     }
 }
 
+#[tactic(auto, unfolding(crate::specs::Lock::lock_next, crate::specs::Lock::regsmp_done, hardware::specs::Prog::erase, hardware::specs::Prog::or_err, hardware::specs::Prog::pick, hardware::specs::Registers::word, hardware::specs::Registers::outcome, crate::specs::Lock::valid_lock_next))]
 fn regsmp_done(family: Family, w: Word) -> LockNext
     ensures result_value { lock_next family result ≡ erase (or_err (regsmp_done family) (word w)) }
     ensures result_value_2 { valid_lock_next result ≡ true }
@@ -89,6 +94,7 @@ fn regsmp_done(family: Family, w: Word) -> LockNext
     }
 }
 
+#[tactic(auto, using(hardware::proofs::Prog::going), unfolding(crate::specs::Lock::rest_lock, crate::specs::Lock::access_lock, crate::specs::Lock::lock_next, hardware::specs::Poll::poll_next, crate::specs::Lock::valid_lock_next, crate::specs::Lock::valid_lock, hardware::specs::Poll::valid_poll_next, hardware::specs::Prog::followed))]
 fn regsmp(family: Family, n: PollNext) -> LockNext
     ensures result_value { lock_next family result ≡ followed (poll_next (regsmp_watch family) n) (or_err (regsmp_done family)) }
     ensures result_value_2 { valid_poll_next TRIES n ≡ true → valid_lock_next result ≡ true }
@@ -99,6 +105,7 @@ fn regsmp(family: Family, n: PollNext) -> LockNext
     }
 }
 
+#[tactic(auto, using(hardware::proofs::Prog::over), unfolding(crate::specs::Lock::second, hardware::specs::Prog::pick))]
 fn second(family: Family) -> LockNext
     ensures result_value { lock_next family result ≡ erase (second family) }
     ensures result_value_2 { valid_lock_next result ≡ true }
@@ -112,6 +119,7 @@ fn second(family: Family) -> LockNext
     )
 }
 
+#[tactic(auto, unfolding(crate::specs::Lock::smbi_done, hardware::specs::Prog::or_err, hardware::specs::Prog::pick, hardware::specs::Registers::word, crate::specs::Lock::lock_next, hardware::specs::Prog::erase, hardware::specs::Registers::outcome, crate::specs::Lock::valid_lock_next, hardware::specs::Failures::failure_of))]
 fn smbi_done(family: Family, w: Word) -> LockNext
     ensures result_value { lock_next family result ≡ erase (or_err (smbi_done family) (word w)) }
     ensures result_value_2 { valid_lock_next result ≡ true }
@@ -127,6 +135,7 @@ fn smbi_done(family: Family, w: Word) -> LockNext
     }
 }
 
+#[tactic(auto, using(hardware::proofs::Prog::going), unfolding(crate::specs::Lock::rest_lock, crate::specs::Lock::access_lock, crate::specs::Lock::lock_next, hardware::specs::Poll::poll_next, crate::specs::Lock::valid_lock_next, crate::specs::Lock::valid_lock, hardware::specs::Poll::valid_poll_next, hardware::specs::Prog::followed))]
 fn smbi(family: Family, n: PollNext) -> LockNext
     ensures result_value { lock_next family result ≡ followed (poll_next (smbi_watch family) n) (or_err (smbi_done family)) }
     ensures result_value_2 { valid_poll_next TRIES n ≡ true → valid_lock_next result ≡ true }
@@ -137,6 +146,7 @@ fn smbi(family: Family, n: PollNext) -> LockNext
     }
 }
 
+#[tactic(auto, using(hardware::proofs::Prog::over), unfolding(crate::specs::Lock::lock))]
 pub fn open(family: Family) -> LockNext
     ensures result_value { lock_next family result ≡ erase (lock family) }
     ensures result_value_2 { valid_lock_next result ≡ true }
@@ -147,6 +157,7 @@ pub fn open(family: Family) -> LockNext
     )
 }
 
+#[tactic(auto, unfolding(crate::specs::Lock::access_lock))]
 pub fn access(family: Family, s: Lock) -> Access
     ensures { result ≡ access_lock family s }
 {
@@ -158,6 +169,7 @@ pub fn access(family: Family, s: Lock) -> Access
     }
 }
 
+#[tactic(auto, using(hardware::proofs::Prog::over), unfolding(crate::specs::Lock::rest_lock, crate::specs::Lock::valid_lock, crate::specs::Lock::lock, crate::specs::Lock::second))]
 pub fn step(family: Family, s: Lock, a: Answer) -> LockNext
     ensures result_value { lock_next family result ≡ erase (rest_lock family s a) }
     ensures result_value_2 { valid_lock s ≡ true → valid_lock_next result ≡ true }
@@ -180,6 +192,7 @@ pub fn step(family: Family, s: Lock, a: Answer) -> LockNext
     }
 }
 
+#[tactic(auto, unfolding(crate::specs::Lock::valid_lock, hardware::specs::Prog::pick))]
 pub fn valid(s: Lock) -> bool
     ensures { result ≡ valid_lock s }
 {

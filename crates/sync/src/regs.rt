@@ -56,12 +56,14 @@ pub struct Masks {
     pub hw: u32,
 }
 
+#[tactic(auto, unfolding(hardware::specs::Prog::pick, crate::specs::Regs::phy))]
 pub fn phy(lan: u8) -> u32
     ensures { result ≡ phy lan }
 {
     if lan == 1 { PHY1 } else { PHY0 }
 }
 
+#[tactic(auto, unfolding(crate::specs::Regs::swsm, crate::specs::Regs::sw_fw_sync, hardware::specs::Prog::pick))]
 pub fn regs(family: Family) -> Addresses
     ensures { (result.swsm ≡ swsm family) × (result.sw_fw_sync ≡ sw_fw_sync family) }
 {
@@ -77,6 +79,7 @@ pub fn regs(family: Family) -> Addresses
     }
 }
 
+#[tactic(auto, unfolding(hardware::specs::Prog::pick, crate::specs::Regs::bits82599))]
 fn bits_82599(mask: u32) -> Masks
     ensures { result ≡ bits82599 mask }
 {
@@ -88,6 +91,7 @@ fn bits_82599(mask: u32) -> Masks
     }
 }
 
+#[tactic(auto, unfolding(hardware::specs::Prog::pick, crate::specs::Regs::bits_x540))]
 fn bits_x540(mask: u32) -> Masks
     ensures { result ≡ bits_x540 mask }
 {
@@ -101,6 +105,7 @@ fn bits_x540(mask: u32) -> Masks
     Masks { sw, fw, hw: FLASH }
 }
 
+#[tactic(auto, unfolding(hardware::specs::Prog::pick, crate::specs::Regs::bits))]
 pub fn bits(family: Family, mask: u32) -> Masks
     ensures { result ≡ bits family mask }
 {
@@ -110,6 +115,7 @@ pub fn bits(family: Family, mask: u32) -> Masks
     bits_x540(mask)
 }
 
+#[tactic(auto, unfolding(hardware::specs::Prog::pick, crate::specs::Regs::mux))]
 pub fn mux(port: Port, mask: u32) -> bool
     ensures { result ≡ mux port mask }
 {
@@ -137,6 +143,7 @@ pub fn tries(family: Family) -> u32
     }
 }
 
+#[tactic(auto, unfolding(hardware::specs::Prog::pick, crate::specs::Regs::smbi_watch))]
 pub fn smbi(family: Family) -> Watch
     ensures { result ≡ smbi_watch family }
 {
@@ -147,6 +154,7 @@ pub fn smbi(family: Family) -> Watch
     }
 }
 
+#[tactic(auto, unfolding(hardware::specs::Prog::pick, crate::specs::Regs::regsmp_watch))]
 pub fn regsmp(family: Family) -> Watch
     ensures { result ≡ regsmp_watch family }
 {
@@ -158,6 +166,7 @@ pub fn regsmp(family: Family) -> Watch
 }
 
 // Our own bits of SWSM given back, and a flush.
+#[tactic(auto, unfolding(crate::specs::Regs::back_swsm, hardware::specs::Prog::pick))]
 pub fn back(family: Family) -> Change
     ensures { result ≡ back_swsm family }
 {
@@ -176,6 +185,7 @@ pub fn back(family: Family) -> Change
     }
 }
 
+#[tactic(auto, unfolding(hardware::specs::Prog::pick, crate::specs::Regs::clear_sync))]
 pub fn clear_sync(family: Family, cleared: u32) -> Change
     ensures { result ≡ clear_sync family cleared }
 {
@@ -186,6 +196,7 @@ pub fn clear_sync(family: Family, cleared: u32) -> Change
     }
 }
 
+#[tactic(auto, unfolding(hardware::specs::Prog::pick, crate::specs::Regs::set_mux))]
 pub fn set_mux(on: bool) -> Change
     ensures { result ≡ set_mux on }
 {
@@ -203,6 +214,7 @@ pub fn set_mux(on: bool) -> Change
     }
 }
 
+#[tactic(auto, unfolding(hardware::specs::Prog::pick, crate::specs::Regs::release_us))]
 pub fn release_us(mask: u32) -> u32
     ensures { result ≡ release_us mask }
 {

@@ -28,12 +28,14 @@ pub enum ReleaseBitsNext {
     End(Outcome),
 }
 
+#[tactic(auto, unfolding(crate::specs::Resource::clear_bits))]
 fn change(family: Family, mask: u32) -> Change
     ensures { result ≡ clear_bits family mask }
 {
     crate::regs::clear_sync(family, crate::regs::bits(family, mask).sw)
 }
 
+#[tactic(auto, unfolding(crate::specs::Resource::release_bits_next, hardware::specs::Prog::erase, hardware::specs::Prog::or_err, hardware::specs::Prog::pick, hardware::specs::Registers::outcome, crate::specs::Resource::settle, crate::specs::Resource::valid_release_bits, crate::specs::Resource::valid_release_bits_next, crate::specs::Resource::access_release_bits, crate::specs::Resource::rest_release_bits))]
 fn finish(port: Port, mask: u32, w: Outcome) -> ReleaseBitsNext
     ensures result_value { release_bits_next port mask result ≡ erase (or_err (λ _. settle port mask) (outcome w)) }
     ensures result_value_2 { valid_release_bits_next result ≡ true }
@@ -50,6 +52,7 @@ fn finish(port: Port, mask: u32, w: Outcome) -> ReleaseBitsNext
     }
 }
 
+#[tactic(auto, using(hardware::proofs::Prog::going), unfolding(crate::specs::Resource::release_bits_next, crate::specs::Resource::access_release_bits, crate::specs::Resource::rest_release_bits, crate::specs::Lock::unlock_next, crate::specs::Resource::valid_release_bits_next, crate::specs::Resource::valid_release_bits, hardware::specs::Prog::followed, hardware::specs::Prog::or_err, hardware::specs::Registers::outcome, hardware::specs::Prog::erase))]
 fn unlocking(port: Port, mask: u32, w: Outcome, n: UnlockNext) -> ReleaseBitsNext
     ensures result_value { release_bits_next port mask result ≡ followed (unlock_next port.family n) (or_err (λ _. or_err (λ _. settle port mask) (outcome w))) }
     ensures result_value_2 { valid_release_bits_next result ≡ true }
@@ -63,6 +66,7 @@ fn unlocking(port: Port, mask: u32, w: Outcome, n: UnlockNext) -> ReleaseBitsNex
     }
 }
 
+#[tactic(auto, using(hardware::proofs::Prog::over), unfolding(crate::specs::Resource::cleared))]
 fn clear_done(port: Port, mask: u32, w: Outcome) -> ReleaseBitsNext
     ensures result_value { release_bits_next port mask result ≡ erase (cleared port mask (outcome w)) }
     ensures result_value_2 { valid_release_bits_next result ≡ true }
@@ -71,6 +75,7 @@ fn clear_done(port: Port, mask: u32, w: Outcome) -> ReleaseBitsNext
     unlocking(port, mask, w, crate::unlock::open(family))
 }
 
+#[tactic(auto, using(hardware::proofs::Prog::going), unfolding(crate::specs::Resource::release_bits_next, crate::specs::Resource::access_release_bits, crate::specs::Resource::rest_release_bits, hardware::specs::Change::update_next, crate::specs::Resource::valid_release_bits_next, crate::specs::Resource::valid_release_bits, hardware::specs::Prog::followed))]
 fn clearing(port: Port, mask: u32, n: UpdateNext) -> ReleaseBitsNext
     ensures result_value { release_bits_next port mask result ≡ followed (update_next (clear_bits port.family mask) n) (cleared port mask) }
     ensures result_value_2 { valid_release_bits_next result ≡ true }
@@ -81,6 +86,7 @@ fn clearing(port: Port, mask: u32, n: UpdateNext) -> ReleaseBitsNext
     }
 }
 
+#[tactic(auto, using(hardware::proofs::Prog::going), unfolding(crate::specs::Resource::release_bits_next, crate::specs::Resource::access_release_bits, crate::specs::Resource::rest_release_bits, crate::specs::Lock::lock_next, crate::specs::Resource::valid_release_bits_next, crate::specs::Resource::valid_release_bits, crate::specs::Lock::valid_lock_next, hardware::specs::Prog::followed, hardware::specs::Prog::erase, hardware::specs::Prog::or_err, hardware::specs::Registers::outcome, crate::specs::Resource::clearing, hardware::specs::Change::change, hardware::specs::Change::access_update, hardware::specs::Change::rest_update))]
 fn locking(port: Port, mask: u32, n: LockNext) -> ReleaseBitsNext
     ensures result_value { release_bits_next port mask result ≡ followed (lock_next port.family n) (or_err (λ _. clearing port mask)) }
     ensures result_value_2 { valid_lock_next n ≡ true → valid_release_bits_next result ≡ true }
@@ -94,6 +100,7 @@ fn locking(port: Port, mask: u32, n: LockNext) -> ReleaseBitsNext
     }
 }
 
+#[tactic(auto, using(hardware::proofs::Prog::over), unfolding(crate::specs::Resource::unmuxed))]
 fn lock(port: Port, mask: u32) -> ReleaseBitsNext
     ensures result_value { release_bits_next port mask result ≡ erase (unmuxed port mask) }
     ensures result_value_2 { valid_release_bits_next result ≡ true }
@@ -102,6 +109,7 @@ fn lock(port: Port, mask: u32) -> ReleaseBitsNext
     locking(port, mask, crate::lock::open(family))
 }
 
+#[tactic(auto, using(hardware::proofs::Prog::going), unfolding(crate::specs::Resource::release_bits_next, crate::specs::Resource::access_release_bits, crate::specs::Resource::rest_release_bits, hardware::specs::Change::update_next, crate::specs::Resource::valid_release_bits_next, crate::specs::Resource::valid_release_bits, hardware::specs::Prog::followed, hardware::specs::Prog::or_err, hardware::specs::Registers::outcome, hardware::specs::Prog::erase))]
 fn muxing(port: Port, mask: u32, n: UpdateNext) -> ReleaseBitsNext
     ensures result_value { release_bits_next port mask result ≡ followed (update_next (set_mux false) n) (or_err (λ _. unmuxed port mask)) }
     ensures result_value_2 { valid_release_bits_next result ≡ true }
@@ -115,6 +123,7 @@ fn muxing(port: Port, mask: u32, n: UpdateNext) -> ReleaseBitsNext
     }
 }
 
+#[tactic(auto, unfolding(crate::specs::Resource::release_bits_next, crate::specs::Resource::access_release_bits, crate::specs::Resource::rest_release_bits, hardware::specs::Prog::erase, hardware::specs::Prog::pick, crate::specs::Resource::muxed, crate::specs::Resource::release_bits, hardware::specs::Change::change, hardware::specs::Change::access_update, hardware::specs::Change::rest_update, crate::specs::Resource::valid_release_bits, crate::specs::Resource::valid_release_bits_next, hardware::specs::Prog::or_err))]
 pub fn open(port: Port, mask: u32) -> ReleaseBitsNext
     ensures result_value { release_bits_next port mask result ≡ erase (release_bits port mask) }
     ensures result_value_2 { valid_release_bits_next result ≡ true }
@@ -125,6 +134,7 @@ pub fn open(port: Port, mask: u32) -> ReleaseBitsNext
     lock(port, mask)
 }
 
+#[tactic(auto, unfolding(crate::specs::Resource::access_release_bits))]
 pub fn access(port: Port, mask: u32, s: ReleaseBits) -> Access
     ensures { result ≡ access_release_bits port mask s }
 {
@@ -138,6 +148,7 @@ pub fn access(port: Port, mask: u32, s: ReleaseBits) -> Access
     }
 }
 
+#[tactic(auto, using(hardware::proofs::Prog::over), unfolding(crate::specs::Resource::rest_release_bits, crate::specs::Resource::valid_release_bits, crate::specs::Resource::release_bits_next, hardware::specs::Prog::erase, hardware::specs::Registers::outcome, crate::specs::Resource::try_again, crate::specs::Resource::settle, crate::specs::Resource::cleared, crate::specs::Resource::clearing, crate::specs::Resource::clear_bits, crate::specs::Resource::against, crate::specs::Resource::unmuxed, crate::specs::Resource::release_bits, hardware::specs::Change::change, hardware::specs::Change::access_update, hardware::specs::Change::rest_update, crate::specs::Resource::valid_acquire_stage, crate::specs::Resource::valid_acquire_bits, crate::specs::Resource::valid_release_bits_next))]
 pub fn step(port: Port, mask: u32, s: ReleaseBits, a: Answer) -> ReleaseBitsNext
     ensures result_value { release_bits_next port mask result ≡ erase (rest_release_bits port mask s a) }
     ensures result_value_2 { valid_release_bits s ≡ true → valid_release_bits_next result ≡ true }
@@ -160,6 +171,7 @@ pub fn step(port: Port, mask: u32, s: ReleaseBits, a: Answer) -> ReleaseBitsNext
     }
 }
 
+#[tactic(auto, unfolding(hardware::specs::Prog::pick, crate::specs::Resource::valid_release_bits))]
 pub fn valid(s: ReleaseBits) -> bool
     ensures { result ≡ valid_release_bits s }
 {

@@ -20,6 +20,7 @@ pub enum UnlockNext {
     End(Outcome),
 }
 
+#[tactic(auto, unfolding(crate::specs::Lock::unlock, hardware::specs::Prog::pick, crate::specs::Lock::unlock_next, crate::specs::Lock::access_unlock, crate::specs::Lock::rest_unlock, hardware::specs::Change::change, hardware::specs::Change::access_update, hardware::specs::Change::rest_update, hardware::specs::Prog::erase))]
 pub fn open(family: Family) -> UnlockNext
     ensures { unlock_next family result ≡ erase (unlock family) }
 {
@@ -29,6 +30,7 @@ pub fn open(family: Family) -> UnlockNext
     UnlockNext::Going(Unlock::Sync(Update::Reading))
 }
 
+#[tactic(auto, unfolding(crate::specs::Lock::access_unlock))]
 pub fn access(family: Family, s: Unlock) -> Access
     ensures { result ≡ access_unlock family s }
 {
@@ -38,6 +40,7 @@ pub fn access(family: Family, s: Unlock) -> Access
     }
 }
 
+#[tactic(auto, using(hardware::proofs::Prog::going), unfolding(crate::specs::Lock::rest_unlock, crate::specs::Lock::access_unlock, crate::specs::Lock::unlock_next, hardware::specs::Change::update_next, hardware::specs::Prog::followed, hardware::specs::Registers::outcome, hardware::specs::Prog::or_err, hardware::specs::Change::change, hardware::specs::Change::access_update, hardware::specs::Change::rest_update, hardware::specs::Prog::erase))]
 fn sync(family: Family, n: UpdateNext) -> UnlockNext
     ensures { unlock_next family result ≡ followed (update_next (clear_sync family REGSMP) n) (or_err (λ _. change (back_swsm family))) }
 {
@@ -50,6 +53,7 @@ fn sync(family: Family, n: UpdateNext) -> UnlockNext
     }
 }
 
+#[tactic(auto, unfolding(crate::specs::Lock::rest_unlock, crate::specs::Lock::access_unlock, crate::specs::Lock::unlock_next, hardware::specs::Change::update_next))]
 fn swsm(family: Family, n: UpdateNext) -> UnlockNext
     ensures { unlock_next family result ≡ update_next (back_swsm family) n }
 {
@@ -59,6 +63,7 @@ fn swsm(family: Family, n: UpdateNext) -> UnlockNext
     }
 }
 
+#[tactic(auto, using(hardware::proofs::Prog::over), unfolding(crate::specs::Lock::rest_unlock, crate::specs::Lock::unlock))]
 pub fn step(family: Family, s: Unlock, a: Answer) -> UnlockNext
     ensures { unlock_next family result ≡ erase (rest_unlock family s a) }
 {

@@ -49,6 +49,7 @@ pub enum AttemptNext {
     End(Got),
 }
 
+#[tactic(auto, unfolding(crate::specs::Attempt::clearing))]
 fn clear(q: Sequence, l: Layout, ctl: u32) -> ClearNext
     ensures result_value { clear_next l result ≡ erase (clearing q l ctl) }
     ensures result_value_2 { valid_clear_next l result ≡ true }
@@ -59,6 +60,7 @@ fn clear(q: Sequence, l: Layout, ctl: u32) -> ClearNext
     }
 }
 
+#[tactic(auto, unfolding(crate::specs::Attempt::or_i2c, hardware::specs::Prog::pick, hardware::specs::Failures::failure_of))]
 fn clear_done(device: u8, e: Error) -> Error
     ensures { failure_of result ≡ or_i2c device (failure_of e) }
 {
@@ -68,6 +70,7 @@ fn clear_done(device: u8, e: Error) -> Error
     e
 }
 
+#[tactic(auto, using(hardware::proofs::Prog::heard_on), unfolding(crate::specs::Attempt::attempt_next, crate::specs::Attempt::awaiting, crate::specs::Attempt::heard_attempt, crate::specs::Attempt::access_attempt, crate::specs::Attempt::rest_attempt, crate::specs::Attempt::valid_attempt_next, crate::specs::Attempt::valid_attempt, bus::specs::Clear::clear_next, bus::specs::Clear::valid_clear_next, crate::specs::Left::attempt_next_left, crate::specs::Left::attempt_left, crate::specs::Attempt::got, hardware::specs::Prog::followed, hardware::specs::Prog::erase, crate::specs::Attempt::cleared, crate::specs::Attempt::or_cleared, hardware::specs::Failures::failure_of))]
 fn cleared(l: Layout, device: u8, n: ClearNext) -> AttemptNext
     ensures { Bounds ((m : Mode) (q : Sequence) (s : List ℕ) → attempt_next m q l device s result ≡ followed (clear_next l n) (cleared device)) ((s : List ℕ) → valid_clear_next l n ≡ true → valid_attempt_next l s result ≡ true) (attempt_next_left l result ≤ longest (clear_next l n)) }
 {
@@ -80,6 +83,7 @@ fn cleared(l: Layout, device: u8, n: ClearNext) -> AttemptNext
     }
 }
 
+#[tactic(auto, using(hardware::proofs::Prog::over, crate::proofs::Left::clear_opens), unfolding(crate::specs::Attempt::or_tried, hardware::specs::Prog::pick, crate::specs::Attempt::attempt_next, crate::specs::Attempt::got, hardware::specs::Prog::erase, crate::specs::Attempt::valid_attempt_next, crate::specs::Left::attempt_next_left))]
 fn failed(q: Sequence, l: Layout, device: u8, ctl: u32, e: Error) -> AttemptNext
     ensures { Bounds ((m : Mode) (s : List ℕ) → attempt_next m q l device s result ≡ erase (or_tried q l device ctl (Err (failure_of e)))) ((s : List ℕ) → valid_attempt_next l s result ≡ true) (attempt_next_left l result ≤ CLEAR_STEPS) }
 {
@@ -89,6 +93,7 @@ fn failed(q: Sequence, l: Layout, device: u8, ctl: u32, e: Error) -> AttemptNext
     AttemptNext::End(Got::Err(e))
 }
 
+#[tactic(auto, using(hardware::proofs::Prog::heard_on, crate::proofs::Laws::told_on), unfolding(crate::specs::Attempt::attempt_next, crate::specs::Attempt::awaiting, crate::specs::Attempt::heard_attempt, crate::specs::Attempt::access_attempt, crate::specs::Attempt::rest_attempt, crate::specs::Attempt::valid_attempt_next, crate::specs::Attempt::valid_attempt, crate::specs::Transfer::transfer_next, crate::specs::Transfer::asking, crate::specs::Transfer::valid_transfer_next, crate::specs::Left::attempt_next_left, crate::specs::Left::attempt_left, crate::specs::Left::transfer_next_left, crate::specs::Attempt::got, hardware::specs::Prog::followed, hardware::specs::Prog::erase, crate::specs::Attempt::tried, crate::specs::Attempt::or_tried))]
 fn from_transfer(q: Sequence, l: Layout, device: u8, n: TransferNext) -> AttemptNext
     ensures { Bounds ((m : Mode) (s : List ℕ) → attempt_next m q l device s result ≡ followed (transfer_next m l device s n) (tried q l device)) ((s : List ℕ) → valid_transfer_next l s n ≡ true → valid_attempt_next l s result ≡ true) (attempt_next_left l result ≤ transfer_next_left l n) }
 {
@@ -102,6 +107,7 @@ fn from_transfer(q: Sequence, l: Layout, device: u8, n: TransferNext) -> Attempt
     }
 }
 
+#[tactic(auto, using(hardware::proofs::Prog::over), unfolding(hardware::specs::Prog::or_err, hardware::specs::Registers::word, crate::specs::Attempt::begun, crate::specs::Attempt::attempt_next, crate::specs::Attempt::got, hardware::specs::Prog::erase, crate::specs::Attempt::valid_attempt_next, crate::specs::Left::attempt_next_left))]
 fn begin(q: Sequence, l: Layout, device: u8, script: &[u8], w: Word) -> AttemptNext
     ensures { Bounds ((m : Mode) → attempt_next m q l device script.now result ≡ erase (or_err (begun q l device (transfer m l device (commands script.now) none)) (word w))) (on_command script.now 0 ≡ true → valid_attempt_next l script.now result ≡ true) (attempt_next_left l result ≤ COMMANDS_STEPS) }
 {
@@ -118,6 +124,7 @@ fn begin(q: Sequence, l: Layout, device: u8, script: &[u8], w: Word) -> AttemptN
     }
 }
 
+#[tactic(auto, unfolding(crate::specs::Attempt::access_attempt))]
 pub fn access(l: Layout, s: Attempt) -> Access
     ensures { result ≡ access_attempt l s }
 {
@@ -129,6 +136,7 @@ pub fn access(l: Layout, s: Attempt) -> Access
 }
 
 // The samples that were left when a byte was acknowledged just before the access; 10 where none was.
+#[tactic(auto, unfolding(crate::specs::Attempt::heard_attempt))]
 pub fn heard(s: Attempt) -> u8
     ensures { result ≡ heard_attempt s }
 {
@@ -139,6 +147,7 @@ pub fn heard(s: Attempt) -> u8
     }
 }
 
+#[tactic(auto, using(bus::proofs::Left::clear_falls, hardware::proofs::Prog::fed, hardware::proofs::Prog::over), unfolding(crate::specs::Attempt::rest_attempt, crate::specs::Left::attempt_left, crate::specs::Attempt::valid_attempt, crate::specs::Attempt::access_attempt))]
 pub fn step(q: Sequence, l: Layout, device: u8, script: &[u8], s: Attempt, a: Answer) -> AttemptNext
     ensures { Bounds ((m : Mode) → attempt_next m q l device script.now result ≡ erase (rest_attempt m q l device script.now s a)) (on_command script.now 0 ≡ true → valid_attempt l script.now s ≡ true → valid_attempt_next l script.now result ≡ true) (length script.now ≤ 64 → fits (access_attempt l s) a ≡ true → InType a → attempt_next_left l result < attempt_left l s) }
 {
@@ -152,6 +161,7 @@ pub fn step(q: Sequence, l: Layout, device: u8, script: &[u8], s: Attempt, a: An
     }
 }
 
+#[tactic(auto, unfolding(crate::specs::Attempt::valid_attempt))]
 pub fn valid(l: Layout, script: &[u8], s: Attempt) -> bool
     ensures { result ≡ valid_attempt l script.now s }
 {

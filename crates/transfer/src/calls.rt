@@ -33,6 +33,7 @@ pub enum ScriptTold {
 }
 
 // The end of a script, the meter beside its result: what was metered before a failure counts.
+#[tactic(auto, unfolding(crate::specs::Calls::said_script, hardware::specs::Registers::outcome, hardware::specs::Prog::tally, crate::specs::Calls::dropped, crate::specs::Calls::without, crate::specs::Attempt::got, crate::specs::Calls::stands_script, crate::specs::Left::script_left))]
 fn ended(g: Got, m: Meter) -> ScriptTold
     ensures { Bounds ((s : List ℕ) → said_script result s ≡ yes (tally m (dropped (got g)))) ((s : List ℕ) → stands_script result s) (script_left result ≡ 0) }
 {
@@ -50,6 +51,7 @@ fn going(port: Port, m: Meter, t: Attempt) -> ScriptCall
     ScriptCall::Going(port, hardware::meter_on(k, m), t)
 }
 
+#[tactic(auto, using(bus::proofs::Laws::picked, hardware::proofs::Laws::held_on, crate::proofs::Laws::heard_tally, crate::proofs::Laws::hears_one, crate::proofs::Laws::told_tally), unfolding(crate::specs::Calls::said_script, crate::specs::Calls::rest_script, crate::specs::Attempt::attempt_next, crate::specs::Attempt::awaiting, crate::specs::Calls::stands_script, crate::specs::Attempt::valid_attempt_next, crate::specs::Calls::valid_script, crate::specs::Left::script_left, crate::specs::Left::call_left, crate::specs::Left::attempt_next_left, hardware::specs::Prog::followed, hardware::specs::Prog::erase, crate::specs::Calls::dropped))]
 fn told(port: Port, m: Meter, n: AttemptNext) -> ScriptTold
     ensures { Bounds ((s : List ℕ) → m.transfers ≡ 1 → said_script result s ≡ yes (tally m (followed (attempt_next handing Pulses (layout_of port.family) (device s) s n) dropped))) ((s : List ℕ) → valid_held port m ≡ true → m.transfers ≡ 1 → valid_attempt_next (layout_of port.family) s n ≡ true → stands_script result s) (script_left result ≤ attempt_next_left (layout_of port.family) n) }
 {
@@ -64,6 +66,7 @@ fn told(port: Port, m: Meter, n: AttemptNext) -> ScriptTold
     }
 }
 
+#[tactic(auto, using(hardware::proofs::Laws::held_blank, hardware::proofs::Laws::opened_valid, crate::proofs::Laws::judged_accepted, crate::proofs::Laws::judged_no, crate::proofs::Laws::judged_yes, crate::proofs::Laws::script_begins), unfolding(crate::specs::Calls::open_script, hardware::specs::Asked::and_then, hardware::specs::Asked::port_opened, crate::specs::Attempt::valid_attempt_next, crate::specs::Attempt::valid_attempt, crate::specs::Left::attempt_next_left, crate::specs::Left::attempt_left, hardware::specs::Marks::valid_held, crate::specs::Calls::said_script, crate::specs::Calls::stands_script, crate::specs::Left::script_left))]
 pub fn script_open(family: u32, device: u16, lan: u32, script: &[u8]) -> ScriptTold
     ensures { Bounds (said_script result script.now ≡ open_script family device lan script.now) (stands_script result script.now) (script_left result ≤ 1 + COMMANDS_STEPS) }
 {
@@ -76,6 +79,7 @@ pub fn script_open(family: u32, device: u16, lan: u32, script: &[u8]) -> ScriptT
     }
 }
 
+#[tactic(auto, unfolding(crate::specs::Calls::valid_script, hardware::specs::Prog::pick))]
 fn valid(port: Port, m: Meter, script: &[u8], t: Attempt) -> bool
     ensures { result ≡ valid_script port m script.now t }
 {
@@ -88,6 +92,7 @@ fn valid(port: Port, m: Meter, script: &[u8], t: Attempt) -> bool
     false
 }
 
+#[tactic(auto, using(hardware::proofs::Laws::admits_fits, hardware::proofs::Laws::admits_typed, hardware::proofs::Laws::admits_no, hardware::proofs::Laws::admits_valid, hardware::proofs::Laws::admits_yes, hardware::proofs::Laws::both_true, crate::proofs::Laws::script_rest, crate::proofs::Left::attempt_some), unfolding(crate::specs::Calls::stepped_script, crate::specs::Calls::valid_script, crate::specs::Left::call_left, crate::specs::Calls::said_script, crate::specs::Calls::stands_script, crate::specs::Left::script_left))]
 fn script_on(port: Port, m: Meter, t: Attempt, script: &[u8], a: Answer) -> ScriptTold
     ensures { Bounds (said_script result script.now ≡ stepped_script (ScriptCall.Going port m t) script.now a) (on_command script.now 0 ≡ true → stands_script result script.now) (length script.now ≤ 64 → script_left result < call_left (ScriptCall.Going port m t)) }
 {
@@ -106,6 +111,7 @@ fn script_on(port: Port, m: Meter, t: Attempt, script: &[u8], a: Answer) -> Scri
     }
 }
 
+#[tactic(auto, using(script::proofs::Laws::on_first, crate::proofs::Laws::judged_accepted, crate::proofs::Laws::judged_no, crate::proofs::Laws::judged_yes, crate::proofs::Left::accepted_length), unfolding(crate::specs::Calls::step_script, crate::specs::Calls::stepped_script, crate::specs::Calls::said_script, crate::specs::Calls::stands_script, crate::specs::Left::script_left))]
 pub fn script_step(s: ScriptCall, script: &[u8], a: Answer) -> ScriptTold
     ensures { Bounds (said_script result script.now ≡ step_script s script.now a) (stands_script result script.now) (script_left result ≤ call_left s - 1) }
 {

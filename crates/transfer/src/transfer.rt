@@ -31,6 +31,7 @@ pub enum TransferNext {
     End(u32, Taken, Outcome),
 }
 
+#[tactic(auto, unfolding(crate::specs::Transfer::is_read))]
 fn is_read(c: Command) -> bool
     ensures { result ≡ is_read c }
 {
@@ -43,6 +44,7 @@ fn is_read(c: Command) -> bool
     }
 }
 
+#[tactic(auto, unfolding(crate::specs::Transfer::took_by, hardware::specs::Prog::pick))]
 fn took(c: Command, t: Taken, b: u8) -> Taken
     ensures { result ≡ took_by c t b }
 {
@@ -57,6 +59,7 @@ fn took(c: Command, t: Taken, b: u8) -> Taken
 }
 
 // What is left of a script from a position on.
+#[tactic(auto, using(bus::proofs::Laws::picked, script::proofs::Laws::commands_past, crate::proofs::Laws::transfer_at), unfolding(script::specs::Script::step_at, crate::specs::Transfer::transfer_next, crate::specs::Transfer::asking, crate::specs::Transfer::access_transfer, crate::specs::Transfer::rest_transfer, bus::specs::Command::job_next, crate::specs::Transfer::valid_transfer_next, crate::specs::Transfer::valid_transfer, crate::specs::Left::transfer_left, crate::specs::Left::transfer_next_left, crate::specs::Transfer::transfer, hardware::specs::Prog::erase))]
 pub fn from(l: Layout, script: &[u8], at: usize, taken: Taken, ctl: u32) -> TransferNext
     ensures { Bounds ((m : Mode) (device : ℕ) → transfer_next m l device script.now result ≡ erase (transfer m l device (commands (drop at script.now)) taken ctl)) ((at < length script.now → on_command script.now at ≡ true) → valid_transfer_next l script.now result ≡ true) ((n : ℕ) → CLEAR_STEPS ≤ n → (at < length script.now → JOB_STEPS + behind at ≤ n) → transfer_next_left l result ≤ n) }
 {
@@ -73,6 +76,7 @@ pub fn from(l: Layout, script: &[u8], at: usize, taken: Taken, ctl: u32) -> Tran
 }
 
 // A byte was read; it is handed out with the access that follows.
+#[tactic(auto, using(crate::proofs::Laws::told_end, crate::proofs::Laws::told_twice), unfolding(crate::specs::Transfer::transfer_next, crate::specs::Transfer::valid_transfer_next, crate::specs::Left::transfer_next_left, crate::specs::Transfer::asking))]
 fn told(b: u8, n: TransferNext) -> TransferNext
     ensures { Bounds ((m : Mode) (l : Layout) (device : ℕ) (s : List ℕ) → transfer_next m l device s result ≡ tells m b (transfer_next m l device s n)) ((l : Layout) (s : List ℕ) → valid_transfer_next l s n ≡ true → valid_transfer_next l s result ≡ true) ((l : Layout) → transfer_next_left l result ≡ transfer_next_left l n) }
 {
@@ -84,6 +88,7 @@ fn told(b: u8, n: TransferNext) -> TransferNext
 }
 
 // The command at a position is done, with the byte that was heard.
+#[tactic(auto, using(script::proofs::Laws::on_next, crate::proofs::Laws::after_other, crate::proofs::Laws::after_read_lem, crate::proofs::Left::next_behind), unfolding(script::specs::Script::step_at))]
 fn after(l: Layout, script: &[u8], at: usize, taken: Taken, b: u8, ctl: u32) -> TransferNext
     ensures { Bounds ((m : Mode) (device : ℕ) → transfer_next m l device script.now result ≡ erase (ran_on m l device script.now at taken b ctl)) (on_command script.now at ≡ true → valid_transfer_next l script.now result ≡ true) (length script.now ≤ 64 → transfer_next_left l result ≤ behind at) }
 {
@@ -97,6 +102,7 @@ fn after(l: Layout, script: &[u8], at: usize, taken: Taken, b: u8, ctl: u32) -> 
     n
 }
 
+#[tactic(auto, using(bus::proofs::Laws::picked), unfolding(crate::specs::Transfer::transfer_next, crate::specs::Transfer::asking, crate::specs::Transfer::access_transfer, crate::specs::Transfer::rest_transfer, bus::specs::Command::job_next, crate::specs::Transfer::valid_transfer_next, crate::specs::Transfer::valid_transfer, bus::specs::Command::valid_job_next, bus::specs::Left::job_next_left, crate::specs::Left::transfer_left, crate::specs::Left::transfer_next_left, bus::specs::Bus::or_held, hardware::specs::Registers::byte, hardware::specs::Prog::erase))]
 fn jobbed(l: Layout, device: u8, script: &[u8], at: usize, taken: Taken, n: JobNext) -> TransferNext
     ensures { Bounds ((m : Mode) → transfer_next m l device script.now result ≡ job_next l device (command_at script.now at) n (ran_on m l device script.now at taken)) (on_command script.now at ≡ true → valid_job_next l (command_at script.now at) n ≡ true → valid_transfer_next l script.now result ≡ true) (length script.now ≤ 64 → transfer_next_left l result ≤ job_next_left l n + behind at) }
 {
@@ -109,6 +115,7 @@ fn jobbed(l: Layout, device: u8, script: &[u8], at: usize, taken: Taken, n: JobN
     }
 }
 
+#[tactic(auto, unfolding(crate::specs::Transfer::access_transfer))]
 pub fn access(l: Layout, s: Transfer) -> Access
     ensures { result ≡ access_transfer l s }
 {
@@ -123,6 +130,7 @@ pub fn heard(s: Transfer) -> u8
     bus::job::heard(job)
 }
 
+#[tactic(auto, using(bus::proofs::Laws::picked_first, bus::proofs::Laws::picked_second), unfolding(script::specs::Script::step_at, crate::specs::Transfer::rest_transfer, crate::specs::Transfer::valid_transfer, crate::specs::Transfer::access_transfer, crate::specs::Left::transfer_left))]
 pub fn step(l: Layout, device: u8, script: &[u8], s: Transfer, a: Answer) -> TransferNext
     ensures { Bounds ((m : Mode) → transfer_next m l device script.now result ≡ erase (rest_transfer m l device script.now s a)) (valid_transfer l script.now s ≡ true → valid_transfer_next l script.now result ≡ true) (length script.now ≤ 64 → fits (access_transfer l s) a ≡ true → InType a → transfer_next_left l result < transfer_left l s) }
 {
@@ -141,6 +149,7 @@ pub fn step(l: Layout, device: u8, script: &[u8], s: Transfer, a: Answer) -> Tra
     )
 }
 
+#[tactic(auto, unfolding(script::specs::Script::step_at, crate::specs::Transfer::valid_transfer, hardware::specs::Prog::pick))]
 pub fn valid(l: Layout, script: &[u8], s: Transfer) -> bool
     ensures { result ≡ valid_transfer l script.now s }
 {

@@ -33,6 +33,7 @@ pub struct Outcome {
     pub state: BenchState,
 }
 
+#[tactic(auto, unfolding(hardware::specs::Prog::pick))]
 fn meet(port: Port, d: BenchState, x: Access) -> Reply
     ensures state_value { result.state ≡ (accessed (layout_of port.family) (has_mux port) x d).state }
     ensures answer_value { result.answer ≡ pick (accessed (layout_of port.family) (has_mux port) x d).here (accessed (layout_of port.family) (has_mux port) x d).answer (at_once x) }

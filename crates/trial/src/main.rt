@@ -2,6 +2,8 @@
 // reaches the module through a mux, with four words there at the start and with both clearing sequences. A line is a state, and
 // says whether the module pulls SDA; for each word it has the byte or I2c, the transfers made, the receiver at the end, the lines
 // (free: nobody pulls either) and the bytes of both pages, where some changed with the offset of the page chosen.
+#![tactic(auto)]
+
 mod host;
 mod print;
 mod start;

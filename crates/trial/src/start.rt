@@ -79,6 +79,7 @@ pub(crate) fn row_at(n: u8) -> Row {
 }
 
 // Both lines pulled, SDA only, SCL only, neither.
+#[tactic(auto, unfolding(wire::specs::Lines::ready, wire::specs::Lines::banging, hardware::specs::Registers::none_of))]
 fn early(column: u8) -> u32
     ensures { ready L82599 result ≡ true }
 {
@@ -91,6 +92,7 @@ fn early(column: u8) -> u32
 }
 
 // The same, the last with BB_EN clear and both enables off.
+#[tactic(auto, unfolding(wire::specs::Lines::ready, wire::specs::Lines::banging, hardware::specs::Registers::none_of))]
 fn late(column: u8) -> u32
     ensures { ready LX552 result ≡ true }
 {
@@ -103,6 +105,7 @@ fn late(column: u8) -> u32
 }
 
 // With a mux the master pulls neither line: BB_EN is clear and both enables off, or both outputs are high.
+#[tactic(auto, unfolding(wire::specs::Lines::ready, wire::specs::Lines::banging, wire::specs::Lines::master, wire::specs::Lines::pulls_sda, wire::specs::Lines::pulls_scl, wire::specs::Lines::pulling, hardware::specs::Registers::none_of))]
 fn apart(column: u8) -> u32
     ensures { Rests LX552 nobody result }
 {
@@ -113,6 +116,7 @@ fn apart(column: u8) -> u32
 }
 
 // I2CCTL at the start, of the four: every one is allowed.
+#[tactic(auto, unfolding(bus::specs::Layout::layout_of, hardware::specs::Prog::pick))]
 pub(crate) fn word(port: Port, column: u8) -> u32
     ensures { ready (layout_of port.family) result ≡ true }
 {
@@ -168,6 +172,7 @@ fn counted(first: u8) -> [u8; 256]
 }
 
 // Byte i of A0 is i + 11, of A2 it is i + 91 (hexadecimal): at both offsets stands the row's byte.
+#[tactic(auto, unfolding(bench::specs::Bench::under))]
 fn module(row: Row, column: u8) -> Bench
     ensures { (under result.a0 ≡ row.sent) × (under result.a2 ≡ row.sent) }
 {

@@ -19,7 +19,7 @@ pub const TOKEN_TRIES: u32 = 1000;
 pub const TOKEN_DELAY_MS: u16 = 5;
 
 // Bits: with whether the token comes after them. Releasing: with what the firmware said.
-#[derive(Drop)]
+#[derive(Clone, Copy)]
 pub enum Stage {
     Bits(AcquireBits, bool),
     Token(Token),
@@ -28,13 +28,13 @@ pub enum Stage {
 }
 
 // left: the tries for the token after this one.
-#[derive(Drop)]
+#[derive(Clone, Copy)]
 pub struct Acquire {
     pub left: u32,
     pub stage: Stage,
 }
 
-#[derive(Drop)]
+#[derive(Clone, Copy)]
 pub enum AcquireNext {
     Going(Acquire),
     End(Outcome),
@@ -50,8 +50,8 @@ pub fn hw(mask: u32) -> u32
 
 #[tactic(auto, unfolding(hostif::specs::Acquire::not_granted, hardware::specs::Registers::flag, hardware::specs::Registers::outcome, hardware::specs::Prog::erase, crate::specs::Acquire::acquire_next, crate::specs::Acquire::access_acquire, crate::specs::Acquire::access_acquire_at, crate::specs::Acquire::rest_acquire, crate::specs::Acquire::rest_acquire_at, crate::specs::Acquire::valid_acquire_next, crate::specs::Acquire::valid_acquire, crate::specs::Acquire::valid_acquire_at, hardware::specs::Prog::pick))]
 fn token_refused(port: Port, hw: u32, left: u32, g: Flag) -> AcquireNext
-    ensures result_value { acquire_next port hw result ≡ erase (not_granted (λ _. acquire_token port hw left) (flag g)) }
-    ensures result_value_2 { left < TOKEN_TRIES → valid_acquire_next port result ≡ true }
+    ensures yields { acquire_next port hw result ≡ erase (not_granted (λ _. acquire_token port hw left) (flag g)) }
+    ensures limits { left < TOKEN_TRIES → valid_acquire_next port result ≡ true }
 {
     match g {
         Flag::Ok(_) => AcquireNext::Going(Acquire {
@@ -64,8 +64,8 @@ fn token_refused(port: Port, hw: u32, left: u32, g: Flag) -> AcquireNext
 
 #[tactic(auto, using(hardware::proofs::Prog::going), unfolding(crate::specs::Acquire::acquire_next, crate::specs::Acquire::access_acquire, crate::specs::Acquire::access_acquire_at, crate::specs::Acquire::rest_acquire, crate::specs::Acquire::rest_acquire_at, crate::specs::Acquire::release_next, crate::specs::Acquire::access_release, crate::specs::Acquire::rest_release, sync::specs::Resource::acquire_bits_next, sync::specs::Resource::release_bits_next, hostif::specs::Hostif::token_next, crate::specs::Acquire::valid_acquire_next, crate::specs::Acquire::valid_acquire, crate::specs::Acquire::valid_acquire_at, hardware::specs::Prog::pick, sync::specs::Resource::valid_release_bits_next, hardware::specs::Prog::followed, hardware::specs::Prog::or_err, hardware::specs::Registers::outcome, hardware::specs::Prog::erase))]
 fn releasing(port: Port, hw: u32, left: u32, g: Flag, n: ReleaseBitsNext) -> AcquireNext
-    ensures result_value { acquire_next port hw result ≡ followed (release_bits_next port hw n) (or_err (λ _. not_granted (λ _. acquire_token port hw left) (flag g))) }
-    ensures result_value_2 { left < TOKEN_TRIES → valid_release_bits_next n ≡ true → valid_acquire_next port result ≡ true }
+    ensures yields { acquire_next port hw result ≡ followed (release_bits_next port hw n) (or_err (λ _. not_granted (λ _. acquire_token port hw left) (flag g))) }
+    ensures limits { left < TOKEN_TRIES → valid_release_bits_next n ≡ true → valid_acquire_next port result ≡ true }
 {
     match n {
         ReleaseBitsNext::Going(t) => AcquireNext::Going(Acquire {
@@ -82,8 +82,8 @@ fn releasing(port: Port, hw: u32, left: u32, g: Flag, n: ReleaseBitsNext) -> Acq
 // The token did not come: the bits go back first.
 #[tactic(auto, using(hardware::proofs::Prog::over), unfolding(hostif::specs::Acquire::given_back, hostif::specs::Acquire::with_bits, hardware::specs::Prog::pick, hardware::specs::Prog::or_err))]
 fn give_back(port: Port, hw: u32, left: u32, g: Flag) -> AcquireNext
-    ensures result_value { acquire_next port hw result ≡ erase (given_back port hw (λ _. acquire_token port hw left) (flag g)) }
-    ensures result_value_2 { left < TOKEN_TRIES → valid_acquire_next port result ≡ true }
+    ensures yields { acquire_next port hw result ≡ erase (given_back port hw (λ _. acquire_token port hw left) (flag g)) }
+    ensures limits { left < TOKEN_TRIES → valid_acquire_next port result ≡ true }
 {
     if hw == 0 {
         return token_refused(port, hw, left, g);
@@ -93,8 +93,8 @@ fn give_back(port: Port, hw: u32, left: u32, g: Flag) -> AcquireNext
 
 #[tactic(auto, unfolding(hardware::specs::Registers::flag, hostif::specs::Acquire::token_seen, hostif::specs::Acquire::acquired_all, hardware::specs::Prog::erase, crate::specs::Acquire::acquire_next, hardware::specs::Registers::outcome, crate::specs::Acquire::valid_acquire_next))]
 fn token_done(port: Port, hw: u32, left: u32, g: Flag) -> AcquireNext
-    ensures result_value { acquire_next port hw result ≡ erase (token_seen port hw (λ _. acquire_token port hw left) (flag g)) }
-    ensures result_value_2 { left < TOKEN_TRIES → valid_acquire_next port result ≡ true }
+    ensures yields { acquire_next port hw result ≡ erase (token_seen port hw (λ _. acquire_token port hw left) (flag g)) }
+    ensures limits { left < TOKEN_TRIES → valid_acquire_next port result ≡ true }
 {
     match g {
         Flag::Ok(b) => {
@@ -109,8 +109,8 @@ fn token_done(port: Port, hw: u32, left: u32, g: Flag) -> AcquireNext
 
 #[tactic(auto, using(hardware::proofs::Prog::going), unfolding(crate::specs::Acquire::acquire_next, crate::specs::Acquire::access_acquire, crate::specs::Acquire::access_acquire_at, crate::specs::Acquire::rest_acquire, crate::specs::Acquire::rest_acquire_at, crate::specs::Acquire::release_next, crate::specs::Acquire::access_release, crate::specs::Acquire::rest_release, sync::specs::Resource::acquire_bits_next, sync::specs::Resource::release_bits_next, hostif::specs::Hostif::token_next, crate::specs::Acquire::valid_acquire_next, crate::specs::Acquire::valid_acquire, crate::specs::Acquire::valid_acquire_at, hardware::specs::Prog::pick, hostif::specs::Hostif::valid_token_next, hardware::specs::Prog::followed))]
 fn token(port: Port, hw: u32, left: u32, n: TokenNext) -> AcquireNext
-    ensures result_value { acquire_next port hw result ≡ followed (token_next port true n) (token_seen port hw (λ _. acquire_token port hw left)) }
-    ensures result_value_2 { left < TOKEN_TRIES → valid_token_next port n ≡ true → valid_acquire_next port result ≡ true }
+    ensures yields { acquire_next port hw result ≡ followed (token_next port true n) (token_seen port hw (λ _. acquire_token port hw left)) }
+    ensures limits { left < TOKEN_TRIES → valid_token_next port n ≡ true → valid_acquire_next port result ≡ true }
 {
     match n {
         TokenNext::Going(t) => AcquireNext::Going(Acquire {
@@ -123,8 +123,8 @@ fn token(port: Port, hw: u32, left: u32, n: TokenNext) -> AcquireNext
 
 #[tactic(auto, using(hardware::proofs::Prog::over), unfolding(crate::specs::Acquire::rest_acquire, crate::specs::Acquire::rest_acquire_at, crate::specs::Acquire::access_acquire, crate::specs::Acquire::access_acquire_at, crate::specs::Acquire::rest_release, crate::specs::Acquire::access_release, hostif::specs::Acquire::try_token, crate::specs::Acquire::valid_acquire_at, crate::specs::Acquire::valid_release, crate::specs::Calls::step_acquire, crate::specs::Calls::step_release, crate::specs::Calls::open_acquire, crate::specs::Calls::open_release, hardware::specs::Asked::question, hardware::specs::Asked::and_then, hardware::specs::Asked::port_opened, sync::specs::Resource::acquire_bits, hostif::specs::Acquire::token_given, hostif::specs::Acquire::gave))]
 fn try_token(port: Port, hw: u32, left: u32) -> AcquireNext
-    ensures result_value { acquire_next port hw result ≡ erase (try_token port hw left) }
-    ensures result_value_2 { left < TOKEN_TRIES → valid_acquire_next port result ≡ true }
+    ensures yields { acquire_next port hw result ≡ erase (try_token port hw left) }
+    ensures limits { left < TOKEN_TRIES → valid_acquire_next port result ≡ true }
 {
     token(port, hw, left, hostif::token::open(port, true))
 }
@@ -132,8 +132,8 @@ fn try_token(port: Port, hw: u32, left: u32) -> AcquireNext
 // token: whether it comes after the bits.
 #[tactic(auto, using(hardware::proofs::Prog::going), unfolding(hardware::specs::Prog::followed, hardware::specs::Prog::or_err, hardware::specs::Registers::outcome, sync::specs::Resource::acquire_bits_next, hostif::specs::Acquire::after_bits, hardware::specs::Prog::pick, crate::specs::Acquire::acquire_next, crate::specs::Acquire::access_acquire, crate::specs::Acquire::access_acquire_at, crate::specs::Acquire::rest_acquire, crate::specs::Acquire::rest_acquire_at, crate::specs::Acquire::valid_acquire_next, crate::specs::Acquire::valid_acquire, crate::specs::Acquire::valid_acquire_at, sync::specs::Resource::valid_acquire_bits_next, hostif::specs::Acquire::acquired_all, hardware::specs::Prog::erase))]
 fn bits(port: Port, hw: u32, left: u32, token: bool, n: AcquireBitsNext) -> AcquireNext
-    ensures result_value { acquire_next port hw result ≡ followed (acquire_bits_next port hw n) (or_err (λ _. after_bits port hw left token)) }
-    ensures result_value_2 { left < TOKEN_TRIES → valid_acquire_bits_next port.family n ≡ true → valid_acquire_next port result ≡ true }
+    ensures yields { acquire_next port hw result ≡ followed (acquire_bits_next port hw n) (or_err (λ _. after_bits port hw left token)) }
+    ensures limits { left < TOKEN_TRIES → valid_acquire_bits_next port.family n ≡ true → valid_acquire_next port result ≡ true }
 {
     match n {
         AcquireBitsNext::Going(t) => AcquireNext::Going(Acquire {
@@ -154,8 +154,8 @@ fn bits(port: Port, hw: u32, left: u32, token: bool, n: AcquireBitsNext) -> Acqu
 
 #[tactic(auto, unfolding(sync::specs::Resource::acquire_bits))]
 fn first(port: Port, hw: u32) -> AcquireBitsNext
-    ensures result_value { acquire_bits_next port hw result ≡ erase (acquire_bits port hw) }
-    ensures result_value_2 { valid_acquire_bits_next port.family result ≡ true }
+    ensures yields { acquire_bits_next port hw result ≡ erase (acquire_bits port hw) }
+    ensures limits { valid_acquire_bits_next port.family result ≡ true }
 {
     let family = port.family;
     sync::acquire_bits::open(port, hw, sync::regs::tries(family), 0)
@@ -164,8 +164,8 @@ fn first(port: Port, hw: u32) -> AcquireBitsNext
 // A try for the bits and the token.
 #[tactic(auto, using(crate::proofs::Laws::token_alone, crate::proofs::Laws::token_bits, hardware::proofs::Laws::one_less, hardware::proofs::Prog::over), unfolding(hostif::specs::Acquire::acquire_token, hardware::specs::Prog::erase, crate::specs::Acquire::acquire_next, hardware::specs::Registers::outcome, crate::specs::Acquire::valid_acquire_next, hardware::specs::Failures::failure_of, hostif::specs::Acquire::after_bits, hardware::specs::Prog::pick))]
 fn open_token(port: Port, hw: u32, tries: u32) -> AcquireNext
-    ensures result_value { acquire_next port hw result ≡ erase (acquire_token port hw tries) }
-    ensures result_value_2 { tries ≤ TOKEN_TRIES → valid_acquire_next port result ≡ true }
+    ensures yields { acquire_next port hw result ≡ erase (acquire_token port hw tries) }
+    ensures limits { tries ≤ TOKEN_TRIES → valid_acquire_next port result ≡ true }
 {
     if tries == 0 {
         return AcquireNext::End(Outcome::Err(Error::Firmware(
@@ -181,8 +181,8 @@ fn open_token(port: Port, hw: u32, tries: u32) -> AcquireNext
 
 #[tactic(auto, using(hardware::proofs::Prog::over), unfolding(hostif::specs::Acquire::acquire, hostif::specs::Acquire::after_bits, hardware::specs::Prog::pick, hardware::specs::Prog::erase))]
 pub fn open(port: Port, mask: u32) -> AcquireNext
-    ensures result_value { acquire_next port (hw_of mask) result ≡ erase (acquire port mask) }
-    ensures result_value_2 { valid_acquire_next port result ≡ true }
+    ensures yields { acquire_next port (hw_of mask) result ≡ erase (acquire port mask) }
+    ensures limits { valid_acquire_next port result ≡ true }
 {
     let m = hw(mask);
     if hardware::none_of(mask, TOKEN) {
@@ -213,8 +213,8 @@ pub fn access(port: Port, hw: u32, s: Acquire) -> Access
 
 #[tactic(auto, using(hardware::proofs::Prog::over), unfolding(crate::specs::Acquire::rest_acquire_at, crate::specs::Acquire::valid_acquire_at))]
 fn stage_step(port: Port, hw: u32, left: u32, s: Stage, a: Answer) -> AcquireNext
-    ensures result_value { acquire_next port hw result ≡ erase (rest_acquire_at port hw left s a) }
-    ensures result_value_2 { left < TOKEN_TRIES → valid_acquire_at port s ≡ true → valid_acquire_next port result ≡ true }
+    ensures yields { acquire_next port hw result ≡ erase (rest_acquire_at port hw left s a) }
+    ensures limits { left < TOKEN_TRIES → valid_acquire_at port s ≡ true → valid_acquire_next port result ≡ true }
 {
     match s {
         Stage::Bits(t, token) => bits(
@@ -238,8 +238,8 @@ fn stage_step(port: Port, hw: u32, left: u32, s: Stage, a: Answer) -> AcquireNex
 
 #[tactic(auto, using(hardware::proofs::Laws::both_true), unfolding(crate::specs::Acquire::rest_acquire, crate::specs::Acquire::rest_acquire_at, crate::specs::Acquire::access_acquire, crate::specs::Acquire::access_acquire_at, crate::specs::Acquire::rest_release, crate::specs::Acquire::access_release, hostif::specs::Acquire::try_token, crate::specs::Acquire::valid_acquire_at, crate::specs::Acquire::valid_release, crate::specs::Calls::step_acquire, crate::specs::Calls::step_release, crate::specs::Calls::open_acquire, crate::specs::Calls::open_release, hardware::specs::Asked::question, hardware::specs::Asked::and_then, hardware::specs::Asked::port_opened, sync::specs::Resource::acquire_bits, hostif::specs::Acquire::token_given, hostif::specs::Acquire::gave, crate::specs::Acquire::valid_acquire))]
 pub fn step(port: Port, hw: u32, s: Acquire, a: Answer) -> AcquireNext
-    ensures result_value { acquire_next port hw result ≡ erase (rest_acquire port hw s a) }
-    ensures result_value_2 { valid_acquire port s ≡ true → valid_acquire_next port result ≡ true }
+    ensures yields { acquire_next port hw result ≡ erase (rest_acquire port hw s a) }
+    ensures limits { valid_acquire port s ≡ true → valid_acquire_next port result ≡ true }
 {
     let stage = s.stage;
     stage_step(port, hw, s.left, stage, a)

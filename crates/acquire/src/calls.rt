@@ -10,26 +10,26 @@ use crate::release::{Release, ReleaseNext};
 use hardware::{Access, Admitted, Answer, Opening, Outcome, Port, Refusal};
 
 // With the port and the mask's bits of SW_FW_SYNC.
-#[derive(Drop)]
+#[derive(Clone, Copy)]
 pub enum AcquireCall {
     Going(Port, u32, Acquire),
     Over,
 }
 
-#[derive(Drop)]
+#[derive(Clone, Copy)]
 pub enum AcquireTold {
     Ask(Access, AcquireCall),
     End(Outcome),
     Refused(Refusal),
 }
 
-#[derive(Drop)]
+#[derive(Clone, Copy)]
 pub enum ReleaseCall {
     Going(Port, u32, Release),
     Over,
 }
 
-#[derive(Drop)]
+#[derive(Clone, Copy)]
 pub enum ReleaseTold {
     Ask(Access, ReleaseCall),
     End(Outcome),

@@ -15,13 +15,13 @@ use receiver::{Act, Chosen, Edge, Receiver};
 use std::num::wrapping_add_u8;
 
 // 256 bytes, and the offset at which the next one is read or stored.
-#[derive(Drop)]
+#[derive(Clone, Copy)]
 pub struct Page {
     pub offset: u8,
     pub bytes: [u8; 256],
 }
 
-#[derive(Drop)]
+#[derive(Clone, Copy)]
 pub struct Bench {
     pub receiver: Receiver,
     pub a0: Page,

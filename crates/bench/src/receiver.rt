@@ -5,7 +5,7 @@ ghost use Rattle.bus.specs.Bus.{bit_of};
 ghost use Rattle.bench.specs.Receiver.{at, fresh, started, stopped, taken, takes, notes, rise, chose, addressed, byte_taken, fall, asks, edged, asks_on, pulls};
 ghost use Rattle.bench.specs.Edges.{edge_of};
 
-#[derive(Drop)]
+#[derive(Clone, Copy)]
 pub enum Chosen {
     A0,
     A2,
@@ -13,7 +13,7 @@ pub enum Chosen {
 
 // Address and Receive with so many bits taken, 8 and above being all of them; Send with the place of the bit that is
 // on SDA, the highest bit at 0, 7 and above being the lowest.
-#[derive(Drop)]
+#[derive(Clone, Copy)]
 pub enum Stage {
     Idle,
     Address(u8),
@@ -25,7 +25,7 @@ pub enum Stage {
 }
 
 // bits: those taken, the newest lowest. page: the one chosen. first: the next byte is the offset. noted: SDA was high.
-#[derive(Drop)]
+#[derive(Clone, Copy)]
 pub struct Receiver {
     pub stage: Stage,
     pub bits: u8,
@@ -36,7 +36,7 @@ pub struct Receiver {
 
 // What the fall of SCL asks of the page chosen: an offset to be set, a byte to be stored at the offset, which moves on,
 // or the offset to move on.
-#[derive(Drop)]
+#[derive(Clone, Copy)]
 pub enum Act {
     Nothing,
     Offset(u8),
@@ -45,7 +45,7 @@ pub enum Act {
 }
 
 // A change of the lines: START, STOP, SCL rises with SDA high or not, SCL falls.
-#[derive(Drop)]
+#[derive(Clone, Copy)]
 pub enum Edge {
     Start,
     Stop,
@@ -54,7 +54,7 @@ pub enum Edge {
 }
 
 // The receiver after an edge, and what it asked.
-#[derive(Drop)]
+#[derive(Clone, Copy)]
 pub struct Moved {
     pub receiver: Receiver,
     pub act: Act,

@@ -14,7 +14,7 @@ use bus::Layout;
 use hardware::{Access, Answer, Family, Port};
 
 // I2CCTL and ESDP as last written, and the module. Without a mux ESDP is not the machine's, and esdp means nothing.
-#[derive(Drop)]
+#[derive(Clone, Copy)]
 pub struct BenchState {
     pub word: u32,
     pub esdp: u32,
@@ -23,7 +23,7 @@ pub struct BenchState {
 
 // here: the access was to I2CCTL, or to ESDP with a mux, and is answered. Else it is left to the caller, the state is as it was
 // and the answer means nothing.
-#[derive(Drop)]
+#[derive(Clone, Copy)]
 pub struct Reply {
     pub here: bool,
     pub answer: Answer,

@@ -42,8 +42,8 @@ fn number(fits: bool) -> u8
 // The part requested; refused, the empty part at the head of A0.
 #[tactic(auto, using(crate::proofs::Laws::page_a0, crate::proofs::Laws::page_a2, crate::proofs::Laws::part_size, crate::proofs::Laws::viewed_fits), unfolding(crate::specs::View::view, crate::specs::View::view_at, hardware::specs::Prog::pick))]
 pub fn view<'a>(a0: &'a [u8], a2: &'a [u8], device: u8, first: usize, size: usize) -> &'a [u8]
-    ensures result_value { result.now ≡ view a0.now a2.now device first size }
-    ensures ref_ptr_value { result.ref_ptr ≡ view_at a0.entry.ref_ptr a2.entry.ref_ptr (viewed a0.now a2.now device first size) device first }
+    ensures value { result.now ≡ view a0.now a2.now device first size }
+    ensures place { result.ref_ptr ≡ view_at a0.entry.ref_ptr a2.entry.ref_ptr (viewed a0.now a2.now device first size) device first }
 {
     if viewed(a0, a2, device, first, size) == 0 {
         if device == 0xa2 {

@@ -15,7 +15,7 @@ use hardware::{Access, Answer, Byte, Outcome};
 
 // A sequence's parts: the first three are the Rust's, the last three the other's, and Stop is of both. Probe and Lower hold
 // the rounds after this one.
-#[derive(Drop)]
+#[derive(Clone, Copy)]
 pub enum Part {
     First,
     Free,
@@ -26,13 +26,13 @@ pub enum Part {
     Pull,
 }
 
-#[derive(Drop)]
+#[derive(Clone, Copy)]
 pub struct Clear {
     pub part: Part,
     pub job: Job,
 }
 
-#[derive(Drop)]
+#[derive(Clone, Copy)]
 pub enum ClearNext {
     Going(Clear),
     End(u32, Outcome),
@@ -40,8 +40,8 @@ pub enum ClearNext {
 
 #[tactic(auto, using(hardware::proofs::Prog::heard_on), unfolding(hardware::specs::Prog::followed, crate::specs::Command::job_next, crate::specs::Bus::or_held, hardware::specs::Registers::byte, crate::specs::Bus::quieted, crate::specs::Bus::or_quiet, hardware::specs::Prog::erase, hardware::specs::Prog::pick, crate::specs::Clear::clear_next, crate::specs::Clear::valid_clear_next, crate::specs::Clear::access_clear, crate::specs::Clear::rest_clear, crate::specs::Clear::rest_part, crate::specs::Clear::valid_clear, crate::specs::Clear::valid_part, crate::specs::Clear::command_of, crate::specs::Command::valid_job_next))]
 fn stopped(l: Layout, n: JobNext) -> ClearNext
-    ensures result_value { clear_next l result ≡ followed (job_next l 0 StopCommand n (λ _. done none)) (quieted (done none)) }
-    ensures result_value_2 { valid_job_next l StopCommand n ≡ true → valid_clear_next l result ≡ true }
+    ensures yields { clear_next l result ≡ followed (job_next l 0 StopCommand n (λ _. done none)) (quieted (done none)) }
+    ensures limits { valid_job_next l StopCommand n ≡ true → valid_clear_next l result ≡ true }
 {
     match n {
         JobNext::Going(j) => ClearNext::Going(Clear {
@@ -62,16 +62,16 @@ fn stopped(l: Layout, n: JobNext) -> ClearNext
 
 #[tactic(auto, using(crate::proofs::Commands::job_stop, hardware::proofs::Prog::over), unfolding(crate::specs::Bus::clear_stop, crate::specs::Bus::quiet, crate::specs::Command::valid_job_next))]
 pub fn stop(l: Layout, ctl: u32) -> ClearNext
-    ensures result_value { clear_next l result ≡ erase (clear_stop l ctl) }
-    ensures result_value_2 { valid_clear_next l result ≡ true }
+    ensures yields { clear_next l result ≡ erase (clear_stop l ctl) }
+    ensures limits { valid_clear_next l result ≡ true }
 {
     stopped(l, JobNext::Going(crate::job::open(l, Command::Stop, ctl)))
 }
 
 #[tactic(auto, using(hardware::proofs::Prog::heard_on), unfolding(hardware::specs::Prog::followed, crate::specs::Command::job_next, crate::specs::Bus::or_held, hardware::specs::Registers::byte, crate::specs::Bus::quieted, crate::specs::Bus::or_quiet, hardware::specs::Prog::erase, hardware::specs::Prog::pick, crate::specs::Clear::valid_clear_next, crate::specs::Clear::clear_next, crate::specs::Clear::access_clear, crate::specs::Clear::rest_clear, crate::specs::Clear::rest_part, crate::specs::Clear::valid_clear, crate::specs::Clear::valid_part, crate::specs::Clear::command_of, crate::specs::Command::valid_job_next))]
 fn started(l: Layout, n: JobNext) -> ClearNext
-    ensures result_value { clear_next l result ≡ followed (job_next l 0 StartCommand n (λ _. done none)) (quieted (clear_stop l)) }
-    ensures result_value_2 { valid_job_next l StartCommand n ≡ true → valid_clear_next l result ≡ true }
+    ensures yields { clear_next l result ≡ followed (job_next l 0 StartCommand n (λ _. done none)) (quieted (clear_stop l)) }
+    ensures limits { valid_job_next l StartCommand n ≡ true → valid_clear_next l result ≡ true }
 {
     match n {
         JobNext::Going(j) => ClearNext::Going(Clear {
@@ -92,16 +92,16 @@ fn started(l: Layout, n: JobNext) -> ClearNext
 
 #[tactic(auto, using(crate::proofs::Commands::job_start, hardware::proofs::Prog::over), unfolding(crate::specs::Bus::clear_again, crate::specs::Bus::quiet, crate::specs::Command::valid_job_next))]
 fn again(l: Layout, ctl: u32) -> ClearNext
-    ensures result_value { clear_next l result ≡ erase (clear_again l ctl) }
-    ensures result_value_2 { valid_clear_next l result ≡ true }
+    ensures yields { clear_next l result ≡ erase (clear_again l ctl) }
+    ensures limits { valid_clear_next l result ≡ true }
 {
     started(l, JobNext::Going(crate::job::open(l, Command::Start, ctl)))
 }
 
 #[tactic(auto, unfolding(crate::specs::Clear::clear_next, crate::specs::Clear::access_clear, crate::specs::Clear::rest_clear, crate::specs::Clear::rest_part, crate::specs::Command::job_next, crate::specs::Clear::valid_clear_next, crate::specs::Clear::valid_clear, crate::specs::Clear::valid_part, crate::specs::Clear::command_of, crate::specs::Command::valid_job_next, hardware::specs::Prog::pick, crate::specs::Bus::or_held, hardware::specs::Registers::byte, hardware::specs::Prog::erase))]
 fn freed(l: Layout, n: JobNext) -> ClearNext
-    ensures result_value { clear_next l result ≡ job_next l 0 (FreeCommand Pulses) n (λ _. clear_again l) }
-    ensures result_value_2 { valid_job_next l (FreeCommand Pulses) n ≡ true → valid_clear_next l result ≡ true }
+    ensures yields { clear_next l result ≡ job_next l 0 (FreeCommand Pulses) n (λ _. clear_again l) }
+    ensures limits { valid_job_next l (FreeCommand Pulses) n ≡ true → valid_clear_next l result ≡ true }
 {
     match n {
         JobNext::Going(j) => ClearNext::Going(Clear {
@@ -117,8 +117,8 @@ fn freed(l: Layout, n: JobNext) -> ClearNext
 
 #[tactic(auto, using(crate::proofs::Commands::job_free), unfolding(crate::specs::Bus::clear_free, crate::specs::Command::freed, crate::specs::Command::valid_job_next))]
 fn free(l: Layout, ctl: u32) -> ClearNext
-    ensures result_value { clear_next l result ≡ erase (clear_free l ctl) }
-    ensures result_value_2 { valid_clear_next l result ≡ true }
+    ensures yields { clear_next l result ≡ erase (clear_free l ctl) }
+    ensures limits { valid_clear_next l result ≡ true }
 {
     freed(
         l,
@@ -128,8 +128,8 @@ fn free(l: Layout, ctl: u32) -> ClearNext
 
 #[tactic(auto, using(hardware::proofs::Prog::heard_on), unfolding(hardware::specs::Prog::followed, crate::specs::Command::job_next, crate::specs::Bus::or_held, hardware::specs::Registers::byte, crate::specs::Bus::quieted, crate::specs::Bus::or_quiet, hardware::specs::Prog::erase, hardware::specs::Prog::pick, crate::specs::Clear::valid_clear_next, crate::specs::Clear::clear_next, crate::specs::Clear::access_clear, crate::specs::Clear::rest_clear, crate::specs::Clear::rest_part, crate::specs::Clear::valid_clear, crate::specs::Clear::valid_part, crate::specs::Clear::command_of, crate::specs::Command::valid_job_next))]
 fn first(l: Layout, n: JobNext) -> ClearNext
-    ensures result_value { clear_next l result ≡ followed (job_next l 0 StartCommand n (λ _. done none)) (quieted (clear_free l)) }
-    ensures result_value_2 { valid_job_next l StartCommand n ≡ true → valid_clear_next l result ≡ true }
+    ensures yields { clear_next l result ≡ followed (job_next l 0 StartCommand n (λ _. done none)) (quieted (clear_free l)) }
+    ensures limits { valid_job_next l StartCommand n ≡ true → valid_clear_next l result ≡ true }
 {
     match n {
         JobNext::Going(j) => ClearNext::Going(Clear {
@@ -150,8 +150,8 @@ fn first(l: Layout, n: JobNext) -> ClearNext
 
 #[tactic(auto, using(crate::proofs::Commands::job_start, hardware::proofs::Prog::over), unfolding(crate::specs::Bus::clear, crate::specs::Bus::quiet, crate::specs::Command::valid_job_next))]
 pub fn open(l: Layout, ctl: u32) -> ClearNext
-    ensures result_value { clear_next l result ≡ erase (clear l ctl) }
-    ensures result_value_2 { valid_clear_next l result ≡ true }
+    ensures yields { clear_next l result ≡ erase (clear l ctl) }
+    ensures limits { valid_clear_next l result ≡ true }
 {
     first(l, JobNext::Going(crate::job::open(l, Command::Start, ctl)))
 }
@@ -173,8 +173,8 @@ pub fn heard(s: Clear) -> u8
 
 #[tactic(auto, using(crate::proofs::Laws::picked_first, crate::proofs::Laws::picked_second, hardware::proofs::Prog::over), unfolding(crate::specs::Clear::rest_clear, crate::specs::Clear::rest_part, crate::specs::Clear::valid_clear, crate::specs::Clear::valid_part, crate::specs::Clear::command_of, hardware::specs::Prog::pick))]
 pub fn step(l: Layout, s: Clear, a: Answer) -> ClearNext
-    ensures result_value { clear_next l result ≡ erase (rest_clear l s a) }
-    ensures result_value_2 { valid_clear l s ≡ true → valid_clear_next l result ≡ true }
+    ensures yields { clear_next l result ≡ erase (rest_clear l s a) }
+    ensures limits { valid_clear l s ≡ true → valid_clear_next l result ≡ true }
 {
     let part = s.part;
     let j = s.job;

@@ -8,7 +8,7 @@ use crate::line::Call;
 
 // A piece of a clearing sequence. Pulses: SDA released and nine pulses. Probe: SDA released, SCL raised and SDA read. Lower: SCL
 // lowered. Pull: SDA pulled before it.
-#[derive(Drop)]
+#[derive(Clone, Copy)]
 pub enum Piece {
     Pulses,
     Probe,
@@ -17,7 +17,7 @@ pub enum Piece {
 }
 
 // Read holds the level of the acknowledge bit, false where the byte is acknowledged. Free stands in no script.
-#[derive(Drop)]
+#[derive(Clone, Copy)]
 pub enum Command {
     Start,
     Send(u8),

@@ -15,14 +15,14 @@ use crate::line::{LineNext, LineState};
 use hardware::{Access, Answer, Byte, Error, Outcome};
 
 // left: the line calls after this one.
-#[derive(Drop)]
+#[derive(Clone, Copy)]
 pub struct Job {
     pub left: u8,
     pub state: LineState,
 }
 
 // The end: the control word, and the byte that was heard.
-#[derive(Drop)]
+#[derive(Clone, Copy)]
 pub enum JobNext {
     Going(Job),
     End(u32, Byte),

@@ -17,7 +17,7 @@ pub mod rounds;
 
 // I2CCTL: its register and the masks of its bits. Only the X552 and X553 have the last three: two active-low output
 // enables and the bit-bang enable; they are 0 elsewhere.
-#[derive(Drop)]
+#[derive(Clone, Copy)]
 pub struct Layout {
     pub reg: u32,
     pub sclin: u32,
@@ -30,7 +30,7 @@ pub struct Layout {
 }
 
 // The last three bytes read, the newest last; no transfer of `i2c.rs` reads more.
-#[derive(Drop)]
+#[derive(Clone, Copy)]
 pub struct Taken {
     pub high: u8,
     pub low: u8,

@@ -8,7 +8,7 @@ ghost use Rattle.bus.specs.Line.{settle_us, settled, reached, sensed, ack_down, 
 use crate::Layout;
 use hardware::{Access, Answer, Error, Micros, Outcome, Word};
 
-#[derive(Drop)]
+#[derive(Clone, Copy)]
 pub enum Call {
     Look,
     Sda(bool),
@@ -24,7 +24,7 @@ pub enum Call {
 // What a word is put to I2CCTL for: SDA high, its output enable off, SDA low, SDA released, SCL low with the samples that were
 // left when a byte was acknowledged just before it (10 where none was), SCL high with the tries left after this one, the end of
 // a stop.
-#[derive(Drop)]
+#[derive(Clone, Copy)]
 pub enum Goal {
     High,
     Free,
@@ -36,7 +36,7 @@ pub enum Goal {
 }
 
 // Ack and Rest: with the samples left after this one. Rise: with the tries left after this one.
-#[derive(Drop)]
+#[derive(Clone, Copy)]
 pub enum Line {
     Look,
     Pause(u8),
@@ -51,14 +51,14 @@ pub enum Line {
 }
 
 // The control word that the driver holds, and the bits heard so far.
-#[derive(Drop)]
+#[derive(Clone, Copy)]
 pub struct LineState {
     pub ctl: u32,
     pub bits: u8,
     pub line: Line,
 }
 
-#[derive(Drop)]
+#[derive(Clone, Copy)]
 pub enum LineNext {
     Going(LineState),
     End(u32, u8, Outcome),
@@ -163,8 +163,8 @@ pub(crate) fn at(ctl: u32, bits: u8, line: Line) -> LineState
 
 #[tactic(auto, unfolding(crate::specs::Line::line_next, crate::specs::Bus::or_held, hardware::specs::Prog::erase, hardware::specs::Registers::outcome, hardware::specs::Registers::word, crate::specs::Bus::look_seen, crate::specs::Line::valid_line_next))]
 fn look_seen(l: Layout, ctl: u32, bits: u8, w: Word) -> LineNext
-    ensures by_index { (k : ℕ → Bus) → line_next l result k ≡ erase (or_held (look_seen l (k bits)) ctl (word w)) }
-    ensures result_value { valid_line_next result ≡ true }
+    ensures yields { (k : ℕ → Bus) → line_next l result k ≡ erase (or_held (look_seen l (k bits)) ctl (word w)) }
+    ensures limits { valid_line_next result ≡ true }
 {
     match w {
         Word::Ok(v) => LineNext::End(v | l.bben, bits, Outcome::Ok),
@@ -174,8 +174,8 @@ fn look_seen(l: Layout, ctl: u32, bits: u8, w: Word) -> LineNext
 
 #[tactic(auto, unfolding(crate::specs::Line::line_next, crate::specs::Bus::or_held, hardware::specs::Prog::erase, hardware::specs::Registers::outcome, hardware::specs::Registers::word, crate::specs::Bus::sample_seen, crate::specs::Line::sensed, crate::specs::Line::valid_line_next))]
 fn sample_seen(l: Layout, ctl: u32, bits: u8, w: Word) -> LineNext
-    ensures by_index { (k : ℕ → Bus) → line_next l result k ≡ erase (or_held (sample_seen l (sensed bits k)) ctl (word w)) }
-    ensures result_value { valid_line_next result ≡ true }
+    ensures yields { (k : ℕ → Bus) → line_next l result k ≡ erase (or_held (sample_seen l (sensed bits k)) ctl (word w)) }
+    ensures limits { valid_line_next result ≡ true }
 {
     match w {
         Word::Ok(v) => LineNext::End(ctl, shift(bits, sda_level(l, v)), Outcome::Ok),
@@ -186,9 +186,9 @@ fn sample_seen(l: Layout, ctl: u32, bits: u8, w: Word) -> LineNext
 // SCL goes low, a byte having been acknowledged with so many samples left.
 #[tactic(auto, using(hardware::proofs::Prog::erase_heard), unfolding(crate::specs::Line::line_next, crate::specs::Line::heard_at, crate::specs::Line::heard_goal, crate::specs::Line::access_line, crate::specs::Line::access_at, crate::specs::Line::rest_line, crate::specs::Line::rest_at, hardware::specs::Prog::erase, crate::specs::Bus::scl_low, crate::specs::Bus::put, crate::specs::Line::settled, crate::specs::Line::valid_line, crate::specs::Line::valid_goal))]
 fn down(l: Layout, ctl: u32, bits: u8, left: u8) -> LineState
-    ensures by_index { (k : ℕ → Bus) → line_next l (LineNext.Going result) k ≡ erase (heard left (scl_low l (k bits)) ctl) }
-    ensures line_value { leb left 10 ≡ true → valid_line result.line ≡ true }
-    ensures line_value_2 { heard_at result.line ≡ left }
+    ensures yields { (k : ℕ → Bus) → line_next l (LineNext.Going result) k ≡ erase (heard left (scl_low l (k bits)) ctl) }
+    ensures limits { leb left 10 ≡ true → valid_line result.line ≡ true }
+    ensures heard { heard_at result.line ≡ left }
 {
     at(
         ctl & !(l.sclout | l.scloen),
@@ -200,8 +200,8 @@ fn down(l: Layout, ctl: u32, bits: u8, left: u8) -> LineState
 // The samples that are left; without one, SDA stayed high.
 #[tactic(auto, using(crate::proofs::Laws::ack_more, crate::proofs::Laws::fewer), unfolding(hardware::specs::Marks::acknowledged, crate::specs::Bus::ack_tries, crate::specs::Line::sensed, crate::specs::Line::valid_line_next, crate::specs::Line::valid_line))]
 fn ack_tries(l: Layout, ctl: u32, bits: u8, left: u8) -> LineNext
-    ensures by_index { (k : ℕ → Bus) → line_next l result k ≡ erase (ack_tries l left (ack_down l bits k) ctl) }
-    ensures result_value { ltb left 10 ≡ true → valid_line_next result ≡ true }
+    ensures yields { (k : ℕ → Bus) → line_next l result k ≡ erase (ack_tries l left (ack_down l bits k) ctl) }
+    ensures limits { ltb left 10 ≡ true → valid_line_next result ≡ true }
 {
     if left == 0 {
         return LineNext::Going(down(l, ctl, shift(bits, true), 10));
@@ -211,8 +211,8 @@ fn ack_tries(l: Layout, ctl: u32, bits: u8, left: u8) -> LineNext
 
 #[tactic(auto, using(crate::proofs::Laws::ltb_leb), unfolding(crate::specs::Bus::or_held, hardware::specs::Registers::word, crate::specs::Bus::ack_seen, hardware::specs::Prog::pick, crate::specs::Line::sensed, crate::specs::Line::valid_line_next, crate::specs::Line::line_next, hardware::specs::Marks::acknowledged, crate::specs::Line::heard_at, crate::specs::Line::heard_goal, hardware::specs::Prog::erase, hardware::specs::Registers::outcome, crate::specs::Line::access_line, crate::specs::Line::access_at, crate::specs::Line::rest_line, crate::specs::Line::rest_at, crate::specs::Bus::wait, crate::specs::Line::valid_line))]
 fn ack_seen(l: Layout, ctl: u32, bits: u8, left: u8, w: Word) -> LineNext
-    ensures by_index { (k : ℕ → Bus) → line_next l result k ≡ erase (or_held (ack_seen l left (ack_tries l left (ack_down l bits k)) (ack_down l bits k)) ctl (word w)) }
-    ensures result_value { ltb left 10 ≡ true → valid_line_next result ≡ true }
+    ensures yields { (k : ℕ → Bus) → line_next l result k ≡ erase (or_held (ack_seen l left (ack_tries l left (ack_down l bits k)) (ack_down l bits k)) ctl (word w)) }
+    ensures limits { ltb left 10 ≡ true → valid_line_next result ≡ true }
 {
     match w {
         Word::Ok(v) => {
@@ -227,8 +227,8 @@ fn ack_seen(l: Layout, ctl: u32, bits: u8, left: u8, w: Word) -> LineNext
 
 #[tactic(auto, unfolding(crate::specs::Line::line_next, crate::specs::Bus::or_held, hardware::specs::Prog::erase, hardware::specs::Registers::outcome, hardware::specs::Registers::word, crate::specs::Bus::sda_seen, hardware::specs::Prog::pick, crate::specs::Line::valid_line_next, hardware::specs::Failures::failure_of))]
 fn sda_seen(l: Layout, ctl: u32, bits: u8, w: Word) -> LineNext
-    ensures by_index { (k : ℕ → Bus) → line_next l result k ≡ erase (or_held (sda_seen l (k bits)) ctl (word w)) }
-    ensures result_value { valid_line_next result ≡ true }
+    ensures yields { (k : ℕ → Bus) → line_next l result k ≡ erase (or_held (sda_seen l (k bits)) ctl (word w)) }
+    ensures limits { valid_line_next result ≡ true }
 {
     match w {
         Word::Ok(v) => {
@@ -244,8 +244,8 @@ fn sda_seen(l: Layout, ctl: u32, bits: u8, w: Word) -> LineNext
 // The tries that are left; without one, it goes on with SCL low.
 #[tactic(auto, using(crate::proofs::Laws::fewer, crate::proofs::Laws::scl_more), unfolding(crate::specs::Line::line_next, crate::specs::Bus::or_held, hardware::specs::Prog::erase, hardware::specs::Registers::outcome, hardware::specs::Registers::word, crate::specs::Bus::scl_tries, crate::specs::Line::valid_line_next, crate::specs::Line::valid_line, crate::specs::Line::valid_goal))]
 fn scl_tries(l: Layout, ctl: u32, bits: u8, left: u16) -> LineNext
-    ensures by_index { (k : ℕ → Bus) → line_next l result k ≡ erase (scl_tries l left (k bits) ctl) }
-    ensures result_value { ltb left 500 ≡ true → valid_line_next result ≡ true }
+    ensures yields { (k : ℕ → Bus) → line_next l result k ≡ erase (scl_tries l left (k bits) ctl) }
+    ensures limits { ltb left 500 ≡ true → valid_line_next result ≡ true }
 {
     if left == 0 {
         return LineNext::End(ctl, bits, Outcome::Ok);
@@ -255,8 +255,8 @@ fn scl_tries(l: Layout, ctl: u32, bits: u8, left: u16) -> LineNext
 
 #[tactic(auto, unfolding(crate::specs::Bus::or_held, hardware::specs::Registers::word, crate::specs::Bus::scl_seen, hardware::specs::Prog::pick, crate::specs::Line::line_next, hardware::specs::Prog::erase, hardware::specs::Registers::outcome, crate::specs::Line::valid_line_next))]
 fn scl_seen(l: Layout, ctl: u32, bits: u8, left: u16, w: Word) -> LineNext
-    ensures by_index { (k : ℕ → Bus) → line_next l result k ≡ erase (or_held (scl_seen l (scl_tries l left (k bits)) (k bits)) ctl (word w)) }
-    ensures result_value { ltb left 500 ≡ true → valid_line_next result ≡ true }
+    ensures yields { (k : ℕ → Bus) → line_next l result k ≡ erase (or_held (scl_seen l (scl_tries l left (k bits)) (k bits)) ctl (word w)) }
+    ensures limits { ltb left 500 ≡ true → valid_line_next result ≡ true }
 {
     match w {
         Word::Ok(v) => {
@@ -272,8 +272,8 @@ fn scl_seen(l: Layout, ctl: u32, bits: u8, left: u16, w: Word) -> LineNext
 // SDA was raised: on the X552 and X553 its output enable goes off, then it is looked at.
 #[tactic(auto, unfolding(crate::specs::Line::line_next, hardware::specs::Marks::acknowledged, crate::specs::Line::heard_at, crate::specs::Line::heard_goal, crate::specs::Line::access_line, crate::specs::Line::access_at, crate::specs::Line::rest_line, crate::specs::Line::rest_at, hardware::specs::Prog::erase, crate::specs::Bus::sda_free, hardware::specs::Prog::pick, crate::specs::Bus::get, crate::specs::Line::valid_line, crate::specs::Bus::put, crate::specs::Line::settled, crate::specs::Line::valid_goal))]
 fn sda_free(l: Layout, ctl: u32, bits: u8) -> LineState
-    ensures by_index { (k : ℕ → Bus) → line_next l (LineNext.Going result) k ≡ erase (sda_free l (k bits) ctl) }
-    ensures line_value { valid_line result.line ≡ true }
+    ensures yields { (k : ℕ → Bus) → line_next l (LineNext.Going result) k ≡ erase (sda_free l (k bits) ctl) }
+    ensures limits { valid_line result.line ≡ true }
 {
     if l.sdaoen == 0 {
         return at(ctl, bits, Line::Check);
@@ -284,8 +284,8 @@ fn sda_free(l: Layout, ctl: u32, bits: u8) -> LineState
 // The wait after a word was put is over.
 #[tactic(auto, unfolding(crate::specs::Line::reached, crate::specs::Line::valid_line_next, crate::specs::Line::line_next, hardware::specs::Marks::acknowledged, crate::specs::Line::heard_at, crate::specs::Line::heard_goal, crate::specs::Line::access_line, crate::specs::Line::access_at, crate::specs::Line::rest_line, crate::specs::Line::rest_at, hardware::specs::Prog::erase, crate::specs::Bus::get, crate::specs::Line::valid_line, crate::specs::Bus::or_held, hardware::specs::Registers::outcome, hardware::specs::Registers::word, crate::specs::Line::valid_goal))]
 fn reach(l: Layout, ctl: u32, bits: u8, g: Goal) -> LineNext
-    ensures by_index { (k : ℕ → Bus) → line_next l result k ≡ erase (reached l g (k bits) ctl) }
-    ensures result_value { valid_goal g ≡ true → valid_line_next result ≡ true }
+    ensures yields { (k : ℕ → Bus) → line_next l result k ≡ erase (reached l g (k bits) ctl) }
+    ensures limits { valid_goal g ≡ true → valid_line_next result ≡ true }
 {
     match g {
         Goal::High => LineNext::Going(sda_free(l, ctl, bits)),
@@ -301,8 +301,8 @@ fn reach(l: Layout, ctl: u32, bits: u8, g: Goal) -> LineNext
 // The word is put: only two goals have no wait.
 #[tactic(auto, unfolding(crate::specs::Line::line_next, hardware::specs::Marks::acknowledged, crate::specs::Line::heard_at, crate::specs::Line::heard_goal, crate::specs::Line::access_line, crate::specs::Line::access_at, crate::specs::Line::rest_line, crate::specs::Line::rest_at, hardware::specs::Prog::erase, crate::specs::Line::settled, crate::specs::Bus::get, crate::specs::Line::valid_line_next, crate::specs::Line::valid_line, crate::specs::Bus::or_held, hardware::specs::Registers::outcome, hardware::specs::Registers::word, crate::specs::Line::settle_us, crate::specs::Bus::wait, crate::specs::Line::reached))]
 fn settle(l: Layout, ctl: u32, bits: u8, g: Goal) -> LineNext
-    ensures by_index { (k : ℕ → Bus) → line_next l result k ≡ erase (settled l g (k bits) ctl) }
-    ensures result_value { valid_goal g ≡ true → valid_line_next result ≡ true }
+    ensures yields { (k : ℕ → Bus) → line_next l result k ≡ erase (settled l g (k bits) ctl) }
+    ensures limits { valid_goal g ≡ true → valid_line_next result ≡ true }
 {
     match g {
         Goal::Free => LineNext::Going(at(ctl, bits, Line::Check)),
@@ -317,8 +317,8 @@ fn settle(l: Layout, ctl: u32, bits: u8, g: Goal) -> LineNext
 
 #[tactic(auto, unfolding(crate::specs::Bus::or_held, hardware::specs::Registers::outcome, crate::specs::Line::line_next, hardware::specs::Prog::erase, hardware::specs::Registers::word, crate::specs::Line::valid_line_next))]
 fn flush_seen(l: Layout, ctl: u32, bits: u8, g: Goal, o: Outcome) -> LineNext
-    ensures by_index { (k : ℕ → Bus) → line_next l result k ≡ erase (or_held (λ _. settled l g (k bits)) ctl (outcome o)) }
-    ensures result_value { valid_goal g ≡ true → valid_line_next result ≡ true }
+    ensures yields { (k : ℕ → Bus) → line_next l result k ≡ erase (or_held (λ _. settled l g (k bits)) ctl (outcome o)) }
+    ensures limits { valid_goal g ≡ true → valid_line_next result ≡ true }
 {
     match o {
         Outcome::Ok => settle(l, ctl, bits, g),
@@ -328,8 +328,8 @@ fn flush_seen(l: Layout, ctl: u32, bits: u8, g: Goal, o: Outcome) -> LineNext
 
 #[tactic(auto, unfolding(crate::specs::Line::line_next, hardware::specs::Marks::acknowledged, crate::specs::Line::heard_at, crate::specs::Line::heard_goal, crate::specs::Line::access_line, crate::specs::Line::access_at, crate::specs::Line::rest_line, crate::specs::Line::rest_at, hardware::specs::Prog::erase, crate::specs::Bus::or_held, hardware::specs::Registers::outcome, crate::specs::Bus::flushing, crate::specs::Line::valid_line_next, crate::specs::Line::valid_line, hardware::specs::Registers::word))]
 fn write_seen(l: Layout, ctl: u32, bits: u8, g: Goal, o: Outcome) -> LineNext
-    ensures by_index { (k : ℕ → Bus) → line_next l result k ≡ erase (or_held (λ _. flushing (settled l g (k bits))) ctl (outcome o)) }
-    ensures result_value { valid_goal g ≡ true → valid_line_next result ≡ true }
+    ensures yields { (k : ℕ → Bus) → line_next l result k ≡ erase (or_held (λ _. flushing (settled l g (k bits))) ctl (outcome o)) }
+    ensures limits { valid_goal g ≡ true → valid_line_next result ≡ true }
 {
     match o {
         Outcome::Ok => LineNext::Going(at(ctl, bits, Line::Flush(g))),
@@ -339,8 +339,8 @@ fn write_seen(l: Layout, ctl: u32, bits: u8, g: Goal, o: Outcome) -> LineNext
 
 #[tactic(auto, using(crate::proofs::Laws::fed_held), unfolding(crate::specs::Line::rest_line, crate::specs::Line::rest_at, crate::specs::Line::line_next, crate::specs::Bus::or_held, hardware::specs::Prog::erase, hardware::specs::Registers::outcome, hardware::specs::Registers::word, crate::specs::Line::valid_line_next, crate::specs::Line::valid_line))]
 pub fn step(l: Layout, s: LineState, a: Answer) -> LineNext
-    ensures by_index { (k : ℕ → Bus) → line_next l result k ≡ erase (rest_line l s a k) }
-    ensures result_value { valid_line s.line ≡ true → valid_line_next result ≡ true }
+    ensures yields { (k : ℕ → Bus) → line_next l result k ≡ erase (rest_line l s a k) }
+    ensures limits { valid_line s.line ≡ true → valid_line_next result ≡ true }
 {
     let line = s.line;
     match line {
@@ -359,9 +359,9 @@ pub fn step(l: Layout, s: LineState, a: Answer) -> LineNext
 
 #[tactic(auto, unfolding(crate::specs::Line::line_next, hardware::specs::Marks::acknowledged, crate::specs::Line::heard_at, crate::specs::Line::heard_goal, crate::specs::Line::access_line, crate::specs::Line::access_at, crate::specs::Line::rest_line, crate::specs::Line::rest_at, hardware::specs::Prog::erase, crate::specs::Bus::sda, crate::specs::Bus::put, crate::specs::Line::settled, crate::specs::Line::valid_line, crate::specs::Line::valid_goal))]
 fn sda(l: Layout, ctl: u32, bits: u8, high: bool) -> LineState
-    ensures by_index { (k : ℕ → Bus) → line_next l (LineNext.Going result) k ≡ erase (sda l high (k bits) ctl) }
-    ensures line_value { valid_line result.line ≡ true }
-    ensures line_value_2 { heard_at result.line ≡ 10 }
+    ensures yields { (k : ℕ → Bus) → line_next l (LineNext.Going result) k ≡ erase (sda l high (k bits) ctl) }
+    ensures limits { valid_line result.line ≡ true }
+    ensures heard { heard_at result.line ≡ 10 }
 {
     if high {
         return at((ctl | l.sdaout) & !l.sdaoen, bits, Line::Write(Goal::High));
@@ -371,9 +371,9 @@ fn sda(l: Layout, ctl: u32, bits: u8, high: bool) -> LineState
 
 #[tactic(auto, using(crate::proofs::Laws::ack_open, crate::proofs::Laws::scl_open), unfolding(crate::specs::Line::line_next, hardware::specs::Marks::acknowledged, crate::specs::Line::heard_at, crate::specs::Line::heard_goal, crate::specs::Line::access_line, crate::specs::Line::access_at, crate::specs::Line::rest_line, crate::specs::Line::rest_at, hardware::specs::Prog::erase, crate::specs::Line::called, crate::specs::Bus::look, crate::specs::Bus::get, crate::specs::Line::valid_line, crate::specs::Bus::release_sda, crate::specs::Bus::put, crate::specs::Line::settled, crate::specs::Line::valid_goal, crate::specs::Bus::wait, crate::specs::Line::valid_call, crate::specs::Bus::sample, crate::specs::Bus::close))]
 pub fn open(l: Layout, call: Call, ctl: u32, bits: u8) -> LineState
-    ensures by_index { (k : ℕ → Bus) → line_next l (LineNext.Going result) k ≡ erase (called l call bits k ctl) }
-    ensures line_value { valid_call call ≡ true → valid_line result.line ≡ true }
-    ensures line_value_2 { heard_at result.line ≡ 10 }
+    ensures yields { (k : ℕ → Bus) → line_next l (LineNext.Going result) k ≡ erase (called l call bits k ctl) }
+    ensures limits { valid_call call ≡ true → valid_line result.line ≡ true }
+    ensures heard { heard_at result.line ≡ 10 }
 {
     match call {
         Call::Look => at(ctl, bits, Line::Look),

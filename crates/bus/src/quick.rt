@@ -12,7 +12,7 @@ use crate::line::{Goal, Line, LineState};
 use hardware::{Access, Answer, Micros};
 
 // On: the line call goes on, with its next access. Ended: it ended well, with the control word and the bits heard.
-#[derive(Drop)]
+#[derive(Clone, Copy)]
 pub enum Quick {
     On(LineState, Access),
     Ended(u32, u8),
@@ -20,7 +20,7 @@ pub enum Quick {
 }
 
 // On: the next access, and the job that awaits its answer.
-#[derive(Drop)]
+#[derive(Clone, Copy)]
 pub enum Moved {
     On(Access, Job),
     Slow,

@@ -16,8 +16,8 @@ use hardware::{Byte, Outcome};
 
 #[tactic(auto, unfolding(crate::specs::Clear::clear_next, crate::specs::Clear::access_clear, crate::specs::Clear::rest_clear, crate::specs::Clear::rest_part, crate::specs::Command::job_next, crate::specs::Clear::valid_clear_next, crate::specs::Clear::valid_clear, crate::specs::Clear::valid_part, crate::specs::Clear::command_of, crate::specs::Command::valid_job_next, hardware::specs::Prog::pick, crate::specs::Bus::or_held, hardware::specs::Registers::byte, hardware::specs::Prog::erase))]
 pub fn pulled(l: Layout, n: JobNext) -> ClearNext
-    ensures result_value { clear_next l result ≡ job_next l 0 (FreeCommand Pull) n (λ _. clear_stop l) }
-    ensures result_value_2 { valid_job_next l (FreeCommand Pull) n ≡ true → valid_clear_next l result ≡ true }
+    ensures yields { clear_next l result ≡ job_next l 0 (FreeCommand Pull) n (λ _. clear_stop l) }
+    ensures limits { valid_job_next l (FreeCommand Pull) n ≡ true → valid_clear_next l result ≡ true }
 {
     match n {
         JobNext::Going(j) => ClearNext::Going(Clear {
@@ -33,8 +33,8 @@ pub fn pulled(l: Layout, n: JobNext) -> ClearNext
 
 #[tactic(auto, using(crate::proofs::Commands::job_free), unfolding(crate::specs::Command::freed, crate::specs::Clear::clear_next, crate::specs::Clear::access_clear, crate::specs::Clear::rest_clear, crate::specs::Clear::rest_part, crate::specs::Command::job_next, crate::specs::Clear::valid_clear_next, crate::specs::Clear::valid_clear, crate::specs::Clear::valid_part, crate::specs::Clear::command_of, hardware::specs::Prog::pick, crate::specs::Bus::pulled))]
 fn pull(l: Layout, ctl: u32) -> ClearNext
-    ensures result_value { clear_next l result ≡ erase (pulled l ctl) }
-    ensures result_value_2 { valid_clear_next l result ≡ true }
+    ensures yields { clear_next l result ≡ erase (pulled l ctl) }
+    ensures limits { valid_clear_next l result ≡ true }
 {
     ClearNext::Going(Clear {
         part: Part::Pull,
@@ -45,8 +45,8 @@ fn pull(l: Layout, ctl: u32) -> ClearNext
 // So many rounds.
 #[tactic(auto, using(crate::proofs::Commands::round_more, crate::proofs::Laws::fewer_than, crate::proofs::Laws::picked), unfolding(crate::specs::Clear::clear_next, crate::specs::Bus::rounds, hardware::specs::Prog::erase, crate::specs::Clear::valid_clear_next, crate::specs::Clear::access_clear, crate::specs::Clear::rest_clear, crate::specs::Clear::rest_part, crate::specs::Command::job_next, crate::specs::Clear::valid_clear, crate::specs::Clear::valid_part, crate::specs::Clear::command_of, crate::specs::Command::call_count, crate::specs::Command::free_count))]
 fn from(l: Layout, left: u8, ctl: u32) -> ClearNext
-    ensures result_value { clear_next l result ≡ erase (rounds l left ctl) }
-    ensures result_value_2 { leb left 10 ≡ true → valid_clear_next l result ≡ true }
+    ensures yields { clear_next l result ≡ erase (rounds l left ctl) }
+    ensures limits { leb left 10 ≡ true → valid_clear_next l result ≡ true }
 {
     if left == 0 {
         return ClearNext::End(ctl, Outcome::Ok);
@@ -59,8 +59,8 @@ fn from(l: Layout, left: u8, ctl: u32) -> ClearNext
 
 #[tactic(auto, using(crate::proofs::Laws::picked, crate::proofs::Laws::under), unfolding(crate::specs::Clear::clear_next, crate::specs::Clear::access_clear, crate::specs::Clear::rest_clear, crate::specs::Clear::rest_part, crate::specs::Command::job_next, crate::specs::Clear::valid_clear_next, crate::specs::Clear::valid_clear, crate::specs::Clear::valid_part, crate::specs::Clear::command_of, crate::specs::Command::valid_job_next, hardware::specs::Prog::pick, crate::specs::Bus::or_held, hardware::specs::Registers::byte, hardware::specs::Prog::erase))]
 pub fn lowered(l: Layout, left: u8, n: JobNext) -> ClearNext
-    ensures result_value { clear_next l result ≡ job_next l 0 (FreeCommand Lower) n (λ _. rounds l left) }
-    ensures result_value_2 { ltb left 10 ≡ true → valid_job_next l (FreeCommand Lower) n ≡ true → valid_clear_next l result ≡ true }
+    ensures yields { clear_next l result ≡ job_next l 0 (FreeCommand Lower) n (λ _. rounds l left) }
+    ensures limits { ltb left 10 ≡ true → valid_job_next l (FreeCommand Lower) n ≡ true → valid_clear_next l result ≡ true }
 {
     match n {
         JobNext::Going(j) => ClearNext::Going(Clear {
@@ -76,8 +76,8 @@ pub fn lowered(l: Layout, left: u8, n: JobNext) -> ClearNext
 
 #[tactic(auto, using(crate::proofs::Commands::job_free, crate::proofs::Laws::picked), unfolding(crate::specs::Command::freed, crate::specs::Clear::clear_next, crate::specs::Clear::access_clear, crate::specs::Clear::rest_clear, crate::specs::Clear::rest_part, crate::specs::Command::job_next, crate::specs::Clear::valid_clear_next, crate::specs::Clear::valid_clear, crate::specs::Clear::valid_part, crate::specs::Clear::command_of))]
 fn lower(l: Layout, left: u8, ctl: u32) -> ClearNext
-    ensures result_value { clear_next l result ≡ erase (scl_low l (wait 5 (rounds l left)) ctl) }
-    ensures result_value_2 { ltb left 10 ≡ true → valid_clear_next l result ≡ true }
+    ensures yields { clear_next l result ≡ erase (scl_low l (wait 5 (rounds l left)) ctl) }
+    ensures limits { ltb left 10 ≡ true → valid_clear_next l result ≡ true }
 {
     ClearNext::Going(Clear {
         part: Part::Lower(left),
@@ -87,8 +87,8 @@ fn lower(l: Layout, left: u8, ctl: u32) -> ClearNext
 
 #[tactic(auto, using(crate::proofs::Laws::picked), unfolding(crate::specs::Command::job_next, crate::specs::Bus::or_held, hardware::specs::Registers::byte, hardware::specs::Prog::erase, crate::specs::Clear::probed, hardware::specs::Prog::pick, crate::specs::Clear::valid_clear_next, crate::specs::Clear::clear_next, crate::specs::Clear::access_clear, crate::specs::Clear::rest_clear, crate::specs::Clear::rest_part, crate::specs::Clear::valid_clear, crate::specs::Clear::valid_part, crate::specs::Clear::command_of, crate::specs::Command::valid_job_next))]
 pub fn probed(l: Layout, left: u8, n: JobNext) -> ClearNext
-    ensures result_value { clear_next l result ≡ job_next l 0 (FreeCommand Probe) n (probed l left) }
-    ensures result_value_2 { ltb left 10 ≡ true → valid_job_next l (FreeCommand Probe) n ≡ true → valid_clear_next l result ≡ true }
+    ensures yields { clear_next l result ≡ job_next l 0 (FreeCommand Probe) n (probed l left) }
+    ensures limits { ltb left 10 ≡ true → valid_job_next l (FreeCommand Probe) n ≡ true → valid_clear_next l result ≡ true }
 {
     match n {
         JobNext::Going(j) => ClearNext::Going(Clear {
@@ -109,8 +109,8 @@ pub fn probed(l: Layout, left: u8, n: JobNext) -> ClearNext
 
 #[tactic(auto, using(crate::proofs::Commands::job_free, crate::proofs::Commands::round_probes), unfolding(crate::specs::Command::freed, crate::specs::Clear::clear_next, crate::specs::Clear::access_clear, crate::specs::Clear::rest_clear, crate::specs::Clear::rest_part, crate::specs::Command::job_next, crate::specs::Clear::valid_clear_next, crate::specs::Clear::valid_clear, crate::specs::Clear::valid_part, crate::specs::Clear::command_of, hardware::specs::Prog::pick, crate::specs::Bus::clear_rounds))]
 pub fn open(l: Layout, ctl: u32) -> ClearNext
-    ensures result_value { clear_next l result ≡ erase (clear_rounds l ctl) }
-    ensures result_value_2 { valid_clear_next l result ≡ true }
+    ensures yields { clear_next l result ≡ erase (clear_rounds l ctl) }
+    ensures limits { valid_clear_next l result ≡ true }
 {
     ClearNext::Going(Clear {
         part: Part::Probe(9),

@@ -11,7 +11,7 @@ const SCL: u32 = 1;
 const SDA: u32 = 4;
 
 // What came last: a write, a read of I2CCTL, or such a read and a wait.
-#[derive(Drop)]
+#[derive(Clone, Copy)]
 pub enum Last {
     Write,
     Read,
@@ -19,13 +19,13 @@ pub enum Last {
 }
 
 // first: the sample that reads low first, counted from 1 for the next one.
-#[derive(Drop)]
+#[derive(Clone, Copy)]
 pub struct Host {
     pub first: u32,
     pub last: Last,
 }
 
-#[derive(Drop)]
+#[derive(Clone, Copy)]
 pub struct Played {
     pub host: Host,
     pub answer: Answer,

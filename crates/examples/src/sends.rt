@@ -12,7 +12,7 @@ const PCI: u16 = 0x10FB;
 const BUDGET: u32 = 10_000;
 
 // Ended: with the count of transfers.
-#[derive(Drop)]
+#[derive(Clone, Copy)]
 pub enum Ending {
     Ended(Outcome, u32),
     Refused(Refusal),

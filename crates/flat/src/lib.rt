@@ -32,7 +32,7 @@ pub mod of_transfer;
 //  9 `transfer::ScriptCall`
 // 10 `page::PageCall`
 #[repr(C)]
-#[derive(Drop)]
+#[derive(Clone, Copy)]
 pub struct State {
     pub call: u8,
     pub tag: u8,

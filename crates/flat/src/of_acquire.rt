@@ -3,7 +3,7 @@ ghost use Rattle.std.specs.Prelude.{◌≡◌};
 ghost use Rattle.flat.specs.Acquire.{flat_stage, the_stage, flat_acquire, the_acquire, flat_acquire_call, the_acquire_call, flat_release, the_release, flat_release_call, the_release_call};
 
 #[repr(C)]
-#[derive(Drop)]
+#[derive(Clone, Copy)]
 pub struct StageFlat {
     pub tag: u8,
     pub b1: u8,
@@ -26,7 +26,7 @@ pub struct StageFlat {
 }
 
 #[repr(C)]
-#[derive(Drop)]
+#[derive(Clone, Copy)]
 pub struct AcquireFlat {
     pub b0: u8,
     pub b1: u8,
@@ -50,7 +50,7 @@ pub struct AcquireFlat {
 }
 
 #[repr(C)]
-#[derive(Drop)]
+#[derive(Clone, Copy)]
 pub struct ReleaseFlat {
     pub tag: u8,
     pub b1: u8,

@@ -3,7 +3,7 @@ ghost use Rattle.std.specs.Prelude.{◌≡◌};
 ghost use Rattle.flat.specs.Bus.{flat_taken, the_taken, flat_goal, the_goal, flat_line, the_line, flat_line_state, the_line_state, flat_job, the_job, flat_part, the_part, flat_clear, the_clear};
 
 #[repr(C)]
-#[derive(Drop)]
+#[derive(Clone, Copy)]
 pub struct TakenFlat {
     pub b0: u8,
     pub b1: u8,
@@ -11,7 +11,7 @@ pub struct TakenFlat {
 }
 
 #[repr(C)]
-#[derive(Drop)]
+#[derive(Clone, Copy)]
 pub struct GoalFlat {
     pub tag: u8,
     pub b1: u8,
@@ -19,7 +19,7 @@ pub struct GoalFlat {
 }
 
 #[repr(C)]
-#[derive(Drop)]
+#[derive(Clone, Copy)]
 pub struct LineFlat {
     pub tag: u8,
     pub b1: u8,
@@ -28,7 +28,7 @@ pub struct LineFlat {
 }
 
 #[repr(C)]
-#[derive(Drop)]
+#[derive(Clone, Copy)]
 pub struct LineStateFlat {
     pub b0: u8,
     pub b1: u8,
@@ -39,7 +39,7 @@ pub struct LineStateFlat {
 }
 
 #[repr(C)]
-#[derive(Drop)]
+#[derive(Clone, Copy)]
 pub struct JobFlat {
     pub b0: u8,
     pub b1: u8,
@@ -51,14 +51,14 @@ pub struct JobFlat {
 }
 
 #[repr(C)]
-#[derive(Drop)]
+#[derive(Clone, Copy)]
 pub struct PartFlat {
     pub tag: u8,
     pub b1: u8,
 }
 
 #[repr(C)]
-#[derive(Drop)]
+#[derive(Clone, Copy)]
 pub struct ClearFlat {
     pub b0: u8,
     pub b1: u8,

@@ -3,7 +3,7 @@ ghost use Rattle.std.specs.Prelude.{◌≡◌};
 ghost use Rattle.flat.specs.Hardware.{flat_family, the_family, flat_port, the_port, flat_meter, the_meter, flat_update, the_update, flat_poll, the_poll, flat_error, the_error, flat_outcome, the_outcome, flat_byte, the_byte, flat_flag, the_flag};
 
 #[repr(C)]
-#[derive(Drop)]
+#[derive(Clone, Copy)]
 pub struct PortFlat {
     pub b0: u8,
     pub b1: u8,
@@ -11,21 +11,21 @@ pub struct PortFlat {
 }
 
 #[repr(C)]
-#[derive(Drop)]
+#[derive(Clone, Copy)]
 pub struct MeterFlat {
     pub b0: u8,
     pub w0: u32,
 }
 
 #[repr(C)]
-#[derive(Drop)]
+#[derive(Clone, Copy)]
 pub struct UpdateFlat {
     pub tag: u8,
     pub w0: u32,
 }
 
 #[repr(C)]
-#[derive(Drop)]
+#[derive(Clone, Copy)]
 pub struct PollFlat {
     pub tag: u8,
     pub w0: u32,
@@ -33,7 +33,7 @@ pub struct PollFlat {
 }
 
 #[repr(C)]
-#[derive(Drop)]
+#[derive(Clone, Copy)]
 pub struct ErrorFlat {
     pub tag: u8,
     pub b1: u8,
@@ -42,7 +42,7 @@ pub struct ErrorFlat {
 }
 
 #[repr(C)]
-#[derive(Drop)]
+#[derive(Clone, Copy)]
 pub struct OutcomeFlat {
     pub tag: u8,
     pub b1: u8,
@@ -52,7 +52,7 @@ pub struct OutcomeFlat {
 }
 
 #[repr(C)]
-#[derive(Drop)]
+#[derive(Clone, Copy)]
 pub struct ByteFlat {
     pub tag: u8,
     pub b1: u8,
@@ -62,7 +62,7 @@ pub struct ByteFlat {
 }
 
 #[repr(C)]
-#[derive(Drop)]
+#[derive(Clone, Copy)]
 pub struct FlagFlat {
     pub tag: u8,
     pub b1: u8,

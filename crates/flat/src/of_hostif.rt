@@ -3,7 +3,7 @@ ghost use Rattle.std.specs.Prelude.{◌≡◌};
 ghost use Rattle.flat.specs.Hostif.{flat_request, the_request, flat_response, the_response, flat_command, the_command, flat_token, the_token, flat_token_call, the_token_call, flat_command_call, the_command_call};
 
 #[repr(C)]
-#[derive(Drop)]
+#[derive(Clone, Copy)]
 pub struct RequestFlat {
     pub tag: u8,
     pub b1: u8,
@@ -12,7 +12,7 @@ pub struct RequestFlat {
 }
 
 #[repr(C)]
-#[derive(Drop)]
+#[derive(Clone, Copy)]
 pub struct ResponseFlat {
     pub tag: u8,
     pub b1: u8,
@@ -20,7 +20,7 @@ pub struct ResponseFlat {
 }
 
 #[repr(C)]
-#[derive(Drop)]
+#[derive(Clone, Copy)]
 pub struct CommandFlat {
     pub tag: u8,
     pub b1: u8,
@@ -40,7 +40,7 @@ pub struct CommandFlat {
 }
 
 #[repr(C)]
-#[derive(Drop)]
+#[derive(Clone, Copy)]
 pub struct TokenFlat {
     pub b0: u8,
     pub b1: u8,

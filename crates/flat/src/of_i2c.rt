@@ -3,7 +3,7 @@ ghost use Rattle.std.specs.Prelude.{◌≡◌};
 ghost use Rattle.flat.specs.I2c.{flat_request, the_request, flat_how, the_how, flat_stage, the_stage, flat_retry, the_retry, flat_handshake, the_handshake, flat_transfer_call, the_transfer_call, flat_setup_call, the_setup_call};
 
 #[repr(C)]
-#[derive(Drop)]
+#[derive(Clone, Copy)]
 pub struct RequestFlat {
     pub tag: u8,
     pub b1: u8,
@@ -14,14 +14,14 @@ pub struct RequestFlat {
 }
 
 #[repr(C)]
-#[derive(Drop)]
+#[derive(Clone, Copy)]
 pub struct HowFlat {
     pub b0: u8,
     pub b1: u8,
 }
 
 #[repr(C)]
-#[derive(Drop)]
+#[derive(Clone, Copy)]
 pub struct StageFlat {
     pub tag: u8,
     pub b1: u8,
@@ -43,7 +43,7 @@ pub struct StageFlat {
 }
 
 #[repr(C)]
-#[derive(Drop)]
+#[derive(Clone, Copy)]
 pub struct RetryFlat {
     pub b0: u8,
     pub b1: u8,
@@ -66,7 +66,7 @@ pub struct RetryFlat {
 }
 
 #[repr(C)]
-#[derive(Drop)]
+#[derive(Clone, Copy)]
 pub struct HandshakeFlat {
     pub tag: u8,
     pub b1: u8,

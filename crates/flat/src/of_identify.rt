@@ -3,7 +3,7 @@ ghost use Rattle.std.specs.Prelude.{◌≡◌};
 ghost use Rattle.flat.specs.Identify.{flat_place, the_place, flat_identify, the_identify, flat_identify_call, the_identify_call};
 
 #[repr(C)]
-#[derive(Drop)]
+#[derive(Clone, Copy)]
 pub struct PlaceFlat {
     pub tag: u8,
     pub b1: u8,
@@ -13,7 +13,7 @@ pub struct PlaceFlat {
 }
 
 #[repr(C)]
-#[derive(Drop)]
+#[derive(Clone, Copy)]
 pub struct IdentifyFlat {
     pub b0: u8,
     pub b1: u8,

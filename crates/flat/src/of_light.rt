@@ -3,7 +3,7 @@ ghost use Rattle.std.specs.Prelude.{◌≡◌};
 ghost use Rattle.flat.specs.Light.{flat_patterns, the_patterns, flat_sensed, the_sensed, flat_light, the_light, flat_light_call, the_light_call};
 
 #[repr(C)]
-#[derive(Drop)]
+#[derive(Clone, Copy)]
 pub struct PatternsFlat {
     pub w0: u32,
     pub w1: u32,
@@ -13,7 +13,7 @@ pub struct PatternsFlat {
 }
 
 #[repr(C)]
-#[derive(Drop)]
+#[derive(Clone, Copy)]
 pub struct SensedFlat {
     pub b0: u8,
     pub h0: u16,
@@ -29,7 +29,7 @@ pub struct SensedFlat {
 }
 
 #[repr(C)]
-#[derive(Drop)]
+#[derive(Clone, Copy)]
 pub struct LightFlat {
     pub b0: u8,
     pub b1: u8,

@@ -3,7 +3,7 @@ ghost use Rattle.std.specs.Prelude.{◌≡◌};
 ghost use Rattle.flat.specs.Page.{flat_form, the_form, flat_page, the_page, flat_page_call, the_page_call};
 
 #[repr(C)]
-#[derive(Drop)]
+#[derive(Clone, Copy)]
 pub struct PageFlat {
     pub b0: u8,
     pub b1: u8,

@@ -3,14 +3,14 @@ ghost use Rattle.std.specs.Prelude.{◌≡◌};
 ghost use Rattle.flat.specs.Softrate.{flat_place, the_place, flat_spot, the_spot, flat_rate, the_rate, flat_rate_call, the_rate_call};
 
 #[repr(C)]
-#[derive(Drop)]
+#[derive(Clone, Copy)]
 pub struct PlaceFlat {
     pub tag: u8,
     pub b1: u8,
 }
 
 #[repr(C)]
-#[derive(Drop)]
+#[derive(Clone, Copy)]
 pub struct SpotFlat {
     pub b0: u8,
     pub b1: u8,
@@ -19,7 +19,7 @@ pub struct SpotFlat {
 }
 
 #[repr(C)]
-#[derive(Drop)]
+#[derive(Clone, Copy)]
 pub struct RateFlat {
     pub b0: u8,
     pub b1: u8,

@@ -3,7 +3,7 @@ ghost use Rattle.std.specs.Prelude.{◌≡◌};
 ghost use Rattle.flat.specs.Sync.{flat_swesmbi, the_swesmbi, flat_lock, the_lock, flat_unlock, the_unlock, flat_stage, the_stage, flat_acquire_bits, the_acquire_bits, flat_release_bits, the_release_bits};
 
 #[repr(C)]
-#[derive(Drop)]
+#[derive(Clone, Copy)]
 pub struct SwesmbiFlat {
     pub tag: u8,
     pub b1: u8,
@@ -12,7 +12,7 @@ pub struct SwesmbiFlat {
 }
 
 #[repr(C)]
-#[derive(Drop)]
+#[derive(Clone, Copy)]
 pub struct LockFlat {
     pub tag: u8,
     pub b1: u8,
@@ -22,7 +22,7 @@ pub struct LockFlat {
 }
 
 #[repr(C)]
-#[derive(Drop)]
+#[derive(Clone, Copy)]
 pub struct UnlockFlat {
     pub tag: u8,
     pub b1: u8,
@@ -30,7 +30,7 @@ pub struct UnlockFlat {
 }
 
 #[repr(C)]
-#[derive(Drop)]
+#[derive(Clone, Copy)]
 pub struct StageFlat {
     pub tag: u8,
     pub b1: u8,
@@ -44,7 +44,7 @@ pub struct StageFlat {
 }
 
 #[repr(C)]
-#[derive(Drop)]
+#[derive(Clone, Copy)]
 pub struct AcquireBitsFlat {
     pub b0: u8,
     pub b1: u8,
@@ -59,7 +59,7 @@ pub struct AcquireBitsFlat {
 }
 
 #[repr(C)]
-#[derive(Drop)]
+#[derive(Clone, Copy)]
 pub struct ReleaseBitsFlat {
     pub tag: u8,
     pub b1: u8,

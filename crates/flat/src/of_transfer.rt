@@ -3,7 +3,7 @@ ghost use Rattle.std.specs.Prelude.{◌≡◌};
 ghost use Rattle.flat.specs.Transfer.{flat_sequence, the_sequence, flat_transfer, the_transfer, flat_attempt, the_attempt, flat_got, the_got, flat_script_call, the_script_call};
 
 #[repr(C)]
-#[derive(Drop)]
+#[derive(Clone, Copy)]
 pub struct TransferFlat {
     pub b0: u8,
     pub b1: u8,
@@ -19,7 +19,7 @@ pub struct TransferFlat {
 }
 
 #[repr(C)]
-#[derive(Drop)]
+#[derive(Clone, Copy)]
 pub struct AttemptFlat {
     pub tag: u8,
     pub b1: u8,
@@ -36,7 +36,7 @@ pub struct AttemptFlat {
 }
 
 #[repr(C)]
-#[derive(Drop)]
+#[derive(Clone, Copy)]
 pub struct GotFlat {
     pub tag: u8,
     pub b1: u8,

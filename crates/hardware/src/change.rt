@@ -6,14 +6,14 @@ ghost use Rattle.hardware.specs.Change.{changed, stored, settled, access_update,
 
 use crate::{Access, Answer, Outcome, Update, UpdateNext, Word};
 
-#[derive(Drop)]
+#[derive(Clone, Copy)]
 pub enum Bits {
     Set(u32),
     Clear(u32),
     SetClear(u32, u32),
 }
 
-#[derive(Drop)]
+#[derive(Clone, Copy)]
 pub struct Change {
     pub register: u32,
     pub bits: Bits,

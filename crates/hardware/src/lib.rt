@@ -14,7 +14,7 @@ pub const STATUS: u32 = 0x0_0008;
 
 pub const ESDP: u32 = 0x0_0020;
 
-#[derive(Drop)]
+#[derive(Clone, Copy)]
 pub enum Family {
     F82599,
     X540,
@@ -24,7 +24,7 @@ pub enum Family {
 }
 
 // A function of the card: its family, PCI device ID and port number.
-#[derive(Drop)]
+#[derive(Clone, Copy)]
 pub struct Port {
     pub family: Family,
     pub device: u16,
@@ -32,21 +32,21 @@ pub struct Port {
 }
 
 // Microseconds, the unit of every wait that is asked for.
-#[derive(Drop)]
+#[derive(Clone, Copy)]
 pub struct Micros(pub u32);
 
 // Milliseconds, the unit of the Rust's `delay_ms`.
-#[derive(Drop)]
+#[derive(Clone, Copy)]
 pub struct Millis(pub u16);
 
-#[derive(Drop)]
+#[derive(Clone, Copy)]
 pub enum Access {
     Read(u32),
     Write(u32, u32),
     Wait(Micros),
 }
 
-#[derive(Drop)]
+#[derive(Clone, Copy)]
 pub enum Answer {
     Value(u32),
     Done,
@@ -54,7 +54,7 @@ pub enum Answer {
 }
 
 // The Rust's `Error`, the part in scope.
-#[derive(Drop)]
+#[derive(Clone, Copy)]
 pub enum Error {
     Io,
     Removed,
@@ -65,7 +65,7 @@ pub enum Error {
 }
 
 // The questions that are put to arguments and states, each named by what it asks about.
-#[derive(Drop)]
+#[derive(Clone, Copy)]
 pub enum Refusal {
     Family,
     Lan,
@@ -83,7 +83,7 @@ pub enum Refusal {
 
 // What a machine says with the access that it awaits. attempt: an attempt begins with it. left: a byte was acknowledged just
 // before it, with so many of the ten samples left; 10 where none was.
-#[derive(Drop)]
+#[derive(Clone, Copy)]
 pub struct Marks {
     pub attempt: bool,
     pub left: u8,
@@ -101,7 +101,7 @@ pub const ATTEMPT_BEGINS: Marks = Marks {
 
 // What a result tells of the way to it: the transfers made, and the slowest acknowledgement, by the sample, 1 to 10, in which SDA
 // first read low; 0 where no byte was acknowledged.
-#[derive(Drop)]
+#[derive(Clone, Copy)]
 pub struct Meter {
     pub transfers: u32,
     pub slowest: u8,
@@ -119,61 +119,61 @@ pub const BEGUN: Meter = Meter {
 };
 
 // The Rust's `R<u32>`.
-#[derive(Drop)]
+#[derive(Clone, Copy)]
 pub enum Word {
     Ok(u32),
     Err(Error),
 }
 
 // The Rust's `R<()>`.
-#[derive(Drop)]
+#[derive(Clone, Copy)]
 pub enum Outcome {
     Ok,
     Err(Error),
 }
 
 // The Rust's `R<u8>`.
-#[derive(Drop)]
+#[derive(Clone, Copy)]
 pub enum Byte {
     Ok(u8),
     Err(Error),
 }
 
 // The Rust's `R<bool>`.
-#[derive(Drop)]
+#[derive(Clone, Copy)]
 pub enum Flag {
     Ok(bool),
     Err(Error),
 }
 
 // The state of a change to a register (`change`). Writing: with the value that is written.
-#[derive(Drop)]
+#[derive(Clone, Copy)]
 pub enum Update {
     Reading,
     Writing(u32),
     Flushing,
 }
 
-#[derive(Drop)]
+#[derive(Clone, Copy)]
 pub enum UpdateNext {
     Going(Update),
     End(Outcome),
 }
 
 // What the questions about a step come to.
-#[derive(Drop)]
+#[derive(Clone, Copy)]
 pub enum Admitted {
     Yes,
     No(Refusal),
 }
 
-#[derive(Drop)]
+#[derive(Clone, Copy)]
 pub enum FamilyOpening {
     Family(Family),
     Refused(Refusal),
 }
 
-#[derive(Drop)]
+#[derive(Clone, Copy)]
 pub enum Opening {
     Port(Port),
     Refused(Refusal),

@@ -6,7 +6,7 @@ ghost use Rattle.hardware.specs.Poll.{poll, polled, access_poll, rest_poll, poll
 
 use crate::{Access, Answer, Micros, Word};
 
-#[derive(Drop)]
+#[derive(Clone, Copy)]
 pub struct Watch {
     pub register: u32,
     pub bit: u32,
@@ -14,13 +14,13 @@ pub struct Watch {
 }
 
 // The reads that are left after this one; while waiting also the value last read.
-#[derive(Drop)]
+#[derive(Clone, Copy)]
 pub enum Poll {
     Reading(u32),
     Waiting(u32, u32),
 }
 
-#[derive(Drop)]
+#[derive(Clone, Copy)]
 pub enum PollNext {
     Going(Poll),
     End(Word),
@@ -28,8 +28,8 @@ pub enum PollNext {
 
 #[tactic(auto, using(crate::proofs::Laws::one_less, crate::proofs::Laws::poll_more), unfolding(crate::specs::Poll::poll, crate::specs::Prog::erase, crate::specs::Registers::word, crate::specs::Poll::poll_next, crate::specs::Poll::valid_poll_next, crate::specs::Poll::valid_poll))]
 pub fn open(w: Watch, tries: u32, last: u32) -> PollNext
-    ensures result_value { poll_next w result ≡ erase (poll w tries last) }
-    ensures by_index { (n : ℕ) → tries ≤ n → valid_poll_next n result ≡ true }
+    ensures yields { poll_next w result ≡ erase (poll w tries last) }
+    ensures limits { (n : ℕ) → tries ≤ n → valid_poll_next n result ≡ true }
 {
     if tries == 0 {
         return PollNext::End(Word::Ok(last));
@@ -52,8 +52,8 @@ pub fn access(w: Watch, s: Poll) -> Access
 
 #[tactic(auto, unfolding(crate::specs::Registers::word, crate::specs::Prog::or_err, crate::specs::Poll::polled, crate::specs::Prog::pick, crate::specs::Prog::erase, crate::specs::Poll::poll_next, crate::specs::Poll::valid_poll_next, crate::specs::Poll::access_poll, crate::specs::Poll::rest_poll, crate::specs::Poll::valid_poll))]
 fn seen(w: Watch, left: u32, v: Word) -> PollNext
-    ensures result_value { poll_next w result ≡ erase (or_err (polled w (poll w left)) (word v)) }
-    ensures by_index { (n : ℕ) → left < n → valid_poll_next n result ≡ true }
+    ensures yields { poll_next w result ≡ erase (or_err (polled w (poll w left)) (word v)) }
+    ensures limits { (n : ℕ) → left < n → valid_poll_next n result ≡ true }
 {
     match v {
         Word::Ok(v) => {
@@ -68,8 +68,8 @@ fn seen(w: Watch, left: u32, v: Word) -> PollNext
 
 #[tactic(auto, using(crate::proofs::Laws::below, crate::proofs::Prog::fed), unfolding(crate::specs::Poll::rest_poll, crate::specs::Poll::valid_poll))]
 pub fn step(w: Watch, s: Poll, a: Answer) -> PollNext
-    ensures result_value { poll_next w result ≡ erase (rest_poll w s a) }
-    ensures by_index { (n : ℕ) → valid_poll n s ≡ true → valid_poll_next n result ≡ true }
+    ensures yields { poll_next w result ≡ erase (rest_poll w s a) }
+    ensures limits { (n : ℕ) → valid_poll n s ≡ true → valid_poll_next n result ≡ true }
 {
     match s {
         Poll::Reading(left) => seen(w, left, crate::read(a)),

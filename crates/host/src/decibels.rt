@@ -6,7 +6,7 @@ use level::dbm::Level;
 
 // tenths: the level in tenths of a dBm. number: 0, or 30 where the count is 0, which has no level.
 #[repr(C)]
-#[derive(Drop)]
+#[derive(Clone, Copy)]
 pub struct Decibels {
     pub number: u32,
     pub tenths: i16,

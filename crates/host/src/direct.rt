@@ -18,7 +18,7 @@ use hardware::{Answer, Meter, Port};
 use i2c::once::Request;
 
 // A call's request with its limits. held: the rest of what question 10 asks of the call's state.
-#[derive(Drop)]
+#[derive(Clone, Copy)]
 pub struct Terms {
     pub held: bool,
     pub request: Request,

@@ -17,7 +17,7 @@ pub mod step;
 // are `first` to `sixth` and, of light, `temperature`. 4: the call failed with the number `first`, whose values are `second`
 // and `third`. 5: refused with the number `first`, the state as it was. transfers, slowest: at an end what was metered.
 #[repr(C)]
-#[derive(Drop)]
+#[derive(Clone, Copy)]
 pub struct Next {
     pub kind: u32,
     pub first: u32,
@@ -32,7 +32,7 @@ pub struct Next {
 }
 
 #[repr(C)]
-#[derive(Drop)]
+#[derive(Clone, Copy)]
 pub struct Block {
     pub next: Next,
     pub state: State,

@@ -21,7 +21,7 @@ ghost use Rattle.host.specs.Open.{named, OpenedBy};
 use crate::Block;
 use transfer::attempt::Sequence;
 
-#[derive(Drop)]
+#[derive(Clone, Copy)]
 pub enum Named {
     Known(Sequence),
     Unknown,

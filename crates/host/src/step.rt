@@ -9,7 +9,7 @@ use bus::quick::Moved;
 use flat::State;
 use hardware::Answer;
 
-#[derive(Drop)]
+#[derive(Clone, Copy)]
 pub enum Given {
     Known(Answer),
     Unknown,

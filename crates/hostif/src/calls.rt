@@ -12,13 +12,13 @@ use crate::command::{Command, CommandNext};
 use crate::token::{Token, TokenNext};
 use hardware::{Access, Admitted, Answer, Byte, Flag, Opening, Port, Refusal};
 
-#[derive(Drop)]
+#[derive(Clone, Copy)]
 pub enum CommandCall {
     Going(Port, Command),
     Over,
 }
 
-#[derive(Drop)]
+#[derive(Clone, Copy)]
 pub enum CommandTold {
     Ask(Access, CommandCall),
     End(Byte),
@@ -26,13 +26,13 @@ pub enum CommandTold {
 }
 
 // take: whether the token is asked for or given back.
-#[derive(Drop)]
+#[derive(Clone, Copy)]
 pub enum TokenCall {
     Going(Port, bool, Token),
     Over,
 }
 
-#[derive(Drop)]
+#[derive(Clone, Copy)]
 pub enum TokenTold {
     Ask(Access, TokenCall),
     End(Flag),

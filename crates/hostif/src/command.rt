@@ -18,7 +18,7 @@ use sync::regs::SW_MNG;
 use sync::release_bits::{ReleaseBits, ReleaseBitsNext};
 
 // Releasing: with how the command closed.
-#[derive(Drop)]
+#[derive(Clone, Copy)]
 pub enum Command {
     Acquiring(AcquireBits),
     Requesting(Request),
@@ -26,7 +26,7 @@ pub enum Command {
     Releasing(ReleaseBits, Byte),
 }
 
-#[derive(Drop)]
+#[derive(Clone, Copy)]
 pub enum CommandNext {
     Going(Command),
     End(Byte),

@@ -32,7 +32,7 @@ pub const FWSTS_FWRI: u32 = 1 << 9;
 pub const POLLS: u32 = 50_000;
 
 // Word and Start: with HICR as it was read. Word: the word of the block that is written.
-#[derive(Drop)]
+#[derive(Clone, Copy)]
 pub enum Request {
     Fwsts(Update),
     Hicr,
@@ -41,7 +41,7 @@ pub enum Request {
     Polling(Poll),
 }
 
-#[derive(Drop)]
+#[derive(Clone, Copy)]
 pub enum RequestNext {
     Going(Request),
     End(Word),

@@ -10,13 +10,13 @@ use crate::request::FLEX_MNG;
 use hardware::{Access, Answer, Byte, Error, Word};
 
 // Head: with HICR as last read. Rest: with the head, and the words left after this one.
-#[derive(Drop)]
+#[derive(Clone, Copy)]
 pub enum Response {
     Head(u32),
     Rest(u32, u8),
 }
 
-#[derive(Drop)]
+#[derive(Clone, Copy)]
 pub enum ResponseNext {
     Going(Response),
     End(Byte),

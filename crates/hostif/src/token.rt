@@ -14,14 +14,14 @@ pub const TOKEN_BUSY: u8 = 0x80;
 pub const TOKEN_OK: u8 = 0x01;
 
 // The block's two words stand beside the command.
-#[derive(Drop)]
+#[derive(Clone, Copy)]
 pub struct Token {
     pub first: u32,
     pub second: u32,
     pub command: Command,
 }
 
-#[derive(Drop)]
+#[derive(Clone, Copy)]
 pub enum TokenNext {
     Going(Token),
     End(Flag),
@@ -67,8 +67,8 @@ fn status(take: bool, s: Byte) -> Flag
 
 #[tactic(auto, using(hardware::proofs::Prog::going), unfolding(crate::specs::Hostif::command_next, crate::specs::Hostif::token_next, crate::specs::Hostif::access_token, crate::specs::Hostif::rest_token, crate::specs::Hostif::valid_token_next, crate::specs::Hostif::valid_token, crate::specs::Hostif::valid_command_next, hardware::specs::Prog::followed, hardware::specs::Prog::erase, crate::specs::Hostif::tokened, crate::specs::Hostif::header))]
 fn commanded(port: Port, take: bool, first: u32, second: u32, n: CommandNext) -> TokenNext
-    ensures result_value { token_next port take result ≡ followed (command_next port n (first ∷ second ∷ [])) (tokened take) }
-    ensures result_value_2 { valid_command_next port 2 n ≡ true → valid_token_next port result ≡ true }
+    ensures yields { token_next port take result ≡ followed (command_next port n (first ∷ second ∷ [])) (tokened take) }
+    ensures limits { valid_command_next port 2 n ≡ true → valid_token_next port result ≡ true }
 {
     match n {
         CommandNext::Going(command) => TokenNext::Going(Token {
@@ -82,8 +82,8 @@ fn commanded(port: Port, take: bool, first: u32, second: u32, n: CommandNext) ->
 
 #[tactic(auto, using(hardware::proofs::Prog::over), unfolding(crate::specs::Hostif::token, crate::specs::Hostif::token_block))]
 pub fn open(port: Port, take: bool) -> TokenNext
-    ensures result_value { token_next port take result ≡ erase (token port take) }
-    ensures result_value_2 { valid_token_next port result ≡ true }
+    ensures yields { token_next port take result ≡ erase (token port take) }
+    ensures limits { valid_token_next port result ≡ true }
 {
     commanded(
         port,
@@ -105,8 +105,8 @@ pub fn access(port: Port, s: Token) -> Access
 
 #[tactic(auto, using(crate::proofs::Laws::two_words, hardware::proofs::Prog::over), unfolding(crate::specs::Hostif::rest_token, crate::specs::Hostif::valid_token))]
 pub fn step(port: Port, take: bool, s: Token, a: Answer) -> TokenNext
-    ensures result_value { token_next port take result ≡ erase (rest_token port take s a) }
-    ensures result_value_2 { valid_token port s ≡ true → valid_token_next port result ≡ true }
+    ensures yields { token_next port take result ≡ erase (rest_token port take s a) }
+    ensures limits { valid_token port s ≡ true → valid_token_next port result ≡ true }
 {
     let mut block = [s.first, s.second];
     let command = s.command;

@@ -22,27 +22,27 @@ use hardware::{
 use transfer::attempt::Sequence;
 
 // The request, how it is made and the meter stand beside the state.
-#[derive(Drop)]
+#[derive(Clone, Copy)]
 pub enum TransferCall {
     Going(Port, Request, How, Meter, Handshake),
     Over,
 }
 
 // The end: the value, and the meter; the finished state is `Over`.
-#[derive(Drop)]
+#[derive(Clone, Copy)]
 pub enum TransferTold {
     Ask(Access, TransferCall),
     End(Word, Meter),
     Refused(Refusal),
 }
 
-#[derive(Drop)]
+#[derive(Clone, Copy)]
 pub enum SetupCall {
     Going(Update),
     Over,
 }
 
-#[derive(Drop)]
+#[derive(Clone, Copy)]
 pub enum SetupTold {
     Ask(Access, SetupCall),
     End(Outcome),

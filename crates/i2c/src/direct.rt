@@ -15,14 +15,14 @@ use hardware::{Access, Answer, Meter, Port};
 use transfer::attempt::Attempt;
 use transfer::transfer::Transfer;
 
-#[derive(Drop)]
+#[derive(Clone, Copy)]
 pub enum Found {
     On(Command),
     Off,
 }
 
 // On: the next access, and the request that awaits its answer.
-#[derive(Drop)]
+#[derive(Clone, Copy)]
 pub enum Went {
     On(Access, Handshake),
     Slow,

@@ -22,7 +22,7 @@ use transfer::attempt::Got;
 
 // Asking, Granting, Waiting: with the attempts to come. Granting, Waiting: then the looks left after this one. Giving: with
 // how the attempts ended.
-#[derive(Drop)]
+#[derive(Clone, Copy)]
 pub enum Handshake {
     Asking(u8, Update),
     Granting(u8, u8),
@@ -31,7 +31,7 @@ pub enum Handshake {
     Giving(Got, Update),
 }
 
-#[derive(Drop)]
+#[derive(Clone, Copy)]
 pub enum HandshakeNext {
     Going(Marks, Handshake),
     End(Got),

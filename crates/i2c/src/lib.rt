@@ -17,7 +17,7 @@ pub const QSFP_DEVICE: u16 = 0x1558;
 
 // How a transfer is made. lock: under the bits that guard the port's bus. sequence: the clearing after a failed attempt, by
 // its name.
-#[derive(Drop)]
+#[derive(Clone, Copy)]
 pub struct How {
     pub lock: bool,
     pub sequence: Sequence,

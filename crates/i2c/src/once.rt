@@ -12,7 +12,7 @@ use hardware::{Answer, Word};
 use transfer::attempt::{Attempt, AttemptNext, Got, Sequence};
 
 // The I2C device first; then the offset or the register; then the value written.
-#[derive(Drop)]
+#[derive(Clone, Copy)]
 pub enum Request {
     ReadByte(u8, u8),
     WriteByte(u8, u8, u8),

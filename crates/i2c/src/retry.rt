@@ -18,7 +18,7 @@ use transfer::attempt::{Attempt, AttemptNext, Got};
 
 // Acquiring, Releasing: no mask of a transfer has TOKEN, so a lock is its bits of SW_FW_SYNC. Releasing: with how the
 // attempt ended.
-#[derive(Drop)]
+#[derive(Clone, Copy)]
 pub enum Stage {
     Acquiring(AcquireBits),
     Trying(Attempt),
@@ -27,13 +27,13 @@ pub enum Stage {
 }
 
 // left: the attempts after this one; while acquiring, after the one to come.
-#[derive(Drop)]
+#[derive(Clone, Copy)]
 pub struct Retry {
     pub left: u8,
     pub stage: Stage,
 }
 
-#[derive(Drop)]
+#[derive(Clone, Copy)]
 pub enum RetryNext {
     Going(Marks, Retry),
     End(Got),

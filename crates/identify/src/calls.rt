@@ -17,14 +17,14 @@ use i2c::direct::Went;
 use transfer::attempt::Sequence;
 
 // Going: with the clearing sequence of its transfers, and the meter.
-#[derive(Drop)]
+#[derive(Clone, Copy)]
 pub enum IdentifyCall {
     Going(Port, Sequence, Meter, Identify),
     Over,
 }
 
 // The end: the identity, and the meter; the finished state is `Over`.
-#[derive(Drop)]
+#[derive(Clone, Copy)]
 pub enum IdentifyTold {
     Ask(Access, IdentifyCall),
     End(Identified, Meter),

@@ -17,7 +17,7 @@ use transfer::attempt::Got;
 
 // The byte that is requested, with those read before it. Identifier: with the readings left after this one. The codes of
 // an SFP are bytes 6, 3 and 8; those of a QSFP, in this order, 83 and 86 (hexadecimal).
-#[derive(Drop)]
+#[derive(Clone, Copy)]
 pub enum Place {
     Identifier(u8),
     Comp1g,
@@ -36,7 +36,7 @@ pub enum Place {
 }
 
 // What is to be done once a byte was read, or not.
-#[derive(Drop)]
+#[derive(Clone, Copy)]
 pub enum Then {
     Request(Place),
     Found(Identity),
@@ -47,7 +47,7 @@ const EEPROM: u8 = 0xa0;
 
 // Of a place: the byte's offset; the most readings of byte 0, and how many of them are left; the requests after byte 0, this
 // one among them.
-#[derive(Drop)]
+#[derive(Clone, Copy)]
 struct Row(u8, u8, u8, u8);
 
 fn row_at(p: Place) -> Row

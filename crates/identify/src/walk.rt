@@ -14,19 +14,19 @@ use i2c::handshake::{Handshake, HandshakeNext};
 use sfp::Identity;
 use transfer::attempt::Sequence;
 
-#[derive(Drop)]
+#[derive(Clone, Copy)]
 pub struct Identify {
     pub place: Place,
     pub request: Handshake,
 }
 
-#[derive(Drop)]
+#[derive(Clone, Copy)]
 pub enum Identified {
     Ok(Identity),
     Err(Error),
 }
 
-#[derive(Drop)]
+#[derive(Clone, Copy)]
 pub enum IdentifyNext {
     Going(Marks, Identify),
     End(Identified),

@@ -4,7 +4,7 @@ ghost use Rattle.image.specs.declared.files.Size.TheVariants.{Unread};
 ghost use Rattle.image.specs.Size.{SizeOf, Told};
 
 // How many bytes a file has, and whether it could be read.
-#[derive(Drop)]
+#[derive(Clone, Copy)]
 pub enum Size {
     Whole,
     Short(usize),
@@ -12,7 +12,7 @@ pub enum Size {
     Unread,
 }
 
-#[derive(Drop)]
+#[derive(Clone, Copy)]
 pub struct Image {
     pub size: Size,
     pub a0: [u8; 256],

@@ -2,7 +2,7 @@ ghost use Rattle.std.specs.Prelude.{◌≡◌};
 ghost use Rattle.level.specs.Level.{level_number};
 
 // A level of light in tenths of a dBm. None: the count is 0.
-#[derive(Drop)]
+#[derive(Clone, Copy)]
 pub enum Level {
     Tenths(i16),
     None,

@@ -16,14 +16,14 @@ use i2c::direct::Went;
 use transfer::attempt::Sequence;
 
 // Going: with the clearing sequence of its transfers, the attempts for each byte, and the meter.
-#[derive(Drop)]
+#[derive(Clone, Copy)]
 pub enum LightCall {
     Going(Port, Sequence, u8, Meter, Light),
     Over,
 }
 
 // The end: what the module says, and the meter; the finished state is `Over`.
-#[derive(Drop)]
+#[derive(Clone, Copy)]
 pub enum LightTold {
     Ask(Access, LightCall),
     End(Measured, Meter),

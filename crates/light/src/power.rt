@@ -7,7 +7,7 @@ ghost use Rattle.std.specs.Float.Ieee.Scale.{finite};
 ghost use Rattle.light.specs.Power.{finite_pattern, all_finite, coefficients_of, horner_of, power_of, powered_of};
 
 // What a module says of its received light. Internal: its own count. Calibrated: worked out with its coefficients.
-#[derive(Drop)]
+#[derive(Clone, Copy)]
 pub enum Reading {
     Internal(u16),
     Calibrated(f32),
@@ -15,7 +15,7 @@ pub enum Reading {
 }
 
 // Rx_PWR(4) to Rx_PWR(0) as the module's bytes have them.
-#[derive(Drop)]
+#[derive(Clone, Copy)]
 pub struct Patterns {
     pub c4: u32,
     pub c3: u32,
@@ -24,7 +24,7 @@ pub struct Patterns {
     pub c0: u32,
 }
 
-#[derive(Drop)]
+#[derive(Clone, Copy)]
 pub struct Coefficients {
     pub c4: f32,
     pub c3: f32,
@@ -34,7 +34,7 @@ pub struct Coefficients {
 }
 
 // Coefficient, the papers' 28: one of them is not finite. Result, 29: all are, and the power is not.
-#[derive(Drop)]
+#[derive(Clone, Copy)]
 pub enum Powered {
     Ok(f32),
     Coefficient,

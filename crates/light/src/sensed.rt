@@ -8,7 +8,7 @@ use crate::power::{Patterns, Powered, Reading};
 use hardware::Error;
 
 // kind: byte 92 of A0. The words: bytes 96 to 105 of A2, as far as they are read. patterns: its bytes 56 to 75.
-#[derive(Drop)]
+#[derive(Clone, Copy)]
 pub struct Sensed {
     pub kind: u8,
     pub temperature: u16,
@@ -20,7 +20,7 @@ pub struct Sensed {
 }
 
 // temperature: in 1/256 degree. The other three words are raw.
-#[derive(Drop)]
+#[derive(Clone, Copy)]
 pub struct Measures {
     pub temperature: i16,
     pub voltage: u16,
@@ -30,7 +30,7 @@ pub struct Measures {
 }
 
 // The end of a call. Coefficient, Result: every byte was read, and that is not finite.
-#[derive(Drop)]
+#[derive(Clone, Copy)]
 pub enum Measured {
     Ok(Measures),
     Coefficient,

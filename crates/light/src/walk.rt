@@ -16,14 +16,14 @@ use i2c::once::Request;
 use transfer::attempt::{Got, Sequence};
 
 // left: the bytes that come after this one if all are read.
-#[derive(Drop)]
+#[derive(Clone, Copy)]
 pub struct Light {
     pub left: u8,
     pub sensed: Sensed,
     pub request: Handshake,
 }
 
-#[derive(Drop)]
+#[derive(Clone, Copy)]
 pub enum LightNext {
     Going(Marks, Light),
     End(Measured),

@@ -7,13 +7,13 @@ use light::calls::LightTold;
 use light::sensed::Measured;
 
 // Over: how the call ended, and the transfers made.
-#[derive(Drop)]
+#[derive(Clone, Copy)]
 pub enum LightEnd {
     Over(Measured, u32),
     Unended,
 }
 
-#[derive(Drop)]
+#[derive(Clone, Copy)]
 struct Answered {
     state: BenchState,
     answer: Answer,

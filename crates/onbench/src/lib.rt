@@ -20,7 +20,7 @@ use identify::walk::Identified;
 use transfer::attempt::Sequence;
 
 // How a run ended: with the call's result and the meter, for want of answers, or by a refusal.
-#[derive(Drop)]
+#[derive(Clone, Copy)]
 pub enum Ending {
     Ended(Identified, Meter),
     Short,
@@ -28,7 +28,7 @@ pub enum Ending {
 }
 
 // The registers and the module at the end.
-#[derive(Drop)]
+#[derive(Clone, Copy)]
 pub struct Run {
     pub ending: Ending,
     pub state: BenchState,
@@ -36,21 +36,21 @@ pub struct Run {
 
 // Where the answers to accesses that are not the machine's own come from: they are lent, or fixed so that every lock and grant
 // comes at once.
-#[derive(Drop)]
+#[derive(Clone, Copy)]
 pub enum Origin {
     Lent,
     AtOnce,
 }
 
 // An answer and how many of the lent ones are then used, or none is left.
-#[derive(Drop)]
+#[derive(Clone, Copy)]
 pub enum Next {
     Given(Answer, usize),
     Nothing,
 }
 
 // used: so many of the answers lent. over: there is nothing more to do.
-#[derive(Drop)]
+#[derive(Clone, Copy)]
 pub struct Progress {
     pub told: IdentifyTold,
     pub state: BenchState,
@@ -230,8 +230,8 @@ fn size(page: &[u8]) -> usize
 
 // Each byte of a page is below 256, as its type says; the claim needs it said.
 fn bytes(page: &[u8]) -> usize
-    ensures value { result ≡ length page.now }
-    ensures by_index { (n : ℕ) → get_or page.now n 0 < 256 }
+    ensures counted { result ≡ length page.now }
+    ensures bytes { (n : ℕ) → get_or page.now n 0 < 256 }
 {
     size(page)
 }
@@ -247,8 +247,8 @@ pub fn identify_on_bench(
     answers: &[u64],
     sequence: Sequence,
 ) -> Run
-    ensures result_value { outcome_of result ≡ identify_run sequence listed (open_port family device lan) (world d) (decoded_all answers.now) }
-    ensures demand3 { (port : Port) → yes port ≡ open_port family device lan → Allowed port (start_of d) → Premises sequence port d.bench (start_of d) (decoded_all answers.now) → Finished (outcome_of result) ⊎ (IDENTIFY_STEPS port.family ≤ length answers.now) → Demand3 sequence port d.bench (start_of d) (decoded_all answers.now) (outcome_of result) }
+    ensures runs { outcome_of result ≡ identify_run sequence listed (open_port family device lan) (world d) (decoded_all answers.now) }
+    ensures claimed { (port : Port) → yes port ≡ open_port family device lan → Allowed port (start_of d) → Premises sequence port d.bench (start_of d) (decoded_all answers.now) → Finished (outcome_of result) ⊎ (IDENTIFY_STEPS port.family ≤ length answers.now) → Demand3 sequence port d.bench (start_of d) (decoded_all answers.now) (outcome_of result) }
 {
     let page = d.bench.a0.bytes;
     bytes(&page);
@@ -264,8 +264,8 @@ pub fn identify_at_once(
     d: BenchState,
     sequence: Sequence,
 ) -> Run
-    ensures result_value { outcome_of result ≡ identify_run sequence (fixed at_once) (open_port family device lan) (world d) [] }
-    ensures demand3at_once { (port : Port) → yes port ≡ open_port family device lan → Allowed port (start_of d) → Demand3AtOnce sequence port d.bench (start_of d) (outcome_of result) }
+    ensures runs { outcome_of result ≡ identify_run sequence (fixed at_once) (open_port family device lan) (world d) [] }
+    ensures claimed { (port : Port) → yes port ≡ open_port family device lan → Allowed port (start_of d) → Demand3AtOnce sequence port d.bench (start_of d) (outcome_of result) }
 {
     let page = d.bench.a0.bytes;
     bytes(&page);

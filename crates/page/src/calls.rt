@@ -17,14 +17,14 @@ use i2c::direct::Went;
 use transfer::attempt::Sequence;
 
 // Going: with the clearing sequence of its transfers, which page it is, the attempts for each byte, and the meter.
-#[derive(Drop)]
+#[derive(Clone, Copy)]
 pub enum PageCall {
     Going(Port, Sequence, Form, u8, Meter, Page),
     Over,
 }
 
 // The end: how the page ended, and the meter; the finished state is `Over`.
-#[derive(Drop)]
+#[derive(Clone, Copy)]
 pub enum PageTold {
     Ask(Access, PageCall),
     End(Paged, Meter),

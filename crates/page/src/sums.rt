@@ -5,7 +5,7 @@ ghost use Rattle.page.specs.Page.{sums_of, paged_of, paged_number};
 use hardware::Error;
 
 // The end of a call. FirstSum, SecondSum: every byte was read, and that sum is wrong.
-#[derive(Drop)]
+#[derive(Clone, Copy)]
 pub enum Paged {
     Ok,
     FirstSum,

@@ -16,20 +16,20 @@ use i2c::once::Request;
 use transfer::attempt::{Got, Sequence};
 
 // Which module's page: SFF-8472's begins at byte 0, SFF-8636's at byte 128.
-#[derive(Drop)]
+#[derive(Clone, Copy)]
 pub enum Form {
     Sff8472,
     Sff8636,
 }
 
 // left: the bytes after this one.
-#[derive(Drop)]
+#[derive(Clone, Copy)]
 pub struct Page {
     pub left: u8,
     pub request: Handshake,
 }
 
-#[derive(Drop)]
+#[derive(Clone, Copy)]
 pub enum PageNext {
     Going(Marks, Page),
     End(Paged),

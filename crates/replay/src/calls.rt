@@ -10,7 +10,7 @@ use sync::calls::{LockTold, UnlockTold};
 pub const BUDGET: u32 = 30_000_000;
 
 // What a run did: its accesses, and its result. A call that is refused or too long is not ended.
-#[derive(Drop)]
+#[derive(Clone, Copy)]
 pub struct Summary {
     pub ended: bool,
     pub accesses: u32,

@@ -3,7 +3,7 @@ use crate::rules::Rules;
 use crate::{rng, rules};
 use hardware::{Access, Answer};
 
-#[derive(Drop)]
+#[derive(Clone, Copy)]
 pub struct Host {
     pub stream: u32,
     pub fail_at: u32,
@@ -13,7 +13,7 @@ pub struct Host {
     pub rules: Rules,
 }
 
-#[derive(Drop)]
+#[derive(Clone, Copy)]
 pub struct Played {
     pub host: Host,
     pub answer: Answer,

@@ -15,7 +15,7 @@ const LATE: u32 = 0x1_5f5c;
 // number, the next is the lowest byte of w1. paged: they are a page, whose bytes are made one by one from the stream w2, with
 // the sum of its part so far in total; in w3 which check bytes are wrong. sensed: they are those of the call of light, made from
 // that stream and from the shape w3.
-#[derive(Drop)]
+#[derive(Clone, Copy)]
 pub struct Lines {
     pub used: bool,
     pub register: u32,

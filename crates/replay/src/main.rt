@@ -23,7 +23,7 @@ mod transfers;
 use parse::Line;
 
 // The lines read, those that agree, and those that differ and were named.
-#[derive(Drop)]
+#[derive(Clone, Copy)]
 struct Tally {
     lines: u32,
     agree: u32,
@@ -31,7 +31,7 @@ struct Tally {
 }
 
 // going: there may be more to read. good: no line was malformed.
-#[derive(Drop)]
+#[derive(Clone, Copy)]
 struct Run {
     line: Line,
     tally: Tally,

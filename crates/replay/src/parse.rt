@@ -6,7 +6,7 @@ use crate::rules::{Rule, Rules};
 use crate::{lines, rules};
 
 // The numbers of a line so far, and the number that is being read. A line has 11 numbers, 7 for each of up to four rules, and 6.
-#[derive(Drop)]
+#[derive(Clone, Copy)]
 pub struct Line {
     pub words: [u32; 45],
     pub count: usize,

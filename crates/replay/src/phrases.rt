@@ -2,7 +2,7 @@
 use crate::rng;
 
 // The bytes so far and the stream that addresses and operands come from. A script of more than 64 bytes is not whole.
-#[derive(Drop)]
+#[derive(Clone, Copy)]
 pub struct Made {
     pub bytes: [u8; 64],
     pub count: usize,

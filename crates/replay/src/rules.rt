@@ -5,7 +5,7 @@ use crate::lines;
 use crate::lines::Lines;
 
 // One rule, with the reads of its register so far.
-#[derive(Drop)]
+#[derive(Clone, Copy)]
 pub struct Rule {
     pub used: bool,
     pub register: u32,
@@ -19,14 +19,14 @@ pub struct Rule {
 }
 
 // The rule of the lines comes after the others.
-#[derive(Drop)]
+#[derive(Clone, Copy)]
 pub struct Rules {
     pub list: [Rule; 4],
     pub lines: Lines,
 }
 
 // A read's value, and the rules after it.
-#[derive(Drop)]
+#[derive(Clone, Copy)]
 pub struct Changed {
     pub rules: Rules,
     pub value: u32,

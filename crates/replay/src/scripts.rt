@@ -6,7 +6,7 @@ use hardware::{Meter, Outcome};
 use transfer::calls::ScriptTold;
 
 // The bytes handed out: the sum over them, and 256 for each.
-#[derive(Drop)]
+#[derive(Clone, Copy)]
 pub struct Heard {
     pub sum: u32,
     pub count: u32,

@@ -8,7 +8,7 @@ use transfer::attempt::Sequence;
 
 // A transfer as its numbers name it: low is the offset or register, high the attempts or the value. standard: with the default
 // sequence, else with that of the Rust by name.
-#[derive(Drop)]
+#[derive(Clone, Copy)]
 pub struct Asked {
     pub family: u32,
     pub device: u16,

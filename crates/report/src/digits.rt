@@ -3,7 +3,7 @@ ghost use Rattle.std.specs.Prelude.{◌≡◌};
 ghost use Rattle.report.specs.Number.{digit_of, most_of, more_of, run_of, none, wrong, read_of};
 
 // The value, at most 2^32 - 1, and whether every byte so far was a digit.
-#[derive(Drop)]
+#[derive(Clone, Copy)]
 pub struct Digits {
     pub value: u32,
     pub good: bool,

@@ -6,13 +6,13 @@ use page::sums::Paged;
 use transfer::attempt::Sequence;
 
 // Over: how the call ended, and the transfers made.
-#[derive(Drop)]
+#[derive(Clone, Copy)]
 pub enum PageEnd {
     Over(Paged, u32),
     Unended,
 }
 
-#[derive(Drop)]
+#[derive(Clone, Copy)]
 struct Answered {
     state: BenchState,
     answer: Answer,

@@ -37,7 +37,7 @@ const NAMES: usize = 13;
 
 // values: each setting as a number. places: the word that gave it, from 1, and 0 where none did. image: the word that names
 // the image, likewise.
-#[derive(Drop)]
+#[derive(Clone, Copy)]
 pub struct Settings {
     pub values: [u32; 13],
     pub places: [usize; 13],
@@ -45,7 +45,7 @@ pub struct Settings {
 }
 
 // What is wrong with a word. Hex: it has not 1 to so many hexadecimal digits. Count: the stage's number is above this.
-#[derive(Drop)]
+#[derive(Clone, Copy)]
 pub enum Fault {
     Nothing,
     Long,
@@ -62,14 +62,14 @@ pub enum Fault {
     Sequence,
 }
 
-#[derive(Drop)]
+#[derive(Clone, Copy)]
 pub enum Value {
     Ok(u32),
     Bad(Fault),
 }
 
 // The settings so far, and what is wrong with the word at a place.
-#[derive(Drop)]
+#[derive(Clone, Copy)]
 pub struct Reading {
     pub settings: Settings,
     pub fault: Fault,
@@ -89,8 +89,8 @@ fn defaults() -> Settings {
 // The first place of the byte, or the text's length.
 #[tactic(auto, using(crate::proofs::Laws::place_end, crate::proofs::Laws::place_found, crate::proofs::Laws::place_next))]
 fn find(text: &[u8], b: u8) -> usize
-    ensures value { result ≡ place_of b text.now }
-    ensures upper_bound { result ≤ length text.now }
+    ensures yields { result ≡ place_of b text.now }
+    ensures limits { result ≤ length text.now }
 {
     let mut i = 0;
     while i < text.len() {

@@ -123,9 +123,9 @@ fn state_offset(n: u8) -> u8 {
 // State n of the table, on a family's port without a mux and with both lines released by the driver. In each the bits taken
 // are a0, the page is A0, and data comes next.
 pub(crate) fn state(family: Family, n: u8, first: [u8; 256], second: [u8; 256]) -> BenchState
-    ensures word_value { ready (layout_of family) result.word ≡ true }
-    ensures first_value { result.bench.receiver.first ≡ false }
-    ensures bytes_value { (result.bench.a0.bytes ≡ first) × (result.bench.a2.bytes ≡ second) }
+    ensures released { ready (layout_of family) result.word ≡ true }
+    ensures not_first { result.bench.receiver.first ≡ false }
+    ensures pages { (result.bench.a0.bytes ≡ first) × (result.bench.a2.bytes ≡ second) }
 {
     let receiver = Receiver {
         stage: state_stage(n),

@@ -22,7 +22,7 @@ const DEVICE: u16 = 0x10fb;
 const IMAGES: u8 = 14;
 
 // ended: with a record, after so many transfers.
-#[derive(Drop)]
+#[derive(Clone, Copy)]
 pub struct Seen {
     pub ended: bool,
     pub identity: Identity,
@@ -30,7 +30,7 @@ pub struct Seen {
 }
 
 // right: the states with the record of Idle. more: those among them with one transfer more.
-#[derive(Drop)]
+#[derive(Clone, Copy)]
 pub struct Tally {
     pub right: u32,
     pub more: u32,

@@ -7,7 +7,7 @@ use hardware::Refusal;
 
 // Where a walk over the commands stands. Begin: a phrase has to come. Address: its address. Sending, Reading: after an
 // even or an odd address. Between: after the last read. End: after the stop. Wrong: no script goes on so.
-#[derive(Drop)]
+#[derive(Clone, Copy)]
 pub enum Where {
     Begin,
     Address,
@@ -18,7 +18,7 @@ pub enum Where {
     Wrong,
 }
 
-#[derive(Drop)]
+#[derive(Clone, Copy)]
 pub enum Judged {
     Accepted,
     Refused(Refusal),

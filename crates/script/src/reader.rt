@@ -5,14 +5,14 @@ ghost use Rattle.script.specs.Script.{command_at, next_at, step_at};
 use crate::cursor;
 use bus::command::Command;
 
-#[derive(Drop)]
+#[derive(Clone, Copy)]
 pub struct Reader<'a> {
     pub script: &'a [u8],
     pub at: usize,
 }
 
 // A command, and the position behind it.
-#[derive(Drop)]
+#[derive(Clone, Copy)]
 pub struct Step {
     pub command: Command,
     pub next: usize,

@@ -6,7 +6,7 @@ use crate::sum;
 use hardware::Refusal;
 
 // Written: with the number of bytes.
-#[derive(Drop)]
+#[derive(Clone, Copy)]
 pub enum Wrote {
     Written(usize),
     Refused(Refusal),

@@ -39,7 +39,7 @@ pub const RATE: u8 = 0x67;
 pub const LIMITING: u8 = 0x04;
 
 // The bytes of page A0 that a class goes by, by their places (decimal).
-#[derive(Drop)]
+#[derive(Clone, Copy)]
 pub struct SfpBytes {
     pub b0: u8,
     pub b3: u8,
@@ -51,7 +51,7 @@ pub struct SfpBytes {
     pub b60: u8,
 }
 
-#[derive(Drop)]
+#[derive(Clone, Copy)]
 pub struct Classed {
     pub kind: Kind,
     pub multispeed: bool,

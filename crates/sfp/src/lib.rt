@@ -13,7 +13,7 @@ pub mod sum;
 // The kinds of `sfp.rs`. DaCu: a passive direct-attach cable of copper. DaActiveLimiting: an active one with a limiting
 // amplifier. SrLr: 10GBASE-SR or -LR. Cu1g: 1000BASE-T. Sx1g, Lx1g: 1000BASE-SX, -LX. Bx10g, Bx1g: both directions on one
 // fibre. Unknown: another identifier than an SFP's, or no rule fits. NotPresent: nothing answered.
-#[derive(Drop)]
+#[derive(Clone, Copy)]
 pub enum Kind {
     DaCu,
     DaActiveLimiting,
@@ -29,7 +29,7 @@ pub enum Kind {
 
 // What identifies a module: all that a call on the bus carries of it. multispeed: 10G is tried, and then 1G. comp10g, comp1g
 // and cable are bytes 3, 6 and 8 of an SFP; of a QSFP bytes 83 and 86 (hexadecimal) and 0.
-#[derive(Drop)]
+#[derive(Clone, Copy)]
 pub struct Identity {
     pub kind: Kind,
     pub multispeed: bool,
@@ -40,20 +40,20 @@ pub struct Identity {
 }
 
 // The record of a module, built round its identity for the caller (`methods::record`).
-#[derive(Drop)]
+#[derive(Clone, Copy)]
 pub struct Module {
     pub identity: Identity,
 }
 
 // What the codes alone decide: the kind, or that it takes the bytes of an active cable.
-#[derive(Drop)]
+#[derive(Clone, Copy)]
 pub enum Coded {
     Known(Kind),
     Open,
 }
 
 // The codes of an SFP that its class goes by: bytes 6, 3 and 8.
-#[derive(Drop)]
+#[derive(Clone, Copy)]
 pub struct Codes {
     pub g1: u8,
     pub g10: u8,

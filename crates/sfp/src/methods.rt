@@ -7,7 +7,7 @@ use crate::{Identity, Kind, Module, same};
 use hardware::Family;
 
 // The Rust's `Option<u16>`.
-#[derive(Drop)]
+#[derive(Clone, Copy)]
 pub enum Key {
     Key(u16),
     Nothing,

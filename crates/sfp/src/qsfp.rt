@@ -14,7 +14,7 @@ use crate::{Coded, Identity, Kind, class};
 pub const QSFP: u8 = 0x0d;
 
 // The bytes that a class goes by, by their places (hexadecimal).
-#[derive(Drop)]
+#[derive(Clone, Copy)]
 pub struct QsfpBytes {
     pub b0: u8,
     pub b82: u8,

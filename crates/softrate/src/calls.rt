@@ -17,14 +17,14 @@ use i2c::direct::Went;
 use transfer::attempt::Sequence;
 
 // Going: with the clearing sequence of its transfers, whether 10G is selected, and the meter.
-#[derive(Drop)]
+#[derive(Clone, Copy)]
 pub enum RateCall {
     Going(Port, Sequence, bool, Meter, Rate),
     Over,
 }
 
 // The end: whether both bytes were written, and the meter; the finished state is `Over`.
-#[derive(Drop)]
+#[derive(Clone, Copy)]
 pub enum RateTold {
     Ask(Access, RateCall),
     End(Flag, Meter),

@@ -6,14 +6,14 @@ use hardware::Port;
 use i2c::once::Request;
 
 // Writing: with the byte that was read.
-#[derive(Drop)]
+#[derive(Clone, Copy)]
 pub enum Place {
     Reading,
     Writing(u8),
 }
 
 // second: the second of the two bytes. ok: no byte failed before this one.
-#[derive(Drop)]
+#[derive(Clone, Copy)]
 pub struct Spot {
     pub second: bool,
     pub ok: bool,

@@ -15,13 +15,13 @@ use i2c::How;
 use i2c::handshake::{Handshake, HandshakeNext};
 use transfer::attempt::{Got, Sequence};
 
-#[derive(Drop)]
+#[derive(Clone, Copy)]
 pub struct Rate {
     pub spot: Spot,
     pub request: Handshake,
 }
 
-#[derive(Drop)]
+#[derive(Clone, Copy)]
 pub enum RateNext {
     Going(Marks, Rate),
     End(Flag),

@@ -14,7 +14,7 @@ use hardware::{Access, Answer, Error, Family, Millis, Outcome, Port, Update, Upd
 
 // Taken: with how the write of the bits ended, or the read before it where that failed: the semaphore goes back before
 // it is reported. Unlocking and Waiting: with the bits that were found held.
-#[derive(Drop)]
+#[derive(Clone, Copy)]
 pub enum Stage {
     Locking(Lock),
     Reading,
@@ -26,13 +26,13 @@ pub enum Stage {
 }
 
 // left: the tries after this one.
-#[derive(Drop)]
+#[derive(Clone, Copy)]
 pub struct AcquireBits {
     pub left: u32,
     pub stage: Stage,
 }
 
-#[derive(Drop)]
+#[derive(Clone, Copy)]
 pub enum AcquireBitsNext {
     Going(AcquireBits),
     End(Outcome),
@@ -49,8 +49,8 @@ fn all(family: Family, mask: u32) -> u32
 
 #[tactic(auto, using(hardware::proofs::Prog::going), unfolding(crate::specs::Resource::acquire_bits_next, crate::specs::Resource::access_acquire_bits, crate::specs::Resource::access_acquire_stage, crate::specs::Resource::rest_acquire_bits, crate::specs::Resource::rest_acquire_stage, crate::specs::Lock::lock_next, crate::specs::Resource::valid_acquire_bits_next, crate::specs::Resource::valid_acquire_bits, crate::specs::Resource::valid_acquire_stage, hardware::specs::Prog::pick, crate::specs::Lock::valid_lock_next, hardware::specs::Prog::followed, hardware::specs::Prog::erase, hardware::specs::Prog::or_err, hardware::specs::Registers::outcome, crate::specs::Resource::try_read, hardware::specs::Change::access_update, hardware::specs::Change::rest_update))]
 fn locking(port: Port, mask: u32, left: u32, n: LockNext) -> AcquireBitsNext
-    ensures result_value { acquire_bits_next port mask result ≡ followed (lock_next port.family n) (or_err (λ _. try_read port mask left)) }
-    ensures result_value_2 { left < tries_of port.family → valid_lock_next n ≡ true → valid_acquire_bits_next port.family result ≡ true }
+    ensures yields { acquire_bits_next port mask result ≡ followed (lock_next port.family n) (or_err (λ _. try_read port mask left)) }
+    ensures limits { left < tries_of port.family → valid_lock_next n ≡ true → valid_acquire_bits_next port.family result ≡ true }
 {
     match n {
         LockNext::Going(t) => AcquireBitsNext::Going(AcquireBits {
@@ -69,8 +69,8 @@ fn locking(port: Port, mask: u32, left: u32, n: LockNext) -> AcquireBitsNext
 
 #[tactic(auto, using(hardware::proofs::Laws::one_less, hardware::proofs::Prog::over, crate::proofs::Laws::acquire_more), unfolding(crate::specs::Resource::acquire_tries, hardware::specs::Prog::erase, crate::specs::Resource::acquire_bits_next, hardware::specs::Registers::outcome, crate::specs::Resource::valid_acquire_bits_next, hardware::specs::Failures::failure_of))]
 pub fn open(port: Port, mask: u32, tries: u32, held: u32) -> AcquireBitsNext
-    ensures result_value { acquire_bits_next port mask result ≡ erase (acquire_tries port mask tries held) }
-    ensures result_value_2 { tries ≤ tries_of port.family → valid_acquire_bits_next port.family result ≡ true }
+    ensures yields { acquire_bits_next port mask result ≡ erase (acquire_tries port mask tries held) }
+    ensures limits { tries ≤ tries_of port.family → valid_acquire_bits_next port.family result ≡ true }
 {
     if tries == 0 {
         return AcquireBitsNext::End(Outcome::Err(Error::Semaphore(held)));
@@ -81,8 +81,8 @@ pub fn open(port: Port, mask: u32, tries: u32, held: u32) -> AcquireBitsNext
 
 #[tactic(auto, unfolding(crate::specs::Resource::acquire_bits_next, crate::specs::Resource::access_acquire_bits, crate::specs::Resource::access_acquire_stage, crate::specs::Resource::rest_acquire_bits, crate::specs::Resource::rest_acquire_stage, hardware::specs::Prog::erase, hardware::specs::Prog::pick, crate::specs::Resource::muxed, hardware::specs::Change::change, hardware::specs::Change::access_update, hardware::specs::Change::rest_update, crate::specs::Resource::valid_acquire_stage, crate::specs::Resource::valid_acquire_bits, crate::specs::Resource::valid_acquire_bits_next, hardware::specs::Registers::outcome))]
 fn mux(port: Port, mask: u32, left: u32) -> AcquireBitsNext
-    ensures result_value { acquire_bits_next port mask result ≡ erase (muxed port mask true) }
-    ensures result_value_2 { left < tries_of port.family → valid_acquire_bits_next port.family result ≡ true }
+    ensures yields { acquire_bits_next port mask result ≡ erase (muxed port mask true) }
+    ensures limits { left < tries_of port.family → valid_acquire_bits_next port.family result ≡ true }
 {
     if crate::regs::mux(port, mask) {
         return AcquireBitsNext::Going(AcquireBits {
@@ -95,8 +95,8 @@ fn mux(port: Port, mask: u32, left: u32) -> AcquireBitsNext
 
 #[tactic(auto, unfolding(crate::specs::Resource::acquire_bits_next, crate::specs::Resource::access_acquire_bits, crate::specs::Resource::access_acquire_stage, crate::specs::Resource::rest_acquire_bits, crate::specs::Resource::rest_acquire_stage, hardware::specs::Change::update_next, hardware::specs::Prog::pick, hardware::specs::Change::access_update, hardware::specs::Change::rest_update, crate::specs::Resource::valid_acquire_stage, crate::specs::Resource::valid_acquire_bits, crate::specs::Resource::valid_acquire_bits_next))]
 fn muxing(port: Port, mask: u32, left: u32, n: UpdateNext) -> AcquireBitsNext
-    ensures result_value { acquire_bits_next port mask result ≡ update_next (set_mux true) n }
-    ensures result_value_2 { left < tries_of port.family → valid_acquire_bits_next port.family result ≡ true }
+    ensures yields { acquire_bits_next port mask result ≡ update_next (set_mux true) n }
+    ensures limits { left < tries_of port.family → valid_acquire_bits_next port.family result ≡ true }
 {
     match n {
         UpdateNext::Going(t) => AcquireBitsNext::Going(AcquireBits {
@@ -109,8 +109,8 @@ fn muxing(port: Port, mask: u32, left: u32, n: UpdateNext) -> AcquireBitsNext
 
 #[tactic(auto, unfolding(hardware::specs::Prog::or_err, hardware::specs::Registers::outcome, crate::specs::Resource::taken, hardware::specs::Change::access_update, hardware::specs::Change::rest_update, crate::specs::Resource::valid_acquire_stage, crate::specs::Resource::valid_acquire_bits, crate::specs::Resource::acquire_bits_next, hardware::specs::Prog::erase, crate::specs::Resource::valid_acquire_bits_next))]
 fn wrote(port: Port, mask: u32, left: u32, w: Outcome) -> AcquireBitsNext
-    ensures result_value { acquire_bits_next port mask result ≡ erase (taken port mask (outcome w)) }
-    ensures result_value_2 { left < tries_of port.family → valid_acquire_bits_next port.family result ≡ true }
+    ensures yields { acquire_bits_next port mask result ≡ erase (taken port mask (outcome w)) }
+    ensures limits { left < tries_of port.family → valid_acquire_bits_next port.family result ≡ true }
 {
     match w {
         Outcome::Ok => mux(port, mask, left),
@@ -120,8 +120,8 @@ fn wrote(port: Port, mask: u32, left: u32, w: Outcome) -> AcquireBitsNext
 
 #[tactic(auto, using(hardware::proofs::Prog::going), unfolding(crate::specs::Resource::acquire_bits_next, crate::specs::Resource::access_acquire_bits, crate::specs::Resource::access_acquire_stage, crate::specs::Resource::rest_acquire_bits, crate::specs::Resource::rest_acquire_stage, crate::specs::Lock::unlock_next, crate::specs::Resource::valid_acquire_bits_next, crate::specs::Resource::valid_acquire_bits, crate::specs::Resource::valid_acquire_stage, hardware::specs::Prog::pick, hardware::specs::Prog::followed, hardware::specs::Prog::or_err, hardware::specs::Registers::outcome, hardware::specs::Change::access_update, hardware::specs::Change::rest_update, hardware::specs::Prog::erase))]
 fn taking(port: Port, mask: u32, left: u32, w: Outcome, n: UnlockNext) -> AcquireBitsNext
-    ensures result_value { acquire_bits_next port mask result ≡ followed (unlock_next port.family n) (or_err (λ _. taken port mask (outcome w))) }
-    ensures result_value_2 { left < tries_of port.family → valid_acquire_bits_next port.family result ≡ true }
+    ensures yields { acquire_bits_next port mask result ≡ followed (unlock_next port.family n) (or_err (λ _. taken port mask (outcome w))) }
+    ensures limits { left < tries_of port.family → valid_acquire_bits_next port.family result ≡ true }
 {
     match n {
         UnlockNext::Going(t) => AcquireBitsNext::Going(AcquireBits {
@@ -137,8 +137,8 @@ fn taking(port: Port, mask: u32, left: u32, w: Outcome, n: UnlockNext) -> Acquir
 
 #[tactic(auto, using(hardware::proofs::Prog::going), unfolding(crate::specs::Resource::acquire_bits_next, crate::specs::Resource::access_acquire_bits, crate::specs::Resource::access_acquire_stage, crate::specs::Resource::rest_acquire_bits, crate::specs::Resource::rest_acquire_stage, crate::specs::Lock::unlock_next, crate::specs::Resource::valid_acquire_bits_next, crate::specs::Resource::valid_acquire_bits, crate::specs::Resource::valid_acquire_stage, hardware::specs::Prog::pick, hardware::specs::Prog::followed, hardware::specs::Prog::erase, hardware::specs::Prog::or_err, hardware::specs::Registers::outcome, crate::specs::Resource::try_again, hardware::specs::Change::access_update, hardware::specs::Change::rest_update))]
 fn unlocking(port: Port, mask: u32, left: u32, held: u32, n: UnlockNext) -> AcquireBitsNext
-    ensures result_value { acquire_bits_next port mask result ≡ followed (unlock_next port.family n) (or_err (λ _. try_again port mask left held)) }
-    ensures result_value_2 { left < tries_of port.family → valid_acquire_bits_next port.family result ≡ true }
+    ensures yields { acquire_bits_next port mask result ≡ followed (unlock_next port.family n) (or_err (λ _. try_again port mask left held)) }
+    ensures limits { left < tries_of port.family → valid_acquire_bits_next port.family result ≡ true }
 {
     match n {
         UnlockNext::Going(t) => AcquireBitsNext::Going(AcquireBits {
@@ -157,8 +157,8 @@ fn unlocking(port: Port, mask: u32, left: u32, held: u32, n: UnlockNext) -> Acqu
 
 #[tactic(auto, using(hardware::proofs::Prog::over), unfolding(hardware::specs::Registers::word, crate::specs::Resource::sync_seen, hardware::specs::Prog::pick, crate::specs::Resource::free, hardware::specs::Prog::erase, crate::specs::Resource::acquire_bits_next, crate::specs::Resource::access_acquire_bits, crate::specs::Resource::access_acquire_stage, crate::specs::Resource::rest_acquire_bits, crate::specs::Resource::rest_acquire_stage, crate::specs::Resource::valid_acquire_bits_next, crate::specs::Resource::valid_acquire_bits, crate::specs::Resource::valid_acquire_stage, crate::specs::Resource::try_again, crate::specs::Resource::taken, hardware::specs::Prog::or_err, hardware::specs::Registers::outcome))]
 fn seen(port: Port, mask: u32, left: u32, w: Word) -> AcquireBitsNext
-    ensures result_value { acquire_bits_next port mask result ≡ erase (sync_seen port mask (acquire_tries port mask left) (word w)) }
-    ensures result_value_2 { left < tries_of port.family → valid_acquire_bits_next port.family result ≡ true }
+    ensures yields { acquire_bits_next port mask result ≡ erase (sync_seen port mask (acquire_tries port mask left) (word w)) }
+    ensures limits { left < tries_of port.family → valid_acquire_bits_next port.family result ≡ true }
 {
     let family = port.family;
     match w {
@@ -215,8 +215,8 @@ pub fn access(port: Port, mask: u32, s: AcquireBits) -> Access
 
 #[tactic(auto, using(hardware::proofs::Prog::over), unfolding(crate::specs::Resource::rest_acquire_stage, crate::specs::Resource::rest_acquire_bits, crate::specs::Resource::valid_acquire_stage))]
 fn stage_step(port: Port, mask: u32, left: u32, s: Stage, a: Answer) -> AcquireBitsNext
-    ensures result_value { acquire_bits_next port mask result ≡ erase (rest_acquire_stage port mask left s a) }
-    ensures result_value_2 { left < tries_of port.family → valid_acquire_stage s ≡ true → valid_acquire_bits_next port.family result ≡ true }
+    ensures yields { acquire_bits_next port mask result ≡ erase (rest_acquire_stage port mask left s a) }
+    ensures limits { left < tries_of port.family → valid_acquire_stage s ≡ true → valid_acquire_bits_next port.family result ≡ true }
 {
     let family = port.family;
     match s {
@@ -249,8 +249,8 @@ fn stage_step(port: Port, mask: u32, left: u32, s: Stage, a: Answer) -> AcquireB
 
 #[tactic(auto, using(hardware::proofs::Laws::both_true), unfolding(crate::specs::Resource::rest_acquire_stage, crate::specs::Resource::rest_acquire_bits, crate::specs::Resource::valid_acquire_bits))]
 pub fn step(port: Port, mask: u32, s: AcquireBits, a: Answer) -> AcquireBitsNext
-    ensures result_value { acquire_bits_next port mask result ≡ erase (rest_acquire_bits port mask s a) }
-    ensures result_value_2 { valid_acquire_bits port.family s ≡ true → valid_acquire_bits_next port.family result ≡ true }
+    ensures yields { acquire_bits_next port mask result ≡ erase (rest_acquire_bits port mask s a) }
+    ensures limits { valid_acquire_bits port.family s ≡ true → valid_acquire_bits_next port.family result ≡ true }
 {
     let stage = s.stage;
     stage_step(port, mask, s.left, stage, a)

@@ -9,26 +9,26 @@ use crate::lock::{Lock, LockNext};
 use crate::unlock::{Unlock, UnlockNext};
 use hardware::{Access, Admitted, Answer, Family, FamilyOpening, Outcome, Refusal};
 
-#[derive(Drop)]
+#[derive(Clone, Copy)]
 pub enum LockCall {
     Going(Family, Lock),
     Over,
 }
 
-#[derive(Drop)]
+#[derive(Clone, Copy)]
 pub enum LockTold {
     Ask(Access, LockCall),
     End(Outcome),
     Refused(Refusal),
 }
 
-#[derive(Drop)]
+#[derive(Clone, Copy)]
 pub enum UnlockCall {
     Going(Family, Unlock),
     Over,
 }
 
-#[derive(Drop)]
+#[derive(Clone, Copy)]
 pub enum UnlockTold {
     Ask(Access, UnlockCall),
     End(Outcome),

@@ -14,7 +14,7 @@ use hardware::poll::{Poll, PollNext};
 use hardware::{Access, Answer, Error, Family, Flag, Outcome, Update, UpdateNext, Word};
 
 // Back: SWSM's bits go back, and the held bits are then reported.
-#[derive(Drop)]
+#[derive(Clone, Copy)]
 pub enum Lock {
     Smbi(Poll),
     Second(Swesmbi),
@@ -22,7 +22,7 @@ pub enum Lock {
     Back(u32, Update),
 }
 
-#[derive(Drop)]
+#[derive(Clone, Copy)]
 pub enum LockNext {
     Going(Lock),
     End(Outcome),
@@ -31,16 +31,16 @@ pub enum LockNext {
 // SWESMBI or REGSMP did not come.
 #[tactic(auto, unfolding(crate::specs::Lock::lapsed, crate::specs::Lock::lock_next, crate::specs::Lock::access_lock, crate::specs::Lock::rest_lock, hardware::specs::Change::change, hardware::specs::Change::access_update, hardware::specs::Change::rest_update, hardware::specs::Prog::erase, crate::specs::Lock::valid_lock_next, crate::specs::Lock::valid_lock))]
 fn lapse(family: Family, held: u32) -> LockNext
-    ensures result_value { lock_next family result ≡ erase (lapsed family held) }
-    ensures result_value_2 { valid_lock_next result ≡ true }
+    ensures yields { lock_next family result ≡ erase (lapsed family held) }
+    ensures limits { valid_lock_next result ≡ true }
 {
     LockNext::Going(Lock::Back(held, Update::Reading))
 }
 
 #[tactic(auto, using(hardware::proofs::Prog::going), unfolding(crate::specs::Lock::lock_next, crate::specs::Lock::access_lock, crate::specs::Lock::rest_lock, hardware::specs::Change::update_next, crate::specs::Lock::valid_lock_next, crate::specs::Lock::valid_lock, hardware::specs::Prog::followed, hardware::specs::Prog::erase, hardware::specs::Prog::or_err, hardware::specs::Registers::outcome, hardware::specs::Failures::failure_of))]
 fn back(family: Family, held: u32, n: UpdateNext) -> LockNext
-    ensures result_value { lock_next family result ≡ followed (update_next (back_swsm family) n) (or_err (λ _. ret (Err (Semaphore held)))) }
-    ensures result_value_2 { valid_lock_next result ≡ true }
+    ensures yields { lock_next family result ≡ followed (update_next (back_swsm family) n) (or_err (λ _. ret (Err (Semaphore held)))) }
+    ensures limits { valid_lock_next result ≡ true }
 {
     match n {
         UpdateNext::Going(t) => LockNext::Going(Lock::Back(held, t)),
@@ -53,8 +53,8 @@ fn back(family: Family, held: u32, n: UpdateNext) -> LockNext
 
 #[tactic(auto, unfolding(crate::specs::Lock::lock_next, crate::specs::Lock::swesmbi_done, hardware::specs::Prog::erase, hardware::specs::Prog::or_err, hardware::specs::Prog::pick, hardware::specs::Registers::outcome, hardware::specs::Registers::flag, crate::specs::Lock::valid_lock_next))]
 fn swesmbi_done(family: Family, v: Flag) -> LockNext
-    ensures result_value { lock_next family result ≡ erase (or_err (swesmbi_done family) (flag v)) }
-    ensures result_value_2 { valid_lock_next result ≡ true }
+    ensures yields { lock_next family result ≡ erase (or_err (swesmbi_done family) (flag v)) }
+    ensures limits { valid_lock_next result ≡ true }
 {
     match v {
         Flag::Ok(got) => {
@@ -69,8 +69,8 @@ fn swesmbi_done(family: Family, v: Flag) -> LockNext
 
 #[tactic(auto, using(hardware::proofs::Prog::going), unfolding(crate::specs::Lock::swesmbi_next, crate::specs::Lock::rest_lock, crate::specs::Lock::access_lock, crate::specs::Lock::lock_next, crate::specs::Lock::valid_lock_next, crate::specs::Lock::valid_lock, crate::specs::Lock::valid_swesmbi_next, hardware::specs::Prog::followed))]
 fn swesmbi(family: Family, n: SwesmbiNext) -> LockNext
-    ensures result_value { lock_next family result ≡ followed (swesmbi_next n) (or_err (swesmbi_done family)) }
-    ensures result_value_2 { valid_swesmbi_next n ≡ true → valid_lock_next result ≡ true }
+    ensures yields { lock_next family result ≡ followed (swesmbi_next n) (or_err (swesmbi_done family)) }
+    ensures limits { valid_swesmbi_next n ≡ true → valid_lock_next result ≡ true }
 {
     match n {
         SwesmbiNext::Going(t) => LockNext::Going(Lock::Second(t)),
@@ -80,8 +80,8 @@ fn swesmbi(family: Family, n: SwesmbiNext) -> LockNext
 
 #[tactic(auto, unfolding(crate::specs::Lock::lock_next, crate::specs::Lock::regsmp_done, hardware::specs::Prog::erase, hardware::specs::Prog::or_err, hardware::specs::Prog::pick, hardware::specs::Registers::word, hardware::specs::Registers::outcome, crate::specs::Lock::valid_lock_next))]
 fn regsmp_done(family: Family, w: Word) -> LockNext
-    ensures result_value { lock_next family result ≡ erase (or_err (regsmp_done family) (word w)) }
-    ensures result_value_2 { valid_lock_next result ≡ true }
+    ensures yields { lock_next family result ≡ erase (or_err (regsmp_done family) (word w)) }
+    ensures limits { valid_lock_next result ≡ true }
 {
     match w {
         Word::Ok(v) => {
@@ -96,8 +96,8 @@ fn regsmp_done(family: Family, w: Word) -> LockNext
 
 #[tactic(auto, using(hardware::proofs::Prog::going), unfolding(crate::specs::Lock::rest_lock, crate::specs::Lock::access_lock, crate::specs::Lock::lock_next, hardware::specs::Poll::poll_next, crate::specs::Lock::valid_lock_next, crate::specs::Lock::valid_lock, hardware::specs::Poll::valid_poll_next, hardware::specs::Prog::followed))]
 fn regsmp(family: Family, n: PollNext) -> LockNext
-    ensures result_value { lock_next family result ≡ followed (poll_next (regsmp_watch family) n) (or_err (regsmp_done family)) }
-    ensures result_value_2 { valid_poll_next TRIES n ≡ true → valid_lock_next result ≡ true }
+    ensures yields { lock_next family result ≡ followed (poll_next (regsmp_watch family) n) (or_err (regsmp_done family)) }
+    ensures limits { valid_poll_next TRIES n ≡ true → valid_lock_next result ≡ true }
 {
     match n {
         PollNext::Going(t) => LockNext::Going(Lock::Regsmp(t)),
@@ -107,8 +107,8 @@ fn regsmp(family: Family, n: PollNext) -> LockNext
 
 #[tactic(auto, using(hardware::proofs::Prog::over), unfolding(crate::specs::Lock::second, hardware::specs::Prog::pick))]
 fn second(family: Family) -> LockNext
-    ensures result_value { lock_next family result ≡ erase (second family) }
-    ensures result_value_2 { valid_lock_next result ≡ true }
+    ensures yields { lock_next family result ≡ erase (second family) }
+    ensures limits { valid_lock_next result ≡ true }
 {
     if hardware::same(family, Family::F82599) {
         return swesmbi(family, crate::swesmbi::open(TRIES));
@@ -121,8 +121,8 @@ fn second(family: Family) -> LockNext
 
 #[tactic(auto, unfolding(crate::specs::Lock::smbi_done, hardware::specs::Prog::or_err, hardware::specs::Prog::pick, hardware::specs::Registers::word, crate::specs::Lock::lock_next, hardware::specs::Prog::erase, hardware::specs::Registers::outcome, crate::specs::Lock::valid_lock_next, hardware::specs::Failures::failure_of))]
 fn smbi_done(family: Family, w: Word) -> LockNext
-    ensures result_value { lock_next family result ≡ erase (or_err (smbi_done family) (word w)) }
-    ensures result_value_2 { valid_lock_next result ≡ true }
+    ensures yields { lock_next family result ≡ erase (or_err (smbi_done family) (word w)) }
+    ensures limits { valid_lock_next result ≡ true }
 {
     match w {
         Word::Ok(v) => {
@@ -137,8 +137,8 @@ fn smbi_done(family: Family, w: Word) -> LockNext
 
 #[tactic(auto, using(hardware::proofs::Prog::going), unfolding(crate::specs::Lock::rest_lock, crate::specs::Lock::access_lock, crate::specs::Lock::lock_next, hardware::specs::Poll::poll_next, crate::specs::Lock::valid_lock_next, crate::specs::Lock::valid_lock, hardware::specs::Poll::valid_poll_next, hardware::specs::Prog::followed))]
 fn smbi(family: Family, n: PollNext) -> LockNext
-    ensures result_value { lock_next family result ≡ followed (poll_next (smbi_watch family) n) (or_err (smbi_done family)) }
-    ensures result_value_2 { valid_poll_next TRIES n ≡ true → valid_lock_next result ≡ true }
+    ensures yields { lock_next family result ≡ followed (poll_next (smbi_watch family) n) (or_err (smbi_done family)) }
+    ensures limits { valid_poll_next TRIES n ≡ true → valid_lock_next result ≡ true }
 {
     match n {
         PollNext::Going(t) => LockNext::Going(Lock::Smbi(t)),
@@ -148,8 +148,8 @@ fn smbi(family: Family, n: PollNext) -> LockNext
 
 #[tactic(auto, using(hardware::proofs::Prog::over), unfolding(crate::specs::Lock::lock))]
 pub fn open(family: Family) -> LockNext
-    ensures result_value { lock_next family result ≡ erase (lock family) }
-    ensures result_value_2 { valid_lock_next result ≡ true }
+    ensures yields { lock_next family result ≡ erase (lock family) }
+    ensures limits { valid_lock_next result ≡ true }
 {
     smbi(
         family,
@@ -171,8 +171,8 @@ pub fn access(family: Family, s: Lock) -> Access
 
 #[tactic(auto, using(hardware::proofs::Prog::over), unfolding(crate::specs::Lock::rest_lock, crate::specs::Lock::valid_lock, crate::specs::Lock::lock, crate::specs::Lock::second))]
 pub fn step(family: Family, s: Lock, a: Answer) -> LockNext
-    ensures result_value { lock_next family result ≡ erase (rest_lock family s a) }
-    ensures result_value_2 { valid_lock s ≡ true → valid_lock_next result ≡ true }
+    ensures yields { lock_next family result ≡ erase (rest_lock family s a) }
+    ensures limits { valid_lock s ≡ true → valid_lock_next result ≡ true }
 {
     match s {
         Lock::Smbi(t) => smbi(

@@ -42,14 +42,14 @@ pub const REGSMP: u32 = 1 << 31;
 pub const TRIES: u32 = 2000;
 
 // SWSM and SW_FW_SYNC.
-#[derive(Drop)]
+#[derive(Clone, Copy)]
 pub struct Addresses {
     pub swsm: u32,
     pub sw_fw_sync: u32,
 }
 
 // The software bits taken, and the firmware and hardware bits that block them.
-#[derive(Drop)]
+#[derive(Clone, Copy)]
 pub struct Masks {
     pub sw: u32,
     pub fw: u32,

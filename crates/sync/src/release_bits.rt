@@ -13,7 +13,7 @@ use hardware::change::Change;
 use hardware::{Access, Answer, Family, Micros, Outcome, Port, Update, UpdateNext};
 
 // Unlocking: with how the write that cleared the bits ended.
-#[derive(Drop)]
+#[derive(Clone, Copy)]
 pub enum ReleaseBits {
     Muxing(Update),
     Locking(Lock),
@@ -22,7 +22,7 @@ pub enum ReleaseBits {
     Waiting,
 }
 
-#[derive(Drop)]
+#[derive(Clone, Copy)]
 pub enum ReleaseBitsNext {
     Going(ReleaseBits),
     End(Outcome),
@@ -37,8 +37,8 @@ fn change(family: Family, mask: u32) -> Change
 
 #[tactic(auto, unfolding(crate::specs::Resource::release_bits_next, hardware::specs::Prog::erase, hardware::specs::Prog::or_err, hardware::specs::Prog::pick, hardware::specs::Registers::outcome, crate::specs::Resource::settle, crate::specs::Resource::valid_release_bits, crate::specs::Resource::valid_release_bits_next, crate::specs::Resource::access_release_bits, crate::specs::Resource::rest_release_bits))]
 fn finish(port: Port, mask: u32, w: Outcome) -> ReleaseBitsNext
-    ensures result_value { release_bits_next port mask result ≡ erase (or_err (λ _. settle port mask) (outcome w)) }
-    ensures result_value_2 { valid_release_bits_next result ≡ true }
+    ensures yields { release_bits_next port mask result ≡ erase (or_err (λ _. settle port mask) (outcome w)) }
+    ensures limits { valid_release_bits_next result ≡ true }
 {
     match w {
         Outcome::Ok => {
@@ -54,8 +54,8 @@ fn finish(port: Port, mask: u32, w: Outcome) -> ReleaseBitsNext
 
 #[tactic(auto, using(hardware::proofs::Prog::going), unfolding(crate::specs::Resource::release_bits_next, crate::specs::Resource::access_release_bits, crate::specs::Resource::rest_release_bits, crate::specs::Lock::unlock_next, crate::specs::Resource::valid_release_bits_next, crate::specs::Resource::valid_release_bits, hardware::specs::Prog::followed, hardware::specs::Prog::or_err, hardware::specs::Registers::outcome, hardware::specs::Prog::erase))]
 fn unlocking(port: Port, mask: u32, w: Outcome, n: UnlockNext) -> ReleaseBitsNext
-    ensures result_value { release_bits_next port mask result ≡ followed (unlock_next port.family n) (or_err (λ _. or_err (λ _. settle port mask) (outcome w))) }
-    ensures result_value_2 { valid_release_bits_next result ≡ true }
+    ensures yields { release_bits_next port mask result ≡ followed (unlock_next port.family n) (or_err (λ _. or_err (λ _. settle port mask) (outcome w))) }
+    ensures limits { valid_release_bits_next result ≡ true }
 {
     match n {
         UnlockNext::Going(t) => ReleaseBitsNext::Going(ReleaseBits::Unlocking(t, w)),
@@ -68,8 +68,8 @@ fn unlocking(port: Port, mask: u32, w: Outcome, n: UnlockNext) -> ReleaseBitsNex
 
 #[tactic(auto, using(hardware::proofs::Prog::over), unfolding(crate::specs::Resource::cleared))]
 fn clear_done(port: Port, mask: u32, w: Outcome) -> ReleaseBitsNext
-    ensures result_value { release_bits_next port mask result ≡ erase (cleared port mask (outcome w)) }
-    ensures result_value_2 { valid_release_bits_next result ≡ true }
+    ensures yields { release_bits_next port mask result ≡ erase (cleared port mask (outcome w)) }
+    ensures limits { valid_release_bits_next result ≡ true }
 {
     let family = port.family;
     unlocking(port, mask, w, crate::unlock::open(family))
@@ -77,8 +77,8 @@ fn clear_done(port: Port, mask: u32, w: Outcome) -> ReleaseBitsNext
 
 #[tactic(auto, using(hardware::proofs::Prog::going), unfolding(crate::specs::Resource::release_bits_next, crate::specs::Resource::access_release_bits, crate::specs::Resource::rest_release_bits, hardware::specs::Change::update_next, crate::specs::Resource::valid_release_bits_next, crate::specs::Resource::valid_release_bits, hardware::specs::Prog::followed))]
 fn clearing(port: Port, mask: u32, n: UpdateNext) -> ReleaseBitsNext
-    ensures result_value { release_bits_next port mask result ≡ followed (update_next (clear_bits port.family mask) n) (cleared port mask) }
-    ensures result_value_2 { valid_release_bits_next result ≡ true }
+    ensures yields { release_bits_next port mask result ≡ followed (update_next (clear_bits port.family mask) n) (cleared port mask) }
+    ensures limits { valid_release_bits_next result ≡ true }
 {
     match n {
         UpdateNext::Going(t) => ReleaseBitsNext::Going(ReleaseBits::Clearing(t)),
@@ -88,8 +88,8 @@ fn clearing(port: Port, mask: u32, n: UpdateNext) -> ReleaseBitsNext
 
 #[tactic(auto, using(hardware::proofs::Prog::going), unfolding(crate::specs::Resource::release_bits_next, crate::specs::Resource::access_release_bits, crate::specs::Resource::rest_release_bits, crate::specs::Lock::lock_next, crate::specs::Resource::valid_release_bits_next, crate::specs::Resource::valid_release_bits, crate::specs::Lock::valid_lock_next, hardware::specs::Prog::followed, hardware::specs::Prog::erase, hardware::specs::Prog::or_err, hardware::specs::Registers::outcome, crate::specs::Resource::clearing, hardware::specs::Change::change, hardware::specs::Change::access_update, hardware::specs::Change::rest_update))]
 fn locking(port: Port, mask: u32, n: LockNext) -> ReleaseBitsNext
-    ensures result_value { release_bits_next port mask result ≡ followed (lock_next port.family n) (or_err (λ _. clearing port mask)) }
-    ensures result_value_2 { valid_lock_next n ≡ true → valid_release_bits_next result ≡ true }
+    ensures yields { release_bits_next port mask result ≡ followed (lock_next port.family n) (or_err (λ _. clearing port mask)) }
+    ensures limits { valid_lock_next n ≡ true → valid_release_bits_next result ≡ true }
 {
     match n {
         LockNext::Going(t) => ReleaseBitsNext::Going(ReleaseBits::Locking(t)),
@@ -102,8 +102,8 @@ fn locking(port: Port, mask: u32, n: LockNext) -> ReleaseBitsNext
 
 #[tactic(auto, using(hardware::proofs::Prog::over), unfolding(crate::specs::Resource::unmuxed))]
 fn lock(port: Port, mask: u32) -> ReleaseBitsNext
-    ensures result_value { release_bits_next port mask result ≡ erase (unmuxed port mask) }
-    ensures result_value_2 { valid_release_bits_next result ≡ true }
+    ensures yields { release_bits_next port mask result ≡ erase (unmuxed port mask) }
+    ensures limits { valid_release_bits_next result ≡ true }
 {
     let family = port.family;
     locking(port, mask, crate::lock::open(family))
@@ -111,8 +111,8 @@ fn lock(port: Port, mask: u32) -> ReleaseBitsNext
 
 #[tactic(auto, using(hardware::proofs::Prog::going), unfolding(crate::specs::Resource::release_bits_next, crate::specs::Resource::access_release_bits, crate::specs::Resource::rest_release_bits, hardware::specs::Change::update_next, crate::specs::Resource::valid_release_bits_next, crate::specs::Resource::valid_release_bits, hardware::specs::Prog::followed, hardware::specs::Prog::or_err, hardware::specs::Registers::outcome, hardware::specs::Prog::erase))]
 fn muxing(port: Port, mask: u32, n: UpdateNext) -> ReleaseBitsNext
-    ensures result_value { release_bits_next port mask result ≡ followed (update_next (set_mux false) n) (or_err (λ _. unmuxed port mask)) }
-    ensures result_value_2 { valid_release_bits_next result ≡ true }
+    ensures yields { release_bits_next port mask result ≡ followed (update_next (set_mux false) n) (or_err (λ _. unmuxed port mask)) }
+    ensures limits { valid_release_bits_next result ≡ true }
 {
     match n {
         UpdateNext::Going(t) => ReleaseBitsNext::Going(ReleaseBits::Muxing(t)),
@@ -125,8 +125,8 @@ fn muxing(port: Port, mask: u32, n: UpdateNext) -> ReleaseBitsNext
 
 #[tactic(auto, unfolding(crate::specs::Resource::release_bits_next, crate::specs::Resource::access_release_bits, crate::specs::Resource::rest_release_bits, hardware::specs::Prog::erase, hardware::specs::Prog::pick, crate::specs::Resource::muxed, crate::specs::Resource::release_bits, hardware::specs::Change::change, hardware::specs::Change::access_update, hardware::specs::Change::rest_update, crate::specs::Resource::valid_release_bits, crate::specs::Resource::valid_release_bits_next, hardware::specs::Prog::or_err))]
 pub fn open(port: Port, mask: u32) -> ReleaseBitsNext
-    ensures result_value { release_bits_next port mask result ≡ erase (release_bits port mask) }
-    ensures result_value_2 { valid_release_bits_next result ≡ true }
+    ensures yields { release_bits_next port mask result ≡ erase (release_bits port mask) }
+    ensures limits { valid_release_bits_next result ≡ true }
 {
     if crate::regs::mux(port, mask) {
         return ReleaseBitsNext::Going(ReleaseBits::Muxing(Update::Reading));
@@ -150,8 +150,8 @@ pub fn access(port: Port, mask: u32, s: ReleaseBits) -> Access
 
 #[tactic(auto, using(hardware::proofs::Prog::over), unfolding(crate::specs::Resource::rest_release_bits, crate::specs::Resource::valid_release_bits, crate::specs::Resource::release_bits_next, hardware::specs::Prog::erase, hardware::specs::Registers::outcome, crate::specs::Resource::try_again, crate::specs::Resource::settle, crate::specs::Resource::cleared, crate::specs::Resource::clearing, crate::specs::Resource::clear_bits, crate::specs::Resource::against, crate::specs::Resource::unmuxed, crate::specs::Resource::release_bits, hardware::specs::Change::change, hardware::specs::Change::access_update, hardware::specs::Change::rest_update, crate::specs::Resource::valid_acquire_stage, crate::specs::Resource::valid_acquire_bits, crate::specs::Resource::valid_release_bits_next))]
 pub fn step(port: Port, mask: u32, s: ReleaseBits, a: Answer) -> ReleaseBitsNext
-    ensures result_value { release_bits_next port mask result ≡ erase (rest_release_bits port mask s a) }
-    ensures result_value_2 { valid_release_bits s ≡ true → valid_release_bits_next result ≡ true }
+    ensures yields { release_bits_next port mask result ≡ erase (rest_release_bits port mask s a) }
+    ensures limits { valid_release_bits s ≡ true → valid_release_bits_next result ≡ true }
 {
     let family = port.family;
     match s {

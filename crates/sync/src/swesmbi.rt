@@ -11,14 +11,14 @@ use hardware::change::{Bits, Change};
 use hardware::{Access, Answer, Flag, Micros, Outcome, Update, UpdateNext, Word};
 
 // The tries left after this one, first in each.
-#[derive(Drop)]
+#[derive(Clone, Copy)]
 pub enum Swesmbi {
     Setting(u32, Update),
     Checking(u32),
     Waiting(u32),
 }
 
-#[derive(Drop)]
+#[derive(Clone, Copy)]
 pub enum SwesmbiNext {
     Going(Swesmbi),
     End(Flag),
@@ -36,8 +36,8 @@ fn setting() -> Change
 
 #[tactic(auto, using(hardware::proofs::Laws::one_less, crate::proofs::Laws::swesmbi_more), unfolding(crate::specs::Lock::swesmbi, crate::specs::Lock::swesmbi_next, hardware::specs::Registers::flag, hardware::specs::Prog::erase, crate::specs::Lock::valid_swesmbi_next, crate::specs::Lock::valid_swesmbi))]
 pub fn open(tries: u32) -> SwesmbiNext
-    ensures result_value { swesmbi_next result ≡ erase (swesmbi tries) }
-    ensures result_value_2 { tries ≤ TRIES → valid_swesmbi_next result ≡ true }
+    ensures yields { swesmbi_next result ≡ erase (swesmbi tries) }
+    ensures limits { tries ≤ TRIES → valid_swesmbi_next result ≡ true }
 {
     if tries == 0 {
         return SwesmbiNext::End(Flag::Ok(false));
@@ -58,8 +58,8 @@ pub fn access(s: Swesmbi) -> Access
 
 #[tactic(auto, using(hardware::proofs::Prog::going), unfolding(crate::specs::Lock::rest_swesmbi, crate::specs::Lock::access_swesmbi, crate::specs::Lock::swesmbi_next, hardware::specs::Change::update_next, crate::specs::Lock::valid_swesmbi_next, crate::specs::Lock::valid_swesmbi, crate::specs::Lock::swesmbi_check, hardware::specs::Prog::followed, hardware::specs::Prog::erase, hardware::specs::Prog::or_err, hardware::specs::Registers::outcome, hardware::specs::Registers::flag))]
 fn set(left: u32, n: UpdateNext) -> SwesmbiNext
-    ensures result_value { swesmbi_next result ≡ followed (update_next set_swesmbi n) (or_err (λ _. swesmbi_check left)) }
-    ensures result_value_2 { left < TRIES → valid_swesmbi_next result ≡ true }
+    ensures yields { swesmbi_next result ≡ followed (update_next set_swesmbi n) (or_err (λ _. swesmbi_check left)) }
+    ensures limits { left < TRIES → valid_swesmbi_next result ≡ true }
 {
     match n {
         UpdateNext::Going(t) => SwesmbiNext::Going(Swesmbi::Setting(left, t)),
@@ -72,8 +72,8 @@ fn set(left: u32, n: UpdateNext) -> SwesmbiNext
 
 #[tactic(auto, unfolding(crate::specs::Lock::rest_swesmbi, crate::specs::Lock::access_swesmbi, crate::specs::Lock::swesmbi_next, crate::specs::Lock::swesmbi_seen, crate::specs::Lock::valid_swesmbi, hardware::specs::Prog::erase, hardware::specs::Prog::or_err, hardware::specs::Prog::pick, hardware::specs::Registers::word, crate::specs::Lock::valid_swesmbi_next, hardware::specs::Registers::flag))]
 fn seen(left: u32, w: Word) -> SwesmbiNext
-    ensures result_value { swesmbi_next result ≡ erase (or_err (swesmbi_seen (λ _. swesmbi left)) (word w)) }
-    ensures result_value_2 { left < TRIES → valid_swesmbi_next result ≡ true }
+    ensures yields { swesmbi_next result ≡ erase (or_err (swesmbi_seen (λ _. swesmbi left)) (word w)) }
+    ensures limits { left < TRIES → valid_swesmbi_next result ≡ true }
 {
     match w {
         Word::Ok(v) => {
@@ -88,8 +88,8 @@ fn seen(left: u32, w: Word) -> SwesmbiNext
 
 #[tactic(auto, using(hardware::proofs::Laws::below, hardware::proofs::Prog::fed, hardware::proofs::Prog::over), unfolding(crate::specs::Lock::rest_swesmbi, crate::specs::Lock::swesmbi_check, crate::specs::Lock::valid_swesmbi))]
 pub fn step(s: Swesmbi, a: Answer) -> SwesmbiNext
-    ensures result_value { swesmbi_next result ≡ erase (rest_swesmbi s a) }
-    ensures result_value_2 { valid_swesmbi s ≡ true → valid_swesmbi_next result ≡ true }
+    ensures yields { swesmbi_next result ≡ erase (rest_swesmbi s a) }
+    ensures limits { valid_swesmbi s ≡ true → valid_swesmbi_next result ≡ true }
 {
     match s {
         Swesmbi::Setting(left, t) => set(left, hardware::change::step(setting(), t, a)),

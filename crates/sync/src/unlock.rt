@@ -8,13 +8,13 @@ ghost use Rattle.sync.specs.Lock.{unlock, access_unlock, rest_unlock, unlock_nex
 use crate::regs::REGSMP;
 use hardware::{Access, Answer, Family, Outcome, Update, UpdateNext};
 
-#[derive(Drop)]
+#[derive(Clone, Copy)]
 pub enum Unlock {
     Sync(Update),
     Swsm(Update),
 }
 
-#[derive(Drop)]
+#[derive(Clone, Copy)]
 pub enum UnlockNext {
     Going(Unlock),
     End(Outcome),

@@ -21,14 +21,14 @@ use hardware::{Access, Answer, Error, Outcome, Word};
 
 // The clearing sequences by name. Pulses: that of the Rust, nine pulses of SCL between two starts, and a stop. Rounds: up to
 // ten rounds until SDA is read high; then SDA is pulled while SCL is high, SCL lowered, and a stop.
-#[derive(Drop)]
+#[derive(Clone, Copy)]
 pub enum Sequence {
     Pulses,
     Rounds,
 }
 
 // New: the read of I2CCTL with which an attempt begins.
-#[derive(Drop)]
+#[derive(Clone, Copy)]
 pub enum Attempt {
     New,
     Moving(Transfer),
@@ -36,13 +36,13 @@ pub enum Attempt {
 }
 
 // The bytes read, or the failure.
-#[derive(Drop)]
+#[derive(Clone, Copy)]
 pub enum Got {
     Ok(Taken),
     Err(Error),
 }
 
-#[derive(Drop)]
+#[derive(Clone, Copy)]
 pub enum AttemptNext {
     Going(Attempt),
     Read(u8, Attempt),
@@ -51,8 +51,8 @@ pub enum AttemptNext {
 
 #[tactic(auto, unfolding(crate::specs::Attempt::clearing))]
 fn clear(q: Sequence, l: Layout, ctl: u32) -> ClearNext
-    ensures result_value { clear_next l result ≡ erase (clearing q l ctl) }
-    ensures result_value_2 { valid_clear_next l result ≡ true }
+    ensures yields { clear_next l result ≡ erase (clearing q l ctl) }
+    ensures limits { valid_clear_next l result ≡ true }
 {
     match q {
         Sequence::Pulses => bus::clear::open(l, ctl),

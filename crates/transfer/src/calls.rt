@@ -17,14 +17,14 @@ use crate::attempt::{Attempt, AttemptNext, Got, Sequence};
 use hardware::{Access, Admitted, Answer, BEGUN, Meter, Opening, Outcome, Port, Refusal};
 use script::cursor::Judged;
 
-#[derive(Drop)]
+#[derive(Clone, Copy)]
 pub enum ScriptCall {
     Going(Port, Meter, Attempt),
     Over,
 }
 
 // Read: a byte that was read is handed out with the next access. End: the result, and what was metered.
-#[derive(Drop)]
+#[derive(Clone, Copy)]
 pub enum ScriptTold {
     Ask(Access, ScriptCall),
     Read(u8, Access, ScriptCall),

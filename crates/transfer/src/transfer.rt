@@ -16,7 +16,7 @@ use bus::{Layout, Taken};
 use hardware::{Access, Answer, Byte, Outcome};
 
 // at: the position of the command in the script.
-#[derive(Drop)]
+#[derive(Clone, Copy)]
 pub struct Transfer {
     pub at: usize,
     pub taken: Taken,
@@ -24,7 +24,7 @@ pub struct Transfer {
 }
 
 // Read: with the byte that is handed out.
-#[derive(Drop)]
+#[derive(Clone, Copy)]
 pub enum TransferNext {
     Going(Transfer),
     Read(u8, Transfer),

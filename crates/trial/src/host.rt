@@ -18,14 +18,14 @@ pub const OFFSET: u8 = 0x2a;
 // More accesses than any of the calls makes.
 const BUDGET: u32 = 20_000;
 
-#[derive(Drop)]
+#[derive(Clone, Copy)]
 pub struct Reply {
     pub answer: Answer,
     pub state: BenchState,
 }
 
 // ended: the call came to its end, with the value and the transfers made.
-#[derive(Drop)]
+#[derive(Clone, Copy)]
 pub struct Outcome {
     pub ended: bool,
     pub value: Word,
@@ -35,8 +35,8 @@ pub struct Outcome {
 
 #[tactic(auto, unfolding(hardware::specs::Prog::pick))]
 fn meet(port: Port, d: BenchState, x: Access) -> Reply
-    ensures state_value { result.state ≡ (accessed (layout_of port.family) (has_mux port) x d).state }
-    ensures answer_value { result.answer ≡ pick (accessed (layout_of port.family) (has_mux port) x d).here (accessed (layout_of port.family) (has_mux port) x d).answer (at_once x) }
+    ensures state { result.state ≡ (accessed (layout_of port.family) (has_mux port) x d).state }
+    ensures answer { result.answer ≡ pick (accessed (layout_of port.family) (has_mux port) x d).here (accessed (layout_of port.family) (has_mux port) x d).answer (at_once x) }
 {
     let reply = bench::register::access(port, d, x);
     let state = reply.state;

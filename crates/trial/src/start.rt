@@ -21,7 +21,7 @@ pub const ADDRESSED: u8 = 9;
 pub const ACK_WRITE: u8 = 20;
 
 // sent: the byte at the offset of the page chosen, which the module sends in the state Send.
-#[derive(Drop)]
+#[derive(Clone, Copy)]
 pub struct Row {
     pub stage: Stage,
     pub noted: bool,

@@ -1,0 +1,13 @@
+use Rattle.std.proofs.Common.{rules}
+use Rattle.hardware.specs.Prog.{◌>>=◌, followed}
+use Rattle.hardware.proofs.Prog.{going}
+use Rattle.sync.specs.Lock.{access_lock, lock_next, rest_lock, swesmbi_next, valid_lock, valid_lock_next, valid_swesmbi_next}
+use Rattle.sync.proofs.lock.swesmbi.Goals as goal
+
+pub returns-in-Going-clause-yields : goal.returns-in-Going-clause-yields
+unfolding swesmbi_next rest_lock access_lock lock_next valid_lock_next valid_lock valid_swesmbi_next
+returns-in-Going-clause-yields c = rw c.in-Going.is (going _ _ _)
+
+pub returns-in-End-clause-yields : goal.returns-in-End-clause-yields
+unfolding swesmbi_next followed ◌>>=◌
+returns-in-End-clause-yields c = search rules

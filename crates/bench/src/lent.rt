@@ -7,7 +7,6 @@ use crate::receiver;
 use crate::receiver::{Act, Edge, Moved, Receiver};
 
 // One edge, and what the receiver then asks of the page chosen.
-#[tactic(auto, using(crate::proofs::receiver::edged::Symbol::name))]
 pub fn take(r: &mut Receiver, e: Edge) -> Act
     ensures { (r.new ≡ edged (edge_of e) r.old) × (result ≡ asks_on (edge_of e) r.old) }
 {
@@ -17,7 +16,6 @@ pub fn take(r: &mut Receiver, e: Edge) -> Act
 }
 
 // The owner lends its receiver for one edge, and has it back.
-#[tactic(auto, using(crate::proofs::lent::take::Symbol::name))]
 pub fn lend(owned: Receiver, e: Edge) -> Moved
     ensures { (result.receiver ≡ edged (edge_of e) owned) × (result.act ≡ asks_on (edge_of e) owned) }
 {

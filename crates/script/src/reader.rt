@@ -25,7 +25,6 @@ pub fn open<'a>(script: &'a [u8], at: usize) -> Reader<'a>
 }
 
 // The command that the reader stands on.
-#[tactic(auto, using(crate::proofs::cursor::command::Symbol::name))]
 pub fn current<'a>(r: Reader<'a>) -> Command
     ensures { result ≡ command_at r.entry.script.now r.entry.at }
 {
@@ -33,7 +32,6 @@ pub fn current<'a>(r: Reader<'a>) -> Command
 }
 
 // The reader behind that command.
-#[tactic(auto, using(crate::proofs::cursor::next::Symbol::name))]
 pub fn advance<'a>(r: Reader<'a>) -> Reader<'a>
     ensures { (result.script ≡ r.entry.script) × (result.at ≡ next_at r.entry.script.now r.entry.at) }
 {
@@ -45,7 +43,6 @@ pub fn advance<'a>(r: Reader<'a>) -> Reader<'a>
 }
 
 // Both, for callers that hold no reader.
-#[tactic(auto, using(crate::proofs::reader::open::Symbol::name, crate::proofs::reader::current::Symbol::name, crate::proofs::reader::advance::Symbol::name))]
 pub fn at(script: &[u8], at: usize) -> Step
     ensures { result ≡ step_at script.now at }
 {

@@ -82,11 +82,9 @@ starts_inside t zero l h = absurd (omega arith)
 starts_inside [] (suc k) l h = absurd (omega arith)
 starts_inside (b ∷ []) (suc k) l h = absurd (omega arith)
 starts_inside (b ∷ v ∷ s) (suc zero) l h =
-    let go : (x : Bool) → 1 < pick x 2 1 → get_or (true ∷ pick x (false ∷ starts s) (starts (v ∷ s))) 1 false ≡ false = λ x. elim x [ true ↦ λ _. refl | false ↦ λ g. absurd (omega arith) ] in
-    go (eqb b 0x20) h
+    (elim (eqb b 0x20) as (λ x. 1 < pick x 2 1 → get_or (true ∷ pick x (false ∷ starts s) (starts (v ∷ s))) 1 false ≡ false) [ true ↦ λ _. refl | false ↦ λ g. absurd (omega arith) ]) h
 starts_inside (b ∷ v ∷ s) (suc (suc k)) l h =
-    let go : (x : Bool) → suc (suc k) < pick x 2 1 → ⊥ = λ x. elim x [ true ↦ λ g. omega arith | false ↦ λ g. omega arith ] in
-    absurd (go (eqb b 0x20) h)
+    absurd ((elim (eqb b 0x20) as (λ x. suc (suc k) < pick x 2 1 → ⊥) [ true ↦ λ g. omega arith | false ↦ λ g. omega arith ]) h)
 
 starts_length : (t : List ℕ) → length (starts t) ≡ length t
 unfolding starts pick
@@ -117,11 +115,9 @@ aligned_on (b ∷ []) zero h = refl
 aligned_on (b ∷ []) (suc n) h = absurd (false≢true h)
 aligned_on (b ∷ v ∷ s) zero h = refl
 aligned_on (b ∷ v ∷ s) (suc zero) h =
-    let go : (x : Bool) → get_or (pick x (false ∷ starts s) (starts (v ∷ s))) 0 false ≡ true → pick x (false ∷ starts s) (starts (v ∷ s)) ≡ starts (v ∷ s) = λ x. elim x [ true ↦ λ g. absurd (false≢true g) | false ↦ λ g. refl ] in
-    go (eqb b 0x20) h
+    (elim (eqb b 0x20) as (λ x. get_or (pick x (false ∷ starts s) (starts (v ∷ s))) 0 false ≡ true → pick x (false ∷ starts s) (starts (v ∷ s)) ≡ starts (v ∷ s)) [ true ↦ λ g. absurd (false≢true g) | false ↦ λ g. refl ]) h
 aligned_on (b ∷ v ∷ s) (suc (suc n)) h =
-    let go : (x : Bool) → get_or (pick x (false ∷ starts s) (starts (v ∷ s))) (suc n) false ≡ true → drop (suc n) (pick x (false ∷ starts s) (starts (v ∷ s))) ≡ starts (drop n s) = λ x. elim x [ true ↦ λ g. aligned_on s n g | false ↦ λ g. aligned_on (v ∷ s) (suc n) g ] in
-    go (eqb b 0x20) h
+    (elim (eqb b 0x20) as (λ x. get_or (pick x (false ∷ starts s) (starts (v ∷ s))) (suc n) false ≡ true → drop (suc n) (pick x (false ∷ starts s) (starts (v ∷ s))) ≡ starts (drop n s)) [ true ↦ λ g. aligned_on s n g | false ↦ λ g. aligned_on (v ∷ s) (suc n) g ]) h
 
 pub aligned_first : (s : List ℕ) (at : ℕ) → Aligned s at → at < length s → on_command s at ≡ true
 unfolding on_command
@@ -191,15 +187,16 @@ complete_past s at l = rw drop_of_length-le
 
 -- no piece of a clearing sequence is among the commands of a script
 
+none_free : (p : Piece) (x y z : Bool) → pick x Start (pick y (Read false) (pick z (Read true) Stop)) ≡ Free p → ⊥
+unfolding pick
+none_free p true y z e = let q : ◌≡◌ {A = ℕ} 0 1 = cc in omega arith
+none_free p false true z e = let q : ◌≡◌ {A = ℕ} 0 1 = cc in omega arith
+none_free p false false true e = let q : ◌≡◌ {A = ℕ} 0 1 = cc in omega arith
+none_free p false false false e = let q : ◌≡◌ {A = ℕ} 0 1 = cc in omega arith
+
 alone_not_free : (p : Piece) (b : ℕ) → alone b ≡ Free p → ⊥
-unfolding alone pick
-alone_not_free p b =
-    let go : (x y z : Bool) → pick x Start (pick y (Read false) (pick z (Read true) Stop)) ≡ Free p → ⊥ =
-    λ x y z. elim x [
-      | true ↦ λ e. let q : ◌≡◌ {A = ℕ} 0 1 = cc in omega arith
-      | false ↦ elim y [ true ↦ λ e. let q : ◌≡◌ {A = ℕ} 0 1 = cc in omega arith | false ↦ elim z [ true ↦ λ e. let q : ◌≡◌ {A = ℕ} 0 1 = cc in omega arith | false ↦ λ e. let q : ◌≡◌ {A = ℕ} 0 1 = cc in omega arith ] ]
-    ] in
-    go (eqb b 0x10) (eqb b 0x30) (eqb b 0x31)
+unfolding alone
+alone_not_free p b = none_free p (eqb b 0x10) (eqb b 0x30) (eqb b 0x31)
 
 send_not_free : (p : Piece) (v : ℕ) → Send v ≡ Free p → ⊥
 send_not_free p v e = let q : ◌≡◌ {A = ℕ} 0 1 = cc in omega arith
@@ -247,21 +244,26 @@ on_within s at h =
 pub on_next : (s : List ℕ) (at : ℕ) → on_command s at ≡ true → next_at s at < length s → on_command s (next_at s at) ≡ true
 on_next s at h l = aligned_first s (next_at s at) (aligned_next s at (aligned_on s at h)) l
 
+all_hold : (x y z : Bool) → ◌≡◌ {A = ℕ} (pick x (pick y (pick z 0 7) 6) 5) 0 → (x ≡ true) × (y ≡ true) × (z ≡ true)
+unfolding pick
+all_hold true true true e = (refl, refl, refl)
+all_hold true true false e = absurd (omega arith)
+all_hold true false z e = absurd (omega arith)
+all_hold false y z e = absurd (omega arith)
+
 pub accepted : (s : List ℕ) → judged s ≡ 0 → (length_fits s ≡ true) × (complete s ≡ true) × (is_script s ≡ true)
-unfolding judged pick
-accepted s h =
-    let go : (x y z : Bool) → ◌≡◌ {A = ℕ} (pick x (pick y (pick z 0 7) 6) 5) 0 → (x ≡ true) × (y ≡ true) × (z ≡ true) =
-    λ x y z. elim x [
-      | true ↦ elim y [ true ↦ elim z [ true ↦ λ e. (refl, refl, refl) | false ↦ λ e. absurd (omega arith) ] | false ↦ λ e. absurd (omega arith) ]
-      | false ↦ λ e. absurd (omega arith)
-    ] in
-    go (length_fits s) (complete s) (is_script s) h
+unfolding judged
+accepted s h = all_hold (length_fits s) (complete s) (is_script s) h
+
+both_hold : (x y : Bool) → pick x y false ≡ true → (x ≡ true) × (y ≡ true)
+unfolding pick
+both_hold true y e = (refl, e)
+both_hold false y e = absurd (false≢true e)
 
 pub fits_length : (s : List ℕ) → length_fits s ≡ true → (1 ≤ length s) × (length s ≤ 64)
-unfolding length_fits pick
+unfolding length_fits
 fits_length s h =
-    let go : (x y : Bool) → pick x y false ≡ true → (x ≡ true) × (y ≡ true) = λ x y. elim x [ true ↦ λ e. (refl, e) | false ↦ λ e. absurd (false≢true e) ] in
-    let both = go (leb 1 (length s)) (leb (length s) 64) h in (leb-true 1 (length s) both.0, leb-true (length s) 64 both.1)
+    let both = both_hold (leb 1 (length s)) (leb (length s) 64) h in (leb-true 1 (length s) both.0, leb-true (length s) 64 both.1)
 
 pub on_first : (s : List ℕ) → judged s ≡ 0 → on_command s 0 ≡ true
 unfolding on_command

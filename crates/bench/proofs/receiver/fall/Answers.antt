@@ -31,7 +31,7 @@ returns-else-n-lt8 c = rw (fall_at_lem _ c.args.r c.in-Address.is, asks_at_lem _
 
 pub returns-else-n-lt8-2 : goal.returns-else-n-lt8-2
 unfolding fall_at asks_at pick
-returns-else-n-lt8-2 c = search (rules, asks_at_lem, fall_at_lem, pick_false, pick_true, sym, refl, ◌∙◌, add-one, rules, le-ltb, lt-ltb)
+returns-else-n-lt8-2 c = rw (fall_at_lem _ c.args.r c.in-Receive.is, asks_at_lem _ c.args.r c.in-Receive.is, le-ltb _ _ c.if-n-lt8-2.false) (c.byte_taken-receiver.ensures, c.byte_asks-act.ensures)
 
 pub returns-in-AckRead : goal.returns-in-AckRead
 unfolding fall_at asks_at

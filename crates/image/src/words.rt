@@ -2,6 +2,9 @@
 use std::env::FillError;
 use std::rt::Env;
 
+// The bytes of the longest one that is taken.
+pub const LONGEST: usize = 4096;
+
 // How many there are, the program's name among them.
 pub fn count(rt: &impl Env) -> usize {
     for i in 0..usize::MAX {

@@ -13,12 +13,9 @@ use image::files::Size;
 use std::io;
 use std::rt::{Env, Files};
 
-// As many bytes as a path has.
-const LONGEST: usize = 4096;
-
 // Whether the word names an image; if not, standard error says so.
 fn whole<R: Env + Files + Eprint>(rt: &R, place: usize) -> io::Result<bool> {
-    let mut path = [0u8; LONGEST];
+    let mut path = [0u8; image::words::LONGEST];
     let Ok(n) = rt.arg(place, &mut path) else {
         faults::long(rt, place)?;
         return Ok(false);
@@ -43,7 +40,7 @@ fn all_whole<R: Env + Files + Eprint>(rt: &R, count: usize) -> io::Result<bool> 
 
 // The file may have changed since it was opened first, or be one that can be read only once.
 fn one<R: Env + Files + Print + Eprint>(rt: &R, place: usize) -> io::Result<()> {
-    let mut path = [0u8; LONGEST];
+    let mut path = [0u8; image::words::LONGEST];
     let Ok(n) = rt.arg(place, &mut path) else {
         return faults::long(rt, place);
     };

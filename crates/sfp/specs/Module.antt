@@ -8,7 +8,7 @@ use Rattle.sfp.specs.declared.Kind.{Kind}
 use Rattle.sfp.specs.declared.Kind.TheVariants.{DaCu, Cu1g, Sx1g, Lx1g, Bx1g, Unknown, NotPresent}
 use Rattle.sfp.specs.declared.Module.{Module}
 use Rattle.sfp.specs.declared.methods.Key.{Key}
-use Rattle.sfp.specs.declared.methods.Key.TheVariants.{Key as Some, Nothing}
+use Rattle.sfp.specs.declared.methods.Key.TheVariants.{Key as OneKey, Nothing}
 use Rattle.sfp.specs.Kinds.{is_kind}
 
 -- the record of a module that was identified
@@ -37,4 +37,4 @@ is_supported kind family = is_known kind && not (is_kind kind Cu1g && x550em fam
 
 -- the key of the 82599's NVM sequence on a port: 3 and 4 are passive cables, 5 and 6 all other known modules
 unfoldable pub key_of : Kind → ℕ → Key
-key_of kind lan = pick (is_known kind) (Some (pick (is_linear kind) 3 5 + lan)) Nothing
+key_of kind lan = pick (is_known kind) (OneKey (pick (is_linear kind) 3 5 + lan)) Nothing

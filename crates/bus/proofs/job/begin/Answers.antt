@@ -8,7 +8,7 @@ use Rattle.bus.proofs.job.begin.Goals as goal
 
 pub returns : goal.returns
 unfolding job_next access_job rest_job line_next valid_job job_left
-returns c = 
+returns c =
     record {
       yields = λ device k. rw c.call.ensures at (c.open.ensures.yields (calls_left c.args.l device c.args.c c.args.left k));
       limits = λ h. picked _ _ h (c.open.ensures.limits (rw c.call.ensures (valid_calls c.args.l c.args.c c.args.left)));

@@ -8,6 +8,6 @@ use Rattle.hostif.proofs.calls.command_on.Goals as goal
 
 pub returns-in-No : goal.returns-in-No
 unfolding stepped lent said_command stands_command told_left
-returns-in-No c = 
+returns-in-No c =
     let h = rw (c.valid_command-valid.ensures, c.access.ensures) at c.admit.ensures in
     record { yields = ap (lent _) (sym (admits_no _ _ _ _ c.in-No.is h)); limits = tt; within = command_some _ _ }

@@ -5,6 +5,6 @@ use Rattle.i2c.proofs.calls.qsfp_setup_step.Goals as goal
 
 pub returns-in-No : goal.returns-in-No
 unfolding step_setup said_setup stands_setup
-returns-in-No c = 
+returns-in-No c =
     let h = rw (c.access.ensures, c.setup_bus.ensures) at c.admit.ensures in
     rw c.in-Going.is (record { yields = sym (admits_no _ _ _ _ c.in-No.is h); limits = tt })

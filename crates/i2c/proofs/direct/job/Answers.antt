@@ -8,7 +8,7 @@ use Rattle.i2c.proofs.direct.job.Goals as goal
 
 pub returns-in-On : goal.returns-in-On
 unfolding within FoundIn
-returns-in-On c = 
+returns-in-On c =
     let args = c.args in
     let w = sym c.within.ensures ∙ c.if-within.true in
     let found = rw c.in-On.is at c.command.ensures in

@@ -4,7 +4,7 @@ use Rattle.identify.proofs.Moves.{identify_on}
 use Rattle.identify.proofs.calls.direct.Goals as goal
 
 pub returns-then-valid : goal.returns-then-valid
-returns-then-valid c = 
+returns-then-valid c =
     let args = c.args in
     let held = sym c.valid_held.ensures ∙ c.if-valid_held.true in
     let v = sym c.valid.ensures ∙ c.if-valid.true in

@@ -10,7 +10,7 @@ use Rattle.identify.proofs.calls.identify_qsfp_open_with.Goals as goal
 
 pub returns-in-Port : goal.returns-in-Port
 unfolding open_qsfp identify_qsfp and_then port_opened placed tries_at most on_at valid_place cap_at pick
-returns-in-Port c = 
+returns-in-Port c =
     record {
       yields = rw (← c.open_port.ensures, c.in-Port.is) c.opened.ensures.yields;
       limits = c.opened.ensures.limits (opened_valid _ _ _ c.in-Port.is c.open_port.ensures) refl (omega arith);

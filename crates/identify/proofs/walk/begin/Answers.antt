@@ -9,7 +9,7 @@ use Rattle.identify.proofs.walk.begin.Goals as goal
 
 pub returns-in-Going : goal.returns-in-Going
 unfolding identify_next access_identify rest_identify placed byte request_at valid_identify_next valid_identify
-returns-in-Going c = 
+returns-in-Going c =
     let port = c.args.port in
     let q = c.args.q in
     let p = c.args.p in

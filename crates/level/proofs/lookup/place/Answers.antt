@@ -8,6 +8,6 @@ loop-preserved c =
     let now = c.loop in
     let entry = c.table-least.ensures.entry ((now.lo + now.hi) / 2) (search rules) in
     elim c.if-least-mid.branch [
-      then-least-mid w ↦ rw (w.lo-is, w.hi-is) (up now.invariant (search rules) entry (search rules))
+      | then-least-mid w ↦ rw (w.lo-is, w.hi-is) (up now.invariant (search rules) entry (search rules))
       | else-least-mid w ↦ rw (w.lo-is, w.hi-is) (down now.invariant (search rules) entry (search rules))
     ]

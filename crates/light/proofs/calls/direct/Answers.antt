@@ -5,7 +5,7 @@ use Rattle.light.proofs.Moves.{light_on_lem}
 use Rattle.light.proofs.calls.direct.Goals as goal
 
 pub returns-then-left-le30 : goal.returns-then-left-le30
-returns-then-left-le30 c = 
+returns-then-left-le30 c =
     let args = c.args in
     let held = sym c.valid_held.ensures ∙ c.if-valid_held.true in
     let v = le-leb args.t.left 30 c.if-left-le30.true in

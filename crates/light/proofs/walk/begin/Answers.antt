@@ -15,7 +15,7 @@ use Rattle.light.proofs.walk.begin.Goals as goal
 
 pub returns-in-Going : goal.returns-in-Going
 unfolding light_next access_light rest_light light_from valid_light_next valid_light
-returns-in-Going c = 
+returns-in-Going c =
     let port = c.args.port in
     let q = c.args.q in
     let tries = c.args.tries in
@@ -29,7 +29,7 @@ returns-in-Going c =
 
 pub returns-in-Err : goal.returns-in-Err
 unfolding light_next light_from measured_of erase valued value_of got byte_seen or_err valid_light_next
-returns-in-Err c = 
+returns-in-Err c =
     let port = c.args.port in
     let q = c.args.q in
     let tries = c.args.tries in

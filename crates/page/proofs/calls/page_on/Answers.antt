@@ -6,6 +6,6 @@ use Rattle.page.proofs.calls.page_on.Goals as goal
 
 pub returns-in-No : goal.returns-in-No
 unfolding stepped_page buffer_stepped kept lent said_page stands_page FilledAs
-returns-in-No c = 
+returns-in-No c =
     let h = rw (c.valid-ok.ensures, c.access.ensures) at c.admit.ensures in
     record { yields = ap (lent _) (sym (admits_no _ _ _ _ c.in-No.is h)); limits = tt; holds = ap (kept _) (sym (admits_no _ _ _ _ c.in-No.is h)); fills = tt }

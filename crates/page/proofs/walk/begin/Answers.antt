@@ -14,7 +14,7 @@ use Rattle.page.proofs.walk.begin.Goals as goal
 
 pub returns-in-Going : goal.returns-in-Going
 unfolding page_next filled_next access_page rest_page page_from valid_page_next valid_page
-returns-in-Going c = 
+returns-in-Going c =
     let port = c.args.port in
     let q = c.args.q in
     let form = c.args.form in
@@ -29,7 +29,7 @@ returns-in-Going c =
 
 pub returns-in-Err : goal.returns-in-Err
 unfolding page_next filled_next filling page_from paged_of erase valued value_of got byte_seen valid_page_next
-returns-in-Err c = 
+returns-in-Err c =
     let port = c.args.port in
     let q = c.args.q in
     let form = c.args.form in

@@ -4,7 +4,7 @@ use Rattle.softrate.proofs.Moves.{rate_on}
 use Rattle.softrate.proofs.calls.direct.Goals as goal
 
 pub returns-then-valid : goal.returns-then-valid
-returns-then-valid c = 
+returns-then-valid c =
     let args = c.args in
     let held = sym c.valid_held.ensures ∙ c.if-valid_held.true in
     let v = sym c.valid.ensures ∙ c.if-valid.true in

@@ -9,7 +9,7 @@ use Rattle.softrate.proofs.walk.begin.Goals as goal
 
 pub returns-in-Going : goal.returns-in-Going
 unfolding rate_next access_rate rest_rate placed valid_rate_next valid_rate
-returns-in-Going c = 
+returns-in-Going c =
     let port = c.args.port in
     let q = c.args.q in
     let ten = c.args.ten in

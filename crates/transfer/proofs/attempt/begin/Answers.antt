@@ -8,7 +8,7 @@ use Rattle.transfer.proofs.attempt.begin.Goals as goal
 
 pub returns-in-Ok : goal.returns-in-Ok
 unfolding or_err word begun
-returns-in-Ok c = 
+returns-in-Ok c =
     record {
       yields = λ m. rw c.in-Ok.is (over _ _ (c.from_transfer.ensures.yields m c.args.script.now) (c.from.ensures.yields m c.args.device));
       limits = λ h. c.from_transfer.ensures.limits c.args.script.now (c.from.ensures.limits (λ lt. h));

@@ -9,7 +9,7 @@ use Rattle.transfer.proofs.attempt.cleared.Goals as goal
 
 pub returns-in-Going : goal.returns-in-Going
 unfolding attempt_next awaiting heard_attempt access_attempt rest_attempt valid_attempt_next valid_attempt clear_next valid_clear_next attempt_next_left attempt_left
-returns-in-Going c = 
+returns-in-Going c =
     record {
       yields = λ m q s. rw c.in-Going.is (heard_on _ _ _ _);
       limits = λ s h. rw c.in-Going.is at h;

@@ -9,7 +9,7 @@ use Rattle.transfer.proofs.attempt.from_transfer.Goals as goal
 
 pub returns-in-Going : goal.returns-in-Going
 unfolding attempt_next awaiting heard_attempt access_attempt rest_attempt valid_attempt_next valid_attempt transfer_next asking valid_transfer_next attempt_next_left attempt_left transfer_next_left
-returns-in-Going c = 
+returns-in-Going c =
     record {
       yields = λ m s. rw c.in-Going.is (heard_on _ _ _ _);
       limits = λ s h. rw c.in-Going.is at h;
@@ -18,7 +18,7 @@ returns-in-Going c =
 
 pub returns-in-Read : goal.returns-in-Read
 unfolding attempt_next awaiting heard_attempt access_attempt rest_attempt valid_attempt_next valid_attempt transfer_next asking valid_transfer_next attempt_next_left attempt_left transfer_next_left
-returns-in-Read c = 
+returns-in-Read c =
     record {
       yields = λ m s. rw c.in-Read.is (told_on m _ _ _ _ _);
       limits = λ s h. rw c.in-Read.is at h;

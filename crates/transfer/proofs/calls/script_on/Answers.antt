@@ -15,7 +15,7 @@ use Rattle.transfer.proofs.calls.script_on.Goals as goal
 
 pub returns-in-Yes : goal.returns-in-Yes
 unfolding stepped_script valid_script call_left
-returns-in-Yes c = 
+returns-in-Yes c =
     let args = c.args in
     let l = c.layout_of-l.ensures in
     let e = c.in-Yes.is in
@@ -31,7 +31,7 @@ returns-in-Yes c =
 
 pub returns-in-No : goal.returns-in-No
 unfolding stepped_script said_script stands_script call_left script_left
-returns-in-No c = 
+returns-in-No c =
     let args = c.args in
     let h = rw (c.valid.ensures, c.access.ensures, c.layout_of-l.ensures) at c.admit.ensures in
     record { yields = sym (admits_no _ _ _ _ c.in-No.is h); limits = λ f. tt; within = λ g. attempt_some (layout_of args.port.family) args.t }

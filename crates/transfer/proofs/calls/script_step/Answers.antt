@@ -7,7 +7,7 @@ use Rattle.transfer.proofs.calls.script_step.Goals as goal
 
 pub returns-in-Refused : goal.returns-in-Refused
 unfolding step_script said_script stands_script script_left
-returns-in-Refused c = 
+returns-in-Refused c =
     record {
       yields = sym (judged_no c.args.script.now _ c.in-Refused.is c.judge.ensures);
       limits = tt;

@@ -13,7 +13,7 @@ use Rattle.transfer.proofs.calls.told.Goals as goal
 
 pub returns-in-Going : goal.returns-in-Going
 unfolding said_script rest_script attempt_next awaiting stands_script valid_attempt_next valid_script script_left call_left attempt_next_left
-returns-in-Going c = 
+returns-in-Going c =
     let x = rw c.layout_of-l.ensures at c.access.ensures in
     record {
       yields = λ s h. rw (c.in-Going.is, c.going.ensures, x) (ap yes (heard_tally _ _ _ _ _ h));
@@ -23,7 +23,7 @@ returns-in-Going c =
 
 pub returns-in-Read : goal.returns-in-Read
 unfolding said_script rest_script attempt_next awaiting stands_script valid_attempt_next valid_script script_left call_left attempt_next_left
-returns-in-Read c = 
+returns-in-Read c =
     let x = rw c.layout_of-l.ensures at c.access-in-Read.ensures in
     record {
       yields = λ s h. rw (c.in-Read.is, c.going-in-Read.ensures, x) (ap yes (told_tally _ _ _ _ _ _ h));

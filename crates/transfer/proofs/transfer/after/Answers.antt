@@ -9,7 +9,7 @@ use Rattle.transfer.proofs.transfer.after.Goals as goal
 
 pub returns-then-is_read : goal.returns-then-is_read
 unfolding step_at
-returns-then-is_read c = 
+returns-then-is_read c =
     record {
       yields = λ m device. c.told.ensures.yields m c.args.l device c.args.script.now ∙ ap (tells m c.args.b) (rw (c.took.ensures, c.at-here.ensures) at (c.from-n.ensures.yields m device)) ∙ after_read_lem m c.args.l device c.args.script.now c.args.at c.args.taken c.args.b c.args.ctl (sym (rw c.at-here.ensures at c.is_read.ensures) ∙ c.if-is_read.true);
       limits = λ h. c.told.ensures.limits c.args.l c.args.script.now (c.from-n.ensures.limits (λ lt. rw c.at-here.ensures (on_next c.args.script.now c.args.at h (rw c.at-here.ensures at lt))));
@@ -18,7 +18,7 @@ returns-then-is_read c =
 
 pub returns : goal.returns
 unfolding step_at
-returns c = 
+returns c =
     record {
       yields = λ m device. rw (c.took.ensures, c.at-here.ensures) at (c.from-n.ensures.yields m device) ∙ after_other m c.args.l device c.args.script.now c.args.at c.args.taken c.args.b c.args.ctl (sym (rw c.at-here.ensures at c.is_read.ensures) ∙ c.if-is_read.false);
       limits = λ h. c.from-n.ensures.limits (λ lt. rw c.at-here.ensures (on_next c.args.script.now c.args.at h (rw c.at-here.ensures at lt)));

@@ -226,7 +226,7 @@ module _ (q : Sequence) (l : Layout) (device c : ℕ) (clears : EndsBus (clearin
 
   first_look_by : (m : ℕ) → Words l m → (k : Bus) → AtMost l (LOOK_AT l) (attempt q l device (look l (sda l true k))) (suc (suc (suc (suc (suc (suc (m + c)))))))
   unfolding attempt attempting ◌>>=◌ Awaited run
-  first_look_by m h k = asked l _ _ _ _ (λ a. begins (look l (sda l true k)) _ _ (reads (sda l true k) _ _ (omega arith) (releases m h k)) (raw a))
+  first_look_by m h k = asked l _ (λ a. or_err (begun q l device (look l (sda l true k))) (raw a)) _ _ (λ a. begins (look l (sda l true k)) _ _ (reads (sda l true k) _ _ (omega arith) (releases m h k)) (raw a))
 
 -- whatever comes after the start
 pub first_look : (q : Sequence) (l : Layout) (m : ℕ) → Words l m → (device : ℕ) (k : Bus) → AtMost l (LOOK_AT l) (attempt q l device (start l k)) (FIRST_LOOK_STEPS q m)

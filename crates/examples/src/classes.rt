@@ -1,70 +1,39 @@
 // Classes of SFP modules.
-use crate::STDOUT;
 use sfp::Kind;
 use sfp::class::SfpBytes;
+use std::io;
 
-fn print_kind(kind: Kind) {
-    match kind {
-        Kind::DaCu => {
-            io::write_all(STDOUT, b"DaCu");
-        }
-        Kind::DaActiveLimiting => {
-            io::write_all(STDOUT, b"DaActiveLimiting");
-        }
-        Kind::SrLr => {
-            io::write_all(STDOUT, b"SrLr");
-        }
-        Kind::Cu1g => {
-            io::write_all(STDOUT, b"Cu1g");
-        }
-        Kind::Sx1g => {
-            io::write_all(STDOUT, b"Sx1g");
-        }
-        Kind::Lx1g => {
-            io::write_all(STDOUT, b"Lx1g");
-        }
-        Kind::Bx10g => {
-            io::write_all(STDOUT, b"Bx10g");
-        }
-        Kind::Bx1g => {
-            io::write_all(STDOUT, b"Bx1g");
-        }
-        Kind::Unknown => {
-            io::write_all(STDOUT, b"Unknown");
-        }
-        Kind::NotPresent => {
-            io::write_all(STDOUT, b"NotPresent");
-        }
-    }
+fn print_kind(rt: &impl Print, kind: Kind) -> io::Result<()> {
+    rt.print(match kind {
+        Kind::DaCu => "DaCu",
+        Kind::DaActiveLimiting => "DaActiveLimiting",
+        Kind::SrLr => "SrLr",
+        Kind::Cu1g => "Cu1g",
+        Kind::Sx1g => "Sx1g",
+        Kind::Lx1g => "Lx1g",
+        Kind::Bx10g => "Bx10g",
+        Kind::Bx1g => "Bx1g",
+        Kind::Unknown => "Unknown",
+        Kind::NotPresent => "NotPresent",
+    })
 }
 
-fn print_byte(b: u8) {
-    io::write_all(STDOUT, b"/");
-    io::print_hex(STDOUT, b as u64, 2);
+fn print_codes(rt: &impl Print, b: SfpBytes) -> io::Result<()> {
+    let (b3, b6, b8, b12, b14, b15) = (b.b3, b.b6, b.b8, b.b12, b.b14, b.b15);
+    print!(rt; "{b3:02x}/{b6:02x}/{b8:02x}/{b12:02x}/{b14:02x}/{b15:02x}")
 }
 
-fn print_codes(b: SfpBytes) {
-    io::print_hex(STDOUT, b.b3 as u64, 2);
-    print_byte(b.b6);
-    print_byte(b.b8);
-    print_byte(b.b12);
-    print_byte(b.b14);
-    print_byte(b.b15);
-}
-
-fn print_class(b: SfpBytes) {
-    io::write_all(STDOUT, b"class, bytes 3/6/8/12/14/15 ");
-    print_codes(b);
-    io::write_all(STDOUT, b": ");
+fn print_class(rt: &impl Print, b: SfpBytes) -> io::Result<()> {
+    print!(rt; "class, bytes 3/6/8/12/14/15 ")?;
+    print_codes(rt, b)?;
+    print!(rt; ": ")?;
     let found = sfp::class::class(b);
     let kind = found.kind;
-    print_kind(kind);
+    print_kind(rt, kind)?;
     if found.multispeed {
-        io::write_all(STDOUT, b", multispeed");
+        print!(rt; ", multispeed")?;
     }
-    io::write_all(STDOUT, b", requests ");
-    io::print_decimal(STDOUT, sfp::class::requests_of(b) as u64);
-    io::write_all(STDOUT, b"\n");
+    println!(rt; ", requests {}", sfp::class::requests_of(b))
 }
 
 // The bytes of an SFP whose other bytes are 0.
@@ -94,11 +63,11 @@ fn cable(b8: u8) -> SfpBytes {
     }
 }
 
-pub(crate) fn print_classes() {
-    print_class(fibre(0x00, 0x00, 0x67, 0x0A));
-    print_class(fibre(0x00, 0x00, 0x67, 0x09));
-    print_class(fibre(0x00, 0x40, 0x66, 0x00));
-    print_class(cable(0x0C));
-    print_class(fibre(0x10, 0x01, 0x00, 0x00));
-    print_class(fibre(0x20, 0x01, 0x00, 0x00));
+pub(crate) fn print_classes(rt: &impl Print) -> io::Result<()> {
+    print_class(rt, fibre(0x00, 0x00, 0x67, 0x0A))?;
+    print_class(rt, fibre(0x00, 0x00, 0x67, 0x09))?;
+    print_class(rt, fibre(0x00, 0x40, 0x66, 0x00))?;
+    print_class(rt, cable(0x0C))?;
+    print_class(rt, fibre(0x10, 0x01, 0x00, 0x00))?;
+    print_class(rt, fibre(0x20, 0x01, 0x00, 0x00))
 }

@@ -1,6 +1,7 @@
 // The acknowledge bit: a script that sends one byte, run to its end.
-use crate::{STDOUT, host, scripts};
+use crate::{host, scripts};
 use hardware::{Error, Outcome, Refusal};
+use std::io;
 use transfer::calls::ScriptTold;
 
 // The 82599, and the PCI device of its SFP+ port.
@@ -45,44 +46,35 @@ fn run(bytes: &[u8], first: u32) -> Ending {
     Ending::Unended
 }
 
-fn print_failed(e: Error) {
-    io::write_all(STDOUT, b"failed ");
-    io::print_decimal(STDOUT, hardware::error_number(e) as u64);
+fn print_failed(rt: &impl Print, e: Error) -> io::Result<()> {
+    print!(rt; "failed {}", hardware::error_number(e))?;
     if bus::is_i2c(e) {
-        io::write_all(STDOUT, b", device ");
-        io::print_hex(STDOUT, hardware::error_value(e, 0) as u64, 2);
+        print!(rt; ", device {:02x}", hardware::error_value(e, 0))?;
     }
+    Ok(())
 }
 
-fn print_outcome(o: Outcome) {
+fn print_outcome(rt: &impl Print, o: Outcome) -> io::Result<()> {
     match o {
-        Outcome::Ok => {
-            io::write_all(STDOUT, b"succeeded");
-        }
-        Outcome::Err(e) => print_failed(e),
+        Outcome::Ok => print!(rt; "succeeded"),
+        Outcome::Err(e) => print_failed(rt, e),
     }
 }
 
-fn print_ending(r: Ending) {
+fn print_ending(rt: &impl Print, r: Ending) -> io::Result<()> {
     match r {
         Ending::Ended(o, count) => {
-            print_outcome(o);
-            io::write_all(STDOUT, b", transfers ");
-            io::print_decimal(STDOUT, count as u64);
-            io::write_all(STDOUT, b"\n");
+            print_outcome(rt, o)?;
+            println!(rt; ", transfers {count}")
         }
-        Ending::Refused(q) => scripts::print_refused(q),
-        Ending::Unended => {
-            io::write_all(STDOUT, b"not ended\n");
-        }
+        Ending::Refused(q) => scripts::print_refused(rt, q),
+        Ending::Unended => println!(rt; "not ended"),
     }
 }
 
 // `first`: the first sample that reads low, counted from 1.
-pub(crate) fn print_send(first: u32) {
+pub(crate) fn print_send(rt: &impl Print, first: u32) -> io::Result<()> {
     let bytes = [0x10u8, 0x20, 0xA0, 0x40];
-    io::write_all(STDOUT, b"send, SDA first low at sample ");
-    io::print_decimal(STDOUT, first as u64);
-    io::write_all(STDOUT, b": ");
-    print_ending(run(&bytes, first));
+    print!(rt; "send, SDA first low at sample {first}: ")?;
+    print_ending(rt, run(&bytes, first))
 }

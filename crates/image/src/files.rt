@@ -1,15 +1,19 @@
 // Reading an image: 512 bytes, page A0 and then page A2.
-ghost use Rattle.std.specs.Prelude.{◌≡◌};
-ghost use Rattle.image.specs.declared.files.Size.TheVariants.{Unread};
+ghost use Rattle.std.specs.Prelude.{◌≡◌, ◌≤◌, length, IfOk};
 ghost use Rattle.image.specs.Size.{SizeOf, Told};
 
-// How many bytes a file has, and whether it could be read.
+use std::fs::File;
+use std::io;
+use std::io::Read;
+use std::rt::Files;
+
+// How many bytes a file has, or why it could not be read.
 #[derive(Clone, Copy)]
 pub enum Size {
     Whole,
     Short(usize),
     Long,
-    Unread,
+    Unread(io::Error),
 }
 
 #[derive(Clone, Copy)]
@@ -20,58 +24,79 @@ pub struct Image {
 }
 
 // count: the bytes read of at most 512. past: what a read after them answered.
-#[tactic(auto, using(crate::proofs::Laws::below, crate::proofs::Laws::above, crate::proofs::Laws::nothing))]
-fn sized(count: usize, past: isize) -> Size
+fn sized(count: usize, past: io::Result<usize>) -> Size
     ensures { SizeOf count past result }
 {
-    if past < 0 {
-        return Size::Unread;
+    match past {
+        Err(e) => Size::Unread(e),
+        Ok(0) => {
+            if count < 512 {
+                return Size::Short(count);
+            }
+            Size::Whole
+        }
+        Ok(_) => Size::Long,
     }
-    if 0 < past {
-        return Size::Long;
+}
+
+// Reads until the buffer is full or the file ends.
+fn filled<F: Read>(file: &mut F, buffer: &mut [u8]) -> io::Result<usize>
+    ensures { IfOk result (λ n. n ≤ length buffer.new) }
+{
+    let mut count = 0;
+    while count < buffer.len() {
+        let n = file.read(&mut buffer[count..])?;
+        if n == 0 {
+            return Ok(count);
+        }
+        count += n;
     }
-    if count < 512 {
-        return Size::Short(count);
-    }
-    Size::Whole
+    Ok(count)
 }
 
 #[tactic(auto, using(crate::proofs::Laws::told))]
-fn pages(fd: i32) -> Image
+fn measured<F: Read>(file: &mut F, a0: &mut [u8; 256], a2: &mut [u8; 256]) -> io::Result<Size>
+    ensures { IfOk result Told }
+{
+    let mut past = [0u8; 1];
+    let first = filled(file, a0)?;
+    let second = filled(file, a2)?;
+    Ok(sized(first + second, file.read(&mut past)))
+}
+
+fn pages<F: Read>(file: &mut F) -> Image
     ensures { Told result.size }
 {
     let mut a0 = [0u8; 256];
     let mut a2 = [0u8; 256];
-    let mut past = [0u8; 1];
-    let first = io::read_full(fd, &mut a0);
-    let second = io::read_full(fd, &mut a2);
-    let got = libc::read(fd, &mut past);
-    Image {
-        size: sized(first + second, got),
-        a0,
-        a2,
+    match measured(file, &mut a0, &mut a2) {
+        Ok(size) => Image { size, a0, a2 },
+        Err(e) => unread(e),
     }
 }
 
-fn unread() -> Image
-    ensures { result.size ≡ Unread }
+fn unread(e: io::Error) -> Image
+    ensures { result.size ≡ Size.Unread e }
 {
     Image {
-        size: Size::Unread,
+        size: Size::Unread(e),
         a0: [0; 256],
         a2: [0; 256],
     }
 }
 
-// Where the file could not be read, errno says why.
-pub fn read(path: &[u8]) -> Image
+fn opened<R: Files>(rt: &R, path: &[u8]) -> io::Result<R::File> {
+    match str::from_utf8(path) {
+        Ok(path) => File::open(rt, path),
+        Err(_) => Err(io::Error::new(io::ErrorKind::InvalidFilename, "its name is not UTF-8")),
+    }
+}
+
+pub fn read<R: Files>(rt: &R, path: &[u8]) -> Image
     ensures { Told result.size }
 {
-    let fd = os::open_read(path);
-    if fd < 0 {
-        return unread();
+    match opened(rt, path) {
+        Ok(mut file) => pages(&mut file),
+        Err(e) => unread(e),
     }
-    let image = pages(fd);
-    libc::close(fd);
-    image
 }

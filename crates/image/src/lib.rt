@@ -4,3 +4,4 @@
 pub mod faults;
 pub mod files;
 pub mod print;
+pub mod words;

@@ -1,6 +1,9 @@
 // Bytes as text.
 ghost use Rattle.image.specs.Text.{Printed};
 
+use std::fmt;
+use std::fmt::Formatter;
+
 // A byte that is no printable ASCII is shown as '?'.
 fn printable(b: u8) -> u8
     ensures { Printed b result }
@@ -11,22 +14,22 @@ fn printable(b: u8) -> u8
     }
 }
 
-fn shown_at(fd: i32, bytes: &[u8], i: usize) {
-    if i < bytes.len() {
-        io::write_all(fd, &[printable(bytes[i])]);
-    }
-}
-
-fn head(fd: i32, bytes: &[u8]) {
-    for i in 0..100 {
-        shown_at(fd, bytes, i);
-    }
-}
-
 // At most the first 100 bytes.
-pub fn shown(fd: i32, bytes: &[u8]) {
-    head(fd, bytes);
-    if 100 < bytes.len() {
-        io::write_all(fd, b"...");
+#[derive(Clone, Copy)]
+pub struct Excerpt<'a>(&'a [u8]);
+
+impl fmt::Display for Excerpt<'_> {
+    fn fmt<W: fmt::Write>(&self, f: &mut Formatter<W>) -> fmt::Result {
+        for b in self.0.iter().take(100) {
+            f.write_char(char::from(printable(*b)))?;
+        }
+        if 100 < self.0.len() {
+            f.write_str("...")?;
+        }
+        Ok(())
     }
+}
+
+pub fn shown(bytes: &[u8]) -> Excerpt<'_> {
+    Excerpt(bytes)
 }

@@ -2,23 +2,24 @@
 // halves away from 0.
 use crate::{decimals, print};
 use level::dbm::Level;
+use std::io;
 
-fn dbm(l: Level) {
+fn dbm(rt: &impl Print, l: Level) -> io::Result<()> {
     match l {
         Level::Tenths(t) => {
-            decimals::signed_tenths(t);
-            print::text(b" dBm");
+            decimals::signed_tenths(rt, t)?;
+            print::text(rt, " dBm")
         }
-        Level::None => print::text(b"no light"),
+        Level::None => print::text(rt, "no light"),
     }
 }
 
 // A count of 0.1 uW.
-pub(crate) fn counted(count: u16) {
-    decimals::ten_thousandths(count as u64);
-    print::text(b" mW (");
-    dbm(level::lookup::level(count));
-    print::text(b")\n");
+pub(crate) fn counted(rt: &impl Print, count: u16) -> io::Result<()> {
+    decimals::ten_thousandths(rt, count as u64)?;
+    print::text(rt, " mW (")?;
+    dbm(rt, level::lookup::level(count))?;
+    print::text(rt, ")\n")
 }
 
 // A float is its digits times 2 to the power of its exponent less 150.
@@ -70,54 +71,55 @@ fn negative(bits: u32) -> bool {
     0x8000_0000 <= bits
 }
 
-fn beyond(bits: u32) {
+fn beyond(rt: &impl Print, bits: u32) -> io::Result<()> {
     if negative(bits) {
-        print::text(b"less than -9 * 10^14 mW (the float ");
+        print::text(rt, "less than -9 * 10^14 mW (the float ")
     } else {
-        print::text(b"more than 9 * 10^14 mW (the float ");
+        print::text(rt, "more than 9 * 10^14 mW (the float ")
     }
 }
 
 // A sign only where the rounded count is not 0; the pattern beside it tells a float below 0.
-fn sign(bits: u32, count: u64) {
+fn sign(rt: &impl Print, bits: u32, count: u64) -> io::Result<()> {
     if negative(bits) {
         if 0 < count {
-            print::text(b"-");
+            print::text(rt, "-")?;
         }
     }
+    Ok(())
 }
 
 // The level of the rounded count, where that is 1 to 65,535.
-fn rounded_dbm(count: u64) {
+fn rounded_dbm(rt: &impl Print, count: u64) -> io::Result<()> {
     if 0 < count {
         if count <= 65535 {
-            dbm(level::lookup::level(count as u16));
-            print::text(b", ");
+            dbm(rt, level::lookup::level(count as u16))?;
+            print::text(rt, ", ")?;
         }
     }
+    Ok(())
 }
 
-fn rounded(bits: u32, count: u64) {
-    sign(bits, count);
-    decimals::ten_thousandths(count);
-    print::text(b" mW (");
+fn rounded(rt: &impl Print, bits: u32, count: u64) -> io::Result<()> {
+    sign(rt, bits, count)?;
+    decimals::ten_thousandths(rt, count)?;
+    print::text(rt, " mW (")?;
     if !negative(bits) {
-        rounded_dbm(count);
+        rounded_dbm(rt, count)?;
     }
-    print::text(b"rounded from the float ");
+    print::text(rt, "rounded from the float ")
 }
 
-fn of_pattern(bits: u32) {
+fn of_pattern(rt: &impl Print, bits: u32) -> io::Result<()> {
     if large(exponent(bits)) {
-        beyond(bits);
+        beyond(rt, bits)?;
     } else {
-        rounded(bits, nearest(digits(bits), exponent(bits)));
+        rounded(rt, bits, nearest(digits(bits), exponent(bits)))?;
     }
-    io::print_hex(print::STDOUT, bits as u64, 8);
-    print::text(b")\n");
+    println!(rt; "{bits:08x})")
 }
 
 // A float in 0.1 uW.
-pub(crate) fn calibrated(x: f32) {
-    of_pattern(unsigned::pattern(x));
+pub(crate) fn calibrated(rt: &impl Print, x: f32) -> io::Result<()> {
+    of_pattern(rt, unsigned::pattern(x))
 }

@@ -1,11 +1,10 @@
 // Text on standard output.
+use std::io;
 
-pub const STDOUT: i32 = 1;
-
-pub(crate) fn text(bytes: &[u8]) {
-    io::write_all(STDOUT, bytes);
+pub(crate) fn text(rt: &impl Print, text: &str) -> io::Result<()> {
+    rt.print(text)
 }
 
-pub(crate) fn decimal(n: u64) {
-    io::print_decimal(STDOUT, n);
+pub(crate) fn decimal(rt: &impl Print, n: u64) -> io::Result<()> {
+    rt.print(n)
 }

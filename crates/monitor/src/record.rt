@@ -3,90 +3,92 @@ use crate::readings::LightEnd;
 use crate::{decimals, power, print};
 use light::power::Reading;
 use light::sensed::{Measured, Measures};
+use std::io;
 
 // Byte 92 of A0 says whether there is monitoring, and with which calibration.
 fn monitored(kind: u8) -> bool {
     sfp::class::has(kind, light::sensed::MONITORED)
 }
 
-fn calibration(kind: u8) {
-    print::text(b"calibration         ");
+fn calibration(rt: &impl Print, kind: u8) -> io::Result<()> {
+    print::text(rt, "calibration         ")?;
     if !monitored(kind) {
-        print::text(b"none: the module has no monitoring\n");
+        print::text(rt, "none: the module has no monitoring\n")
     } else if sfp::class::has(kind, light::sensed::EXTERNAL) {
-        print::text(b"external: receiver power by its coefficients, the rest raw\n");
+        print::text(
+            rt,
+            "external: receiver power by its coefficients, the rest raw\n",
+        )
     } else if sfp::class::has(kind, light::sensed::INTERNAL) {
-        print::text(b"internal\n");
+        print::text(rt, "internal\n")
     } else {
-        print::text(b"none: the values are raw\n");
+        print::text(rt, "none: the values are raw\n")
     }
 }
 
 // An empty line before each but the first.
-pub(crate) fn image(place: usize, path: &[u8], kind: u8) {
+pub(crate) fn image(rt: &impl Print, place: usize, path: &[u8], kind: u8) -> io::Result<()> {
     if 1 < place {
-        print::text(b"\n");
+        print::text(rt, "\n")?;
     }
-    print::text(b"image               ");
-    image::print::shown(print::STDOUT, path);
-    print::text(b"\n");
-    calibration(kind);
+    println!(rt; "image               {}", image::print::shown(path))?;
+    calibration(rt, kind)
 }
 
-fn received(r: Reading) {
-    print::text(b"receiver power      ");
+fn received(rt: &impl Print, r: Reading) -> io::Result<()> {
+    print::text(rt, "receiver power      ")?;
     match r {
-        Reading::Internal(n) => power::counted(n),
-        Reading::Calibrated(x) => power::calibrated(x),
-        Reading::Absent => print::text(b"absent\n"),
+        Reading::Internal(n) => power::counted(rt, n),
+        Reading::Calibrated(x) => power::calibrated(rt, x),
+        Reading::Absent => print::text(rt, "absent\n"),
     }
 }
 
-fn measures(m: Measures) {
-    print::text(b"module temperature  ");
-    decimals::signed_parts(m.temperature);
-    print::text(b" degrees C\nmodule voltage      ");
-    decimals::ten_thousandths(m.voltage as u64);
-    print::text(b" V\nlaser bias current  ");
-    decimals::thousandths(m.bias as u64 * 2);
-    print::text(b" mA\nlaser output power  ");
-    power::counted(m.sent);
+fn measures(rt: &impl Print, m: Measures) -> io::Result<()> {
+    print::text(rt, "module temperature  ")?;
+    decimals::signed_parts(rt, m.temperature)?;
+    print::text(rt, " degrees C\nmodule voltage      ")?;
+    decimals::ten_thousandths(rt, m.voltage as u64)?;
+    print::text(rt, " V\nlaser bias current  ")?;
+    decimals::thousandths(rt, m.bias as u64 * 2)?;
+    print::text(rt, " mA\nlaser output power  ")?;
+    power::counted(rt, m.sent)?;
     let r = m.reading;
-    received(r);
+    received(rt, r)
 }
 
 // Without monitoring nothing was measured.
-fn measured(m: Measures, kind: u8) {
+fn measured(rt: &impl Print, m: Measures, kind: u8) -> io::Result<()> {
     if monitored(kind) {
-        measures(m);
+        measures(rt, m)?;
     }
+    Ok(())
 }
 
-fn failed(r: Measured, why: &[u8]) {
-    print::text(b"failed              ");
-    print::decimal(light::sensed::measured_number(r) as u64);
-    print::text(why);
+fn failed(rt: &impl Print, r: Measured, why: &str) -> io::Result<()> {
+    print::text(rt, "failed              ")?;
+    print::decimal(rt, light::sensed::measured_number(r) as u64)?;
+    print::text(rt, why)
 }
 
-fn over(kind: u8, r: Measured, made: u32) {
+fn over(rt: &impl Print, kind: u8, r: Measured, made: u32) -> io::Result<()> {
     match r {
-        Measured::Ok(m) => measured(m, kind),
+        Measured::Ok(m) => measured(rt, m, kind)?,
         Measured::Coefficient => failed(
+            rt,
             r,
-            b": a coefficient of the receiver power is not finite\n",
-        ),
-        Measured::Result => failed(r, b": the receiver power is not finite\n"),
-        Measured::Err(_) => failed(r, b"\n"),
+            ": a coefficient of the receiver power is not finite\n",
+        )?,
+        Measured::Result => failed(rt, r, ": the receiver power is not finite\n")?,
+        Measured::Err(_) => failed(rt, r, "\n")?,
     }
-    print::text(b"transfers           ");
-    print::decimal(made as u64);
-    print::text(b"\n");
+    println!(rt; "transfers           {made}")
 }
 
 // Only the first is met: every lock and grant comes, and the port is one that opens.
-pub(crate) fn end(kind: u8, e: LightEnd) {
+pub(crate) fn end(rt: &impl Print, kind: u8, e: LightEnd) -> io::Result<()> {
     match e {
-        LightEnd::Over(r, made) => over(kind, r, made),
-        LightEnd::Unended => print::text(b"the call did not end\n"),
+        LightEnd::Over(r, made) => over(rt, kind, r, made),
+        LightEnd::Unended => print::text(rt, "the call did not end\n"),
     }
 }

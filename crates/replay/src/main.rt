@@ -21,6 +21,8 @@ mod sensors;
 mod transfers;
 
 use parse::Line;
+use std::io;
+use std::io::Read;
 
 // The lines read, those that agree, and those that differ and were named.
 #[derive(Clone, Copy)]
@@ -39,10 +41,8 @@ struct Run {
     good: bool,
 }
 
-fn say(n: u32, text: &[u8]) {
-    io::write_all(1, b"line ");
-    io::print_decimal(1, n as u64);
-    io::write_all(1, text);
+fn say(rt: &impl Print, n: u32, text: &str) -> io::Result<()> {
+    println!(rt; "line {n} {text}")
 }
 
 fn next(n: u32) -> u32 {
@@ -58,44 +58,44 @@ fn agreed(t: Tally) -> Tally {
 }
 
 // The first five are named.
-fn differed(t: Tally) -> Tally {
+fn differed(rt: &impl Print, t: Tally) -> io::Result<Tally> {
     let n = next(t.lines);
     if t.named < 5 {
-        say(n, b" differs\n");
-        return Tally {
+        say(rt, n, "differs")?;
+        return Ok(Tally {
             lines: n,
             agree: t.agree,
             named: t.named + 1,
-        };
+        });
     }
-    Tally {
+    Ok(Tally {
         lines: n,
         agree: t.agree,
         named: t.named,
-    }
+    })
 }
 
-fn malformed(r: Run) -> Run {
+fn malformed(rt: &impl Print, r: Run) -> io::Result<Run> {
     let line = r.line;
     let tally = r.tally;
-    say(next(tally.lines), b" is malformed\n");
-    Run {
+    say(rt, next(tally.lines), "is malformed")?;
+    Ok(Run {
         line,
         tally,
         going: false,
         good: false,
-    }
+    })
 }
 
-fn counted(t: Tally, agrees: bool) -> Tally {
+fn counted(rt: &impl Print, t: Tally, agrees: bool) -> io::Result<Tally> {
     if agrees {
-        return agreed(t);
+        return Ok(agreed(t));
     }
-    differed(t)
+    differed(rt, t)
 }
 
 // The end of a line: its case is run.
-fn closed(r: Run) -> Run {
+fn closed(rt: &impl Print, r: Run) -> io::Result<Run> {
     let l = r.line;
     let t = r.tally;
     let words = l.words;
@@ -103,21 +103,21 @@ fn closed(r: Run) -> Run {
     if 6 <= count {
         if count <= 45 {
             if case::is_case(&words, count) {
-                let tally = counted(t, case::agrees(&words, count));
+                let tally = counted(rt, t, case::agrees(&words, count))?;
                 let line = parse::blank();
-                return Run {
+                return Ok(Run {
                     line,
                     tally,
                     going: true,
                     good: true,
-                };
+                });
             }
         }
     }
-    malformed(r)
+    malformed(rt, r)
 }
 
-fn fed(r: Run, b: u8) -> Run {
+fn fed(rt: &impl Print, r: Run, b: u8) -> io::Result<Run> {
     let l = r.line;
     let line = parse::byte(l, b);
     let tally = r.tally;
@@ -129,60 +129,55 @@ fn fed(r: Run, b: u8) -> Run {
     };
     if line.good {
         if b == b'\n' {
-            return closed(next);
+            return closed(rt, next);
         }
-        return next;
+        return Ok(next);
     }
-    malformed(next)
+    malformed(rt, next)
 }
 
-fn feed(r: Run, bytes: &[u8]) -> Run {
+fn feed(rt: &impl Print, r: Run, bytes: &[u8]) -> io::Result<Run> {
     let mut run = r;
-    let mut i = 0;
-    while i < bytes.len() {
+    for b in bytes {
         if run.good {
-            run = fed(run, bytes[i]);
+            run = fed(rt, run, *b)?;
         }
-        i += 1;
     }
-    run
+    Ok(run)
 }
 
 // The end of the input. A last line may end there.
-fn stopped(r: Run) -> Run {
+fn stopped(rt: &impl Print, r: Run) -> io::Result<Run> {
     let line = r.line;
     let mut last = r;
     if r.good {
         if !parse::empty(line) {
-            last = fed(r, b'\n');
+            last = fed(rt, r, b'\n')?;
         }
     }
     last.going = false;
-    last
+    Ok(last)
 }
 
 // Reads once.
-fn some(r: Run) -> Run {
-    let mut buf = io::large_buffer();
-    let got = libc::read(0, &mut buf);
-    if got <= 0 {
-        return stopped(r);
+fn some(rt: &impl Print, input: &mut impl Read, r: Run) -> io::Result<Run> {
+    let mut buf = [0u8; 65536];
+    let n = input.read(&mut buf)?;
+    if n == 0 {
+        return stopped(rt, r);
     }
-    let n = io::count(got, &buf);
-    feed(r, &buf[..n])
+    feed(rt, r, &buf[..n])
 }
 
-fn all(r: Run) -> Run {
+fn all(rt: &impl Print, input: &mut impl Read, r: Run) -> io::Result<Run> {
     let mut run = r;
-    let mut turns = u64::MAX;
-    while 0 < turns {
+    for _ in 0..u64::MAX {
         if !run.going {
-            return run;
+            return Ok(run);
         }
-        run = some(run);
-        turns -= 1;
+        run = some(rt, input, run)?;
     }
-    run
+    Ok(run)
 }
 
 fn start() -> Run {
@@ -200,13 +195,12 @@ fn start() -> Run {
     }
 }
 
-fn main() {
-    let run = all(start());
+fn main(rt: HostRuntime) -> io::Result<()> {
+    let mut input = rt.reader();
+    let run = all(&rt, &mut input, start())?;
     let tally = run.tally;
     if run.good {
-        io::print_decimal(1, tally.lines as u64);
-        io::write_all(1, b" cases, ");
-        io::print_decimal(1, tally.agree as u64);
-        io::write_all(1, b" agree\n");
+        println!(rt; "{} cases, {} agree", tally.lines, tally.agree)?;
     }
+    Ok(())
 }

@@ -2,96 +2,109 @@
 use crate::settings::Fault;
 use hardware::Refusal;
 use image::faults;
-use image::faults::{decimal, text};
+use image::faults::text;
 use image::files::Size;
+use image::words::LONGEST;
+use std::io;
+use std::rt::Env;
 
 // The papers' number.
-fn number(q: Refusal) {
-    decimal(hardware::refusal_number(q) as usize);
-    text(b": ");
+fn number(rt: &impl Eprint, q: Refusal) -> io::Result<()> {
+    eprint!(rt; "{}: ", hardware::refusal_number(q))
 }
 
-fn numbered(f: Fault) {
+fn numbered(rt: &impl Eprint, f: Fault) -> io::Result<()> {
     if let Fault::Refused(q) = f {
-        number(q);
+        number(rt, q)?;
     }
+    Ok(())
 }
 
-fn refused(q: Refusal) {
+fn refused(rt: &impl Eprint, q: Refusal) -> io::Result<()> {
     match q {
-        Refusal::Family => text(b"the family is 82599, X540, X550, X552 or X553\n"),
-        Refusal::Lan => text(b"the port number is 0 or 1\n"),
-        _ => text(b"the call is refused\n"),
+        Refusal::Family => text(rt, "the family is 82599, X540, X550, X552 or X553\n"),
+        Refusal::Lan => text(rt, "the port number is 0 or 1\n"),
+        _ => text(rt, "the call is refused\n"),
     }
 }
 
-fn counted(before: &[u8], n: u8, after: &[u8]) {
-    text(before);
-    decimal(n as usize);
-    text(after);
+fn counted(rt: &impl Eprint, before: &str, n: u8, after: &str) -> io::Result<()> {
+    eprint!(rt; "{before}{n}{after}")
 }
 
-fn meaning(f: Fault) {
+fn meaning(rt: &impl Eprint, f: Fault) -> io::Result<()> {
     match f {
-        Fault::Nothing => text(b"\n"),
-        Fault::Long => faults::long(),
-        Fault::Second => text(b"an image is named already, and a setting is NAME=VALUE\n"),
+        Fault::Nothing => text(rt, "\n"),
+        Fault::Long => faults::long(rt),
+        Fault::Second => text(
+            rt,
+            "an image is named already, and a setting is NAME=VALUE\n",
+        ),
         Fault::Name => {
-            text(b"the names are family port device stage taken page next sda a0 a2 control esdp ");
-            text(b"sequence");
-            text(b"; put ./ before an image whose path has =\n");
+            text(
+                rt,
+                "the names are family port device stage taken page next sda a0 a2 control esdp ",
+            )?;
+            text(rt, "sequence")?;
+            text(rt, "; put ./ before an image whose path has =\n")
         }
-        Fault::Twice => text(b"the name was given before\n"),
-        Fault::Refused(q) => refused(q),
-        Fault::Hex(most) => counted(b"the value is 1 to ", most, b" hexadecimal digits\n"),
+        Fault::Twice => text(rt, "the name was given before\n"),
+        Fault::Refused(q) => refused(rt, q),
+        Fault::Hex(most) => counted(rt, "the value is 1 to ", most, " hexadecimal digits\n"),
         Fault::Stage => {
-            text(b"the stages are idle address:N receive:N ackread ackwrite send:N listen\n")
+            text(
+                rt,
+                "the stages are idle address:N receive:N ackread ackwrite send:N listen\n",
+            )
         }
-        Fault::Count(most) => counted(b"the stage's number is 0 to ", most, b"\n"),
-        Fault::Page => text(b"the page is A0 or A2\n"),
-        Fault::Next => text(b"the next byte is offset or data\n"),
-        Fault::Sda => text(b"the SDA noted is low or high\n"),
-        Fault::Sequence => text(b"the clearing sequence is rounds or pulses\n"),
+        Fault::Count(most) => counted(rt, "the stage's number is 0 to ", most, "\n"),
+        Fault::Page => text(rt, "the page is A0 or A2\n"),
+        Fault::Next => text(rt, "the next byte is offset or data\n"),
+        Fault::Sda => text(rt, "the SDA noted is low or high\n"),
+        Fault::Sequence => text(rt, "the clearing sequence is rounds or pulses\n"),
     }
 }
 
-fn named(place: usize, word: &[u8], f: Fault) {
-    numbered(f);
-    faults::at(place, word);
-    meaning(f);
+fn named(rt: &impl Eprint, place: usize, word: &[u8], f: Fault) -> io::Result<()> {
+    numbered(rt, f)?;
+    faults::at(rt, place, word)?;
+    meaning(rt, f)
 }
 
 // A word that is wrong by itself.
-pub(crate) fn word(place: usize, f: Fault) {
-    let mut bytes = io::buffer();
-    let n = os::arg(place, &mut bytes);
-    named(place, &bytes[..n], f);
+pub(crate) fn word(rt: &(impl Env + Eprint), place: usize, f: Fault) -> io::Result<()> {
+    let mut bytes = [0u8; LONGEST];
+    let n = rt.arg(place, &mut bytes).unwrap_or(0);
+    named(rt, place, &bytes[..n], f)
 }
 
-pub(crate) fn control(place: usize) {
-    let mut bytes = io::buffer();
-    let n = os::arg(place, &mut bytes);
-    faults::at(place, &bytes[..n]);
-    text(b"on the X552 and X553 the start has BB_EN (100) or both enables off (800 and 2000)\n");
+pub(crate) fn control(rt: &(impl Env + Eprint), place: usize) -> io::Result<()> {
+    let mut bytes = [0u8; LONGEST];
+    let n = rt.arg(place, &mut bytes).unwrap_or(0);
+    faults::at(rt, place, &bytes[..n])?;
+    text(
+        rt,
+        "on the X552 and X553 the start has BB_EN (100) or both enables off (800 and 2000)\n",
+    )
 }
 
-pub(crate) fn too_many(words: usize) {
-    decimal(words);
-    text(b" words: at most 14 are taken, an image and 13 settings\n");
+pub(crate) fn too_many(rt: &impl Eprint, words: usize) -> io::Result<()> {
+    eprintln!(rt; "{words} words: at most 14 are taken, an image and 13 settings")
 }
 
-pub(crate) fn no_image() {
-    text(b"no word names an image: the words are IMAGE and NAME=VALUE\n");
+pub(crate) fn no_image(rt: &impl Eprint) -> io::Result<()> {
+    text(
+        rt,
+        "no word names an image: the words are IMAGE and NAME=VALUE\n",
+    )
 }
 
-pub(crate) fn port(q: Refusal) {
-    number(q);
-    refused(q);
+pub(crate) fn port(rt: &impl Eprint, q: Refusal) -> io::Result<()> {
+    number(rt, q)?;
+    refused(rt, q)
 }
 
-pub(crate) fn shipped(name: &[u8], s: Size) {
-    text(b"shipped image '");
-    text(name);
-    text(b"': ");
-    faults::size(s);
+pub(crate) fn shipped(rt: &impl Eprint, name: &str, s: Size) -> io::Result<()> {
+    eprint!(rt; "shipped image '{name}': ")?;
+    faults::size(rt, s)
 }

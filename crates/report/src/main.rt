@@ -16,8 +16,10 @@ mod table;
 use hardware::{Opening, Port};
 use image::files::{Image, Size};
 use settings::{Reading, Settings};
+use std::io;
+use std::rt::{Env, Files};
 
-fn identified(p: Port, s: Settings, path: &[u8], image: Image) {
+fn identified(rt: &impl Print, p: Port, s: Settings, path: &[u8], image: Image) -> io::Result<()> {
     let family = p.family;
     let a0 = image.a0;
     let a2 = image.a2;
@@ -40,64 +42,64 @@ fn identified(p: Port, s: Settings, path: &[u8], image: Image) {
         &mut page,
         sequence,
     );
-    record::all(path, p, before, sequence, run, read, page);
+    record::all(rt, path, p, before, sequence, run, read, page)
 }
 
-fn read(p: Port, s: Settings) {
+fn read<R: Env + Files + Print + Eprint>(rt: &R, p: Port, s: Settings) -> io::Result<()> {
     let place = s.image;
-    let mut path = io::buffer();
-    let n = os::arg(place, &mut path);
-    let image = image::files::read(&path[..n]);
+    let mut path = [0u8; image::words::LONGEST];
+    let n = rt.arg(place, &mut path).unwrap_or(0);
+    let image = image::files::read(rt, &path[..n]);
     let size = image.size;
     match size {
-        Size::Whole => identified(p, s, &path[..n], image),
-        Size::Short(_) => image::faults::image(place, &path[..n], size),
-        Size::Long => image::faults::image(place, &path[..n], size),
-        Size::Unread => image::faults::image(place, &path[..n], size),
+        Size::Whole => identified(rt, p, s, &path[..n], image),
+        Size::Short(_) | Size::Long | Size::Unread(_) => {
+            image::faults::image(rt, place, &path[..n], size)
+        }
     }
 }
 
 // The control word is one that the driver may begin with.
-fn allowed(p: Port, s: Settings) {
+fn allowed<R: Env + Files + Print + Eprint>(rt: &R, p: Port, s: Settings) -> io::Result<()> {
     let family = p.family;
     let places = s.places;
     if bench::register::ready(family, start::control(family, s)) {
-        read(p, s);
+        read(rt, p, s)
     } else {
-        faults::control(places[settings::CONTROL]);
+        faults::control(rt, places[settings::CONTROL])
     }
 }
 
-fn opened(s: Settings) {
+fn opened<R: Env + Files + Print + Eprint>(rt: &R, s: Settings) -> io::Result<()> {
     let v = s.values;
     let device = (v[settings::DEVICE] % 65536) as u16;
     match hardware::open_port(v[settings::FAMILY], device, v[settings::PORT]) {
-        Opening::Port(p) => allowed(p, s),
-        Opening::Refused(q) => faults::port(q),
+        Opening::Port(p) => allowed(rt, p, s),
+        Opening::Refused(q) => faults::port(rt, q),
     }
 }
 
-fn words(r: Reading) {
+fn words<R: Env + Files + Print + Eprint>(rt: &R, r: Reading) -> io::Result<()> {
     let s = r.settings;
     if settings::sound(r) {
         if 0 < s.image {
-            opened(s);
+            opened(rt, s)
         } else {
-            faults::no_image();
+            faults::no_image(rt)
         }
     } else {
         let fault = r.fault;
-        faults::word(r.place, fault);
+        faults::word(rt, r.place, fault)
     }
 }
 
-fn main() {
-    let count = os::arg_count();
+fn main(rt: HostRuntime) -> io::Result<()> {
+    let count = image::words::count(&rt);
     if count < 2 {
-        table::all();
+        table::all(&rt)
     } else if count <= 15 {
-        words(settings::all(count));
+        words(&rt, settings::all(&rt, count))
     } else {
-        faults::too_many(count - 1);
+        faults::too_many(&rt, count - 1)
     }
 }

@@ -2,90 +2,74 @@
 use bench::receiver::{Chosen, Stage};
 use hardware::Family;
 use sfp::Kind;
+use std::io;
 
-pub const STDOUT: i32 = 1;
-
-pub(crate) fn text(bytes: &[u8]) {
-    io::write_all(STDOUT, bytes);
+pub(crate) fn text(rt: &impl Print, text: &str) -> io::Result<()> {
+    rt.print(text)
 }
 
-pub(crate) fn decimal(n: u64) {
-    io::print_decimal(STDOUT, n);
+pub(crate) fn decimal(rt: &impl Print, n: u64) -> io::Result<()> {
+    rt.print(n)
 }
 
-pub(crate) fn hex(n: u64, width: usize) {
-    io::print_hex(STDOUT, n, width);
+pub(crate) fn hex(rt: &impl Print, n: u64, width: usize) -> io::Result<()> {
+    print!(rt; "{n:0width$x}")
 }
 
-pub(crate) fn either(yes: bool, one: &[u8], other: &[u8]) {
-    if yes {
-        text(one);
-    } else {
-        text(other);
-    }
-}
-
-// At most 20.
-fn blanks(n: usize) {
-    let line = [b' '; 20];
-    if n <= 20 {
-        text(&line[..n]);
-    }
+pub(crate) fn either(rt: &impl Print, yes: bool, one: &str, other: &str) -> io::Result<()> {
+    if yes { text(rt, one) } else { text(rt, other) }
 }
 
 // Up to a width.
-pub(crate) fn left(bytes: &[u8], width: usize) {
-    text(bytes);
-    if bytes.len() < width {
-        blanks(width - bytes.len());
-    }
+pub(crate) fn left(rt: &impl Print, text: &str, width: usize) -> io::Result<()> {
+    print!(rt; "{text:<width$}")
 }
 
-pub(crate) fn kind(k: Kind, width: usize) {
+pub(crate) fn kind(rt: &impl Print, k: Kind, width: usize) -> io::Result<()> {
     match k {
-        Kind::DaCu => left(b"DaCu", width),
-        Kind::DaActiveLimiting => left(b"DaActiveLimiting", width),
-        Kind::SrLr => left(b"SrLr", width),
-        Kind::Cu1g => left(b"Cu1g", width),
-        Kind::Sx1g => left(b"Sx1g", width),
-        Kind::Lx1g => left(b"Lx1g", width),
-        Kind::Bx10g => left(b"Bx10g", width),
-        Kind::Bx1g => left(b"Bx1g", width),
-        Kind::Unknown => left(b"Unknown", width),
-        Kind::NotPresent => left(b"NotPresent", width),
+        Kind::DaCu => left(rt, "DaCu", width),
+        Kind::DaActiveLimiting => left(rt, "DaActiveLimiting", width),
+        Kind::SrLr => left(rt, "SrLr", width),
+        Kind::Cu1g => left(rt, "Cu1g", width),
+        Kind::Sx1g => left(rt, "Sx1g", width),
+        Kind::Lx1g => left(rt, "Lx1g", width),
+        Kind::Bx10g => left(rt, "Bx10g", width),
+        Kind::Bx1g => left(rt, "Bx1g", width),
+        Kind::Unknown => left(rt, "Unknown", width),
+        Kind::NotPresent => left(rt, "NotPresent", width),
     }
 }
 
-pub(crate) fn family(f: Family) {
+pub(crate) fn family(rt: &impl Print, f: Family) -> io::Result<()> {
     match f {
-        Family::F82599 => text(b"82599"),
-        Family::X540 => text(b"X540"),
-        Family::X550 => text(b"X550"),
-        Family::X552 => text(b"X552"),
-        Family::X553 => text(b"X553"),
+        Family::F82599 => text(rt, "82599"),
+        Family::X540 => text(rt, "X540"),
+        Family::X550 => text(rt, "X550"),
+        Family::X552 => text(rt, "X552"),
+        Family::X553 => text(rt, "X553"),
     }
 }
 
-fn numbered(name: &[u8], n: u8) {
-    text(name);
-    decimal(n as u64);
+fn numbered(rt: &impl Print, name: &str, n: u8) -> io::Result<()> {
+    text(rt, name)?;
+    decimal(rt, n as u64)
 }
 
-pub(crate) fn stage(s: Stage) {
+pub(crate) fn stage(rt: &impl Print, s: Stage) -> io::Result<()> {
     match s {
-        Stage::Idle => text(b"idle"),
-        Stage::Address(n) => numbered(b"address:", n),
-        Stage::Receive(n) => numbered(b"receive:", n),
-        Stage::AckRead => text(b"ackread"),
-        Stage::AckWrite => text(b"ackwrite"),
-        Stage::Send(n) => numbered(b"send:", n),
-        Stage::Listen => text(b"listen"),
+        Stage::Idle => text(rt, "idle"),
+        Stage::Address(n) => numbered(rt, "address:", n),
+        Stage::Receive(n) => numbered(rt, "receive:", n),
+        Stage::AckRead => text(rt, "ackread"),
+        Stage::AckWrite => text(rt, "ackwrite"),
+        Stage::Send(n) => numbered(rt, "send:", n),
+        Stage::Listen => text(rt, "listen"),
     }
 }
 
-pub(crate) fn page(c: Chosen) {
+pub(crate) fn page(rt: &impl Print, c: Chosen) -> io::Result<()> {
     match c {
-        Chosen::A0 => text(b"A0"),
-        Chosen::A2 => text(b"A2"),
+        Chosen::A0 => text(rt, "A0"),
+        Chosen::A2 => text(rt, "A2"),
     }
 }

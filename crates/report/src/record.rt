@@ -11,6 +11,7 @@ use identify::walk::Identified;
 use onbench::{Ending, Run};
 use page::sums::Paged;
 use sfp::Identity;
+use std::io;
 use transfer::attempt::Sequence;
 
 // The length without the blanks at the end.
@@ -27,203 +28,185 @@ fn trimmed(bytes: &[u8]) -> usize
     n
 }
 
-fn field(bytes: &[u8]) {
+fn field(rt: &impl Print, bytes: &[u8]) -> io::Result<()> {
     let n = trimmed(bytes);
-    image::print::shown(print::STDOUT, &bytes[..n]);
+    print!(rt; "{}", image::print::shown(&bytes[..n]))
 }
 
 // Vendor, part and serial number.
-fn names(page: [u8; 96]) {
-    print::text(b"vendor      ");
-    field(&page[20..36]);
-    print::text(b"\npart        ");
-    field(&page[40..56]);
-    print::text(b"\nserial      ");
-    field(&page[68..84]);
-    print::text(b"\n");
+fn names(rt: &impl Print, page: [u8; 96]) -> io::Result<()> {
+    print::text(rt, "vendor      ")?;
+    field(rt, &page[20..36])?;
+    print::text(rt, "\npart        ")?;
+    field(rt, &page[40..56])?;
+    print::text(rt, "\nserial      ")?;
+    field(rt, &page[68..84])?;
+    print::text(rt, "\n")
 }
 
-fn made(n: u32) {
-    print::decimal(n as u64);
-    print::text(b" transfers");
+fn made(rt: &impl Print, n: u32) -> io::Result<()> {
+    print!(rt; "{n} transfers")
 }
 
 // The texts, or the number of the failure instead of them.
-fn paged(e: Paged, n: u32, page: [u8; 96]) {
-    print::text(b"page        ");
+fn paged(rt: &impl Print, e: Paged, n: u32, page: [u8; 96]) -> io::Result<()> {
+    print::text(rt, "page        ")?;
     match e {
         Paged::Ok => {
-            made(n);
-            print::text(b", both sums right\n");
-            names(page);
+            made(rt, n)?;
+            print::text(rt, ", both sums right\n")?;
+            names(rt, page)
         }
         Paged::FirstSum | Paged::SecondSum | Paged::Err(_) => {
-            print::text(b"failed ");
-            print::decimal(page::sums::paged_number(e) as u64);
-            print::text(b" after ");
-            made(n);
-            print::text(b"\n");
+            print!(rt; "failed {} after ", page::sums::paged_number(e))?;
+            made(rt, n)?;
+            print::text(rt, "\n")
         }
     }
 }
 
 // Only the first is met: the port was opened before, and the buffer has 96 bytes.
-fn texts(r: PageEnd, page: [u8; 96]) {
+fn texts(rt: &impl Print, r: PageEnd, page: [u8; 96]) -> io::Result<()> {
     match r {
-        PageEnd::Over(e, n) => paged(e, n, page),
-        PageEnd::Unended => print::text(b"the page's call did not end\n"),
+        PageEnd::Over(e, n) => paged(rt, e, n, page),
+        PageEnd::Unended => print::text(rt, "the page's call did not end\n"),
     }
 }
 
-fn port(p: Port) {
+fn port(rt: &impl Print, p: Port) -> io::Result<()> {
     let f = p.family;
-    print::text(b"port        ");
-    print::family(f);
-    print::text(b", port number ");
-    print::decimal(p.lan as u64);
-    print::text(b", PCI device ");
-    print::hex(p.device as u64, 4);
-    print::text(b"\n");
+    print::text(rt, "port        ")?;
+    print::family(rt, f)?;
+    println!(rt; ", port number {}, PCI device {:04x}", p.lan, p.device)
 }
 
-fn offsets(a0: Page, a2: Page) {
-    print::text(b", a0 ");
-    print::hex(a0.offset as u64, 2);
-    print::text(b", a2 ");
-    print::hex(a2.offset as u64, 2);
-    print::text(b"\n");
+fn offsets(rt: &impl Print, a0: Page, a2: Page) -> io::Result<()> {
+    println!(rt; ", a0 {:02x}, a2 {:02x}", a0.offset, a2.offset)
 }
 
-fn kept(r: Receiver) {
+fn kept(rt: &impl Print, r: Receiver) -> io::Result<()> {
     let s = r.stage;
     let c = r.page;
-    print::stage(s);
-    print::text(b", taken ");
-    print::hex(r.bits as u64, 2);
-    print::text(b", page ");
-    print::page(c);
-    print::either(r.first, b", next offset", b", next data");
-    print::either(r.noted, b", sda high", b", sda low");
+    print::stage(rt, s)?;
+    print!(rt; ", taken {:02x}, page ", r.bits)?;
+    print::page(rt, c)?;
+    print::either(rt, r.first, ", next offset", ", next data")?;
+    print::either(rt, r.noted, ", sda high", ", sda low")
 }
 
-fn start(d: BenchState) {
+fn start(rt: &impl Print, d: BenchState) -> io::Result<()> {
     let b = d.bench;
-    print::text(b"start       ");
-    kept(b.receiver);
-    offsets(b.a0, b.a2);
-    print::text(b"control     ");
-    print::hex(d.word as u64, 8);
+    print::text(rt, "start       ")?;
+    kept(rt, b.receiver)?;
+    offsets(rt, b.a0, b.a2)?;
+    print!(rt; "control     {:08x}", d.word)?;
     print::either(
+        rt,
         bench::pulls_low(b),
-        b"; the module pulls SDA\n",
-        b"; the module does not pull SDA\n",
-    );
+        "; the module pulls SDA\n",
+        "; the module does not pull SDA\n",
+    )
 }
 
 // ESDP, where the port has a mux.
-fn mux(name: &[u8], p: Port, d: BenchState) {
+fn mux(rt: &impl Print, name: &str, p: Port, d: BenchState) -> io::Result<()> {
     if bench::register::has_mux(p) {
-        print::text(name);
-        print::hex(d.esdp as u64, 8);
+        print!(rt; "{name}{:08x}", d.esdp)?;
         print::either(
+            rt,
             hardware::none_of(d.esdp, 2),
-            b"; the mux is off\n",
-            b"; the mux is on\n",
-        );
+            "; the mux is off\n",
+            "; the mux is on\n",
+        )?;
     }
+    Ok(())
 }
 
-fn byte(name: &[u8], b: u8) {
-    print::text(name);
-    print::hex(b as u64, 2);
-    print::text(b"\n");
+fn byte(rt: &impl Print, name: &str, b: u8) -> io::Result<()> {
+    println!(rt; "{name}{b:02x}")
 }
 
-fn module(p: Port, m: Identity) {
+fn module(rt: &impl Print, p: Port, m: Identity) -> io::Result<()> {
     let k = m.kind;
     let f = p.family;
-    print::text(b"kind        ");
-    print::kind(k, 0);
-    print::text(b"\nmultispeed  ");
-    print::either(m.multispeed, b"yes\n", b"no\n");
-    byte(b"identifier  ", m.identifier);
-    byte(b"comp_10g    ", m.comp10g);
-    byte(b"comp_1g     ", m.comp1g);
-    byte(b"cable       ", m.cable);
-    print::text(b"supported   ");
+    print::text(rt, "kind        ")?;
+    print::kind(rt, k, 0)?;
+    print::text(rt, "\nmultispeed  ")?;
+    print::either(rt, m.multispeed, "yes\n", "no\n")?;
+    byte(rt, "identifier  ", m.identifier)?;
+    byte(rt, "comp_10g    ", m.comp10g)?;
+    byte(rt, "comp_1g     ", m.comp1g)?;
+    byte(rt, "cable       ", m.cable)?;
+    print::text(rt, "supported   ")?;
     print::either(
+        rt,
         sfp::methods::supported(sfp::methods::record(m), f),
-        b"yes\n",
-        b"no\n",
-    );
+        "yes\n",
+        "no\n",
+    )
 }
 
-fn identified(p: Port, i: Identified) {
+fn identified(rt: &impl Print, p: Port, i: Identified) -> io::Result<()> {
     match i {
-        Identified::Ok(m) => module(p, m),
-        Identified::Err(e) => {
-            print::text(b"failed      ");
-            print::decimal(hardware::error_number(e) as u64);
-            print::text(b"\n");
-        }
+        Identified::Ok(m) => module(rt, p, m),
+        Identified::Err(e) => { println!(rt; "failed      {}", hardware::error_number(e)) }
     }
 }
 
-fn slowest(m: Meter) {
-    print::text(b"slowest acknowledgement: ");
+fn slowest(rt: &impl Print, m: Meter) -> io::Result<()> {
+    print::text(rt, "slowest acknowledgement: ")?;
     if m.slowest == 0 {
-        print::text(b"none\n");
+        print::text(rt, "none\n")
     } else {
-        print::text(b"sample ");
-        print::decimal(m.slowest as u64);
-        print::text(b" of 10\n");
+        println!(rt; "sample {} of 10", m.slowest)
     }
 }
 
 // Only the first is met: every lock and grant comes, and the port was opened before.
-fn ending(p: Port, h: Ending) {
+fn ending(rt: &impl Print, p: Port, h: Ending) -> io::Result<()> {
     match h {
         Ending::Ended(i, m) => {
-            identified(p, i);
-            print::text(b"transfers   ");
-            print::decimal(m.transfers as u64);
-            print::text(b"\n");
-            slowest(m);
+            identified(rt, p, i)?;
+            println!(rt; "transfers   {}", m.transfers)?;
+            slowest(rt, m)
         }
-        Ending::Short => print::text(b"the call did not end\n"),
-        Ending::Stopped(_) => print::text(b"the call was refused\n"),
+        Ending::Short => print::text(rt, "the call did not end\n"),
+        Ending::Stopped(_) => print::text(rt, "the call was refused\n"),
     }
 }
 
-fn end(p: Port, before: Bench, d: BenchState) {
+fn end(rt: &impl Print, p: Port, before: Bench, d: BenchState) -> io::Result<()> {
     let after = d.bench;
     let r = after.receiver;
     let f = p.family;
     let s = r.stage;
-    print::text(b"module      ");
-    print::stage(s);
+    print::text(rt, "module      ")?;
+    print::stage(rt, s)?;
     print::either(
+        rt,
         bench::register::released(f, d),
-        b", both lines released",
-        b", a line held low",
-    );
+        ", both lines released",
+        ", a line held low",
+    )?;
     print::either(
+        rt,
         bench::same(before, after),
-        b", bytes same",
-        b", bytes changed",
-    );
-    offsets(after.a0, after.a2);
+        ", bytes same",
+        ", bytes changed",
+    )?;
+    offsets(rt, after.a0, after.a2)
 }
 
-fn sequence(q: Sequence) {
-    print::text(b"sequence    ");
+fn sequence(rt: &impl Print, q: Sequence) -> io::Result<()> {
+    print::text(rt, "sequence    ")?;
     match q {
-        Sequence::Pulses => print::text(b"pulses\n"),
-        Sequence::Rounds => print::text(b"rounds\n"),
+        Sequence::Pulses => print::text(rt, "pulses\n"),
+        Sequence::Rounds => print::text(rt, "rounds\n"),
     }
 }
 
 pub(crate) fn all(
+    rt: &impl Print,
     path: &[u8],
     p: Port,
     before: BenchState,
@@ -231,17 +214,15 @@ pub(crate) fn all(
     r: Run,
     read: PageEnd,
     page: [u8; 96],
-) {
-    print::text(b"image       ");
-    image::print::shown(print::STDOUT, path);
-    print::text(b"\n");
-    port(p);
-    start(before);
-    mux(b"esdp        ", p, before);
-    sequence(q);
+) -> io::Result<()> {
+    println!(rt; "image       {}", image::print::shown(path))?;
+    port(rt, p)?;
+    start(rt, before)?;
+    mux(rt, "esdp        ", p, before)?;
+    sequence(rt, q)?;
     let h = r.ending;
-    ending(p, h);
-    end(p, before.bench, r.state);
-    mux(b"esdp after  ", p, r.state);
-    texts(read, page);
+    ending(rt, p, h)?;
+    end(rt, p, before.bench, r.state)?;
+    mux(rt, "esdp after  ", p, r.state)?;
+    texts(rt, read, page)
 }

@@ -3,6 +3,8 @@ ghost use Rattle.std.specs.Prelude.{◌≡◌, ◌≤◌, length};
 ghost use Rattle.report.specs.Text.{place_of};
 
 use hardware::{FamilyOpening, Opening, Refusal};
+use image::words::LONGEST;
+use std::rt::Env;
 use transfer::attempt::Sequence;
 
 // The numbers of the settings.
@@ -105,72 +107,42 @@ fn find(text: &[u8], b: u8) -> usize
 fn state_number(name: &[u8]) -> usize
     ensures { result ≤ 13 }
 {
-    if check::same(name, b"taken") {
-        return TAKEN;
+    match name {
+        b"taken" => TAKEN,
+        b"page" => PAGE,
+        b"next" => NEXT,
+        b"sda" => SDA,
+        b"a0" => A0,
+        b"a2" => A2,
+        b"control" => CONTROL,
+        b"esdp" => ESDP,
+        b"sequence" => SEQUENCE,
+        _ => NAMES,
     }
-    if check::same(name, b"page") {
-        return PAGE;
-    }
-    if check::same(name, b"next") {
-        return NEXT;
-    }
-    if check::same(name, b"sda") {
-        return SDA;
-    }
-    if check::same(name, b"a0") {
-        return A0;
-    }
-    if check::same(name, b"a2") {
-        return A2;
-    }
-    if check::same(name, b"control") {
-        return CONTROL;
-    }
-    if check::same(name, b"esdp") {
-        return ESDP;
-    }
-    if check::same(name, b"sequence") {
-        return SEQUENCE;
-    }
-    NAMES
 }
 
 fn number(name: &[u8]) -> usize
     ensures { result ≤ 13 }
 {
-    if check::same(name, b"family") {
-        return FAMILY;
+    match name {
+        b"family" => FAMILY,
+        b"port" => PORT,
+        b"device" => DEVICE,
+        b"stage" => STAGE,
+        _ => state_number(name),
     }
-    if check::same(name, b"port") {
-        return PORT;
-    }
-    if check::same(name, b"device") {
-        return DEVICE;
-    }
-    if check::same(name, b"stage") {
-        return STAGE;
-    }
-    state_number(name)
 }
 
 // The papers' number of a family; 5 is that of none.
 fn family_number(text: &[u8]) -> u32 {
-    if check::same(text, b"82599") {
-        return 0;
+    match text {
+        b"82599" => 0,
+        b"X540" => 1,
+        b"X550" => 2,
+        b"X552" => 3,
+        b"X553" => 4,
+        _ => 5,
     }
-    if check::same(text, b"X540") {
-        return 1;
-    }
-    if check::same(text, b"X550") {
-        return 2;
-    }
-    if check::same(text, b"X552") {
-        return 3;
-    }
-    if check::same(text, b"X553") {
-        return 4;
-    }
-    5
 }
 
 // Question 1.
@@ -203,10 +175,10 @@ fn hex_value(text: &[u8], most: u8) -> Value {
 }
 
 fn either(text: &[u8], zero: &[u8], one: &[u8], otherwise: Fault) -> Value {
-    if check::same(text, zero) {
+    if text == zero {
         return Value::Ok(0);
     }
-    if check::same(text, one) {
+    if text == one {
         return Value::Ok(1);
     }
     Value::Bad(otherwise)
@@ -222,32 +194,22 @@ fn within(n: u32, most: u8, first: u8) -> Value {
 
 // The stages with a number: see `start::stage_at`.
 fn counted(name: &[u8], n: u32) -> Value {
-    if check::same(name, b"address") {
-        return within(n, 8, 1);
+    match name {
+        b"address" => within(n, 8, 1),
+        b"receive" => within(n, 8, 10),
+        b"send" => within(n, 7, 21),
+        _ => Value::Bad(Fault::Stage),
     }
-    if check::same(name, b"receive") {
-        return within(n, 8, 10);
-    }
-    if check::same(name, b"send") {
-        return within(n, 7, 21);
-    }
-    Value::Bad(Fault::Stage)
 }
 
 fn plain(name: &[u8]) -> Value {
-    if check::same(name, b"idle") {
-        return Value::Ok(0);
+    match name {
+        b"idle" => Value::Ok(0),
+        b"ackread" => Value::Ok(19),
+        b"ackwrite" => Value::Ok(20),
+        b"listen" => Value::Ok(29),
+        _ => Value::Bad(Fault::Stage),
     }
-    if check::same(name, b"ackread") {
-        return Value::Ok(19);
-    }
-    if check::same(name, b"ackwrite") {
-        return Value::Ok(20);
-    }
-    if check::same(name, b"listen") {
-        return Value::Ok(29);
-    }
-    Value::Bad(Fault::Stage)
 }
 
 fn stage_value(text: &[u8]) -> Value {
@@ -331,13 +293,12 @@ fn word(s: Settings, text: &[u8], place: usize) -> Reading {
     image(s, place)
 }
 
-fn word_at(s: Settings, place: usize) -> Reading {
-    let mut text = io::buffer();
-    let n = os::arg(place, &mut text);
-    if os::errno() != 0 {
-        return wrong(s, place, Fault::Long);
+fn word_at(rt: &impl Env, s: Settings, place: usize) -> Reading {
+    let mut text = [0u8; LONGEST];
+    match rt.arg(place, &mut text) {
+        Ok(n) => word(s, &text[..n], place),
+        Err(_) => wrong(s, place, Fault::Long),
     }
-    word(s, &text[..n], place)
 }
 
 // The clearing sequence that is named, or the library's default.
@@ -381,9 +342,9 @@ fn first_asked(r: Reading, later: Reading) -> Reading {
     wrong(s, r.place, fault)
 }
 
-fn further(r: Reading, place: usize) -> Reading {
+fn further(rt: &impl Env, r: Reading, place: usize) -> Reading {
     let s = r.settings;
-    let next = word_at(s, place);
+    let next = word_at(rt, s, place);
     if sound(r) {
         return next;
     }
@@ -392,10 +353,10 @@ fn further(r: Reading, place: usize) -> Reading {
 
 // Every word, and which one is named as wrong: the first, but a refused family before a refused port number. `count` has the
 // program's own name in it.
-pub(crate) fn all(count: usize) -> Reading {
+pub(crate) fn all(rt: &impl Env, count: usize) -> Reading {
     let mut r = wrong(defaults(), 0, Fault::Nothing);
     for place in 1..count {
-        r = further(r, place);
+        r = further(rt, r, place);
     }
     r
 }

@@ -8,7 +8,9 @@ use identify::walk::Identified;
 use image::files::{Image, Size};
 use onbench::{Ending, Run};
 use sfp::Identity;
+use std::io;
 use std::num::wrapping_add_u32;
+use std::rt::Files;
 use transfer::attempt::Sequence;
 
 // The port: the 82599 by its number, port number 0, PCI device 10fb.
@@ -139,9 +141,8 @@ fn tallied(q: Sequence, idle: Seen, image: Image) -> Tally {
     t
 }
 
-fn byte(b: u8) {
-    print::hex(b as u64, 2);
-    print::text(b" ");
+fn byte(rt: &impl Print, b: u8) -> io::Result<()> {
+    print!(rt; "{b:02x} ")
 }
 
 fn supports(m: Identity, f: Family) -> u32
@@ -155,57 +156,50 @@ fn support(m: Identity) -> u32 {
     early + supports(m, Family::X552) + supports(m, Family::X553)
 }
 
-fn family(m: Identity, f: Family) {
+fn family(rt: &impl Print, m: Identity, f: Family) -> io::Result<()> {
     if sfp::methods::supported(sfp::methods::record(m), f) {
-        print::family(f);
-        print::text(b" ");
+        print::family(rt, f)?;
+        print::text(rt, " ")?;
     }
+    Ok(())
 }
 
 // By name where it is a part of them.
-fn families(m: Identity) {
+fn families(rt: &impl Print, m: Identity) -> io::Result<()> {
     match support(m) {
-        0 => print::left(b"none", 16),
-        5 => print::left(b"all", 16),
+        0 => print::left(rt, "none", 16),
+        5 => print::left(rt, "all", 16),
         _ => {
-            family(m, Family::F82599);
-            family(m, Family::X540);
-            family(m, Family::X550);
-            family(m, Family::X552);
-            family(m, Family::X553);
+            family(rt, m, Family::F82599)?;
+            family(rt, m, Family::X540)?;
+            family(rt, m, Family::X550)?;
+            family(rt, m, Family::X552)?;
+            family(rt, m, Family::X553)
         }
     }
 }
 
-fn module(m: Identity) {
+fn module(rt: &impl Print, m: Identity) -> io::Result<()> {
     let k = m.kind;
-    print::kind(k, 17);
-    print::either(m.multispeed, b"y ", b"n ");
-    byte(m.identifier);
-    byte(m.comp10g);
-    byte(m.comp1g);
-    byte(m.cable);
-    families(m);
+    print::kind(rt, k, 17)?;
+    print::either(rt, m.multispeed, "y ", "n ")?;
+    byte(rt, m.identifier)?;
+    byte(rt, m.comp10g)?;
+    byte(rt, m.comp1g)?;
+    byte(rt, m.cable)?;
+    families(rt, m)
 }
 
-fn ending(s: Seen) {
+fn ending(rt: &impl Print, s: Seen) -> io::Result<()> {
     let m = s.identity;
     let k = m.kind;
-    print::kind(k, 0);
-    print::text(b" ");
-    print::decimal(s.made as u64);
-    print::text(b"\n");
+    print::kind(rt, k, 0)?;
+    println!(rt; " {}", s.made)
 }
 
-fn counts(idle: Seen, t: Tally, old: Tally) {
-    print::decimal(idle.made as u64);
-    print::text(b" ");
-    print::decimal(t.right as u64);
-    print::text(b" ");
-    print::decimal(t.more as u64);
-    print::text(b" ");
-    print::decimal(old.right as u64);
-    print::text(b"  ");
+fn counts(rt: &impl Print, idle: Seen, t: Tally, old: Tally) -> io::Result<()> {
+    let (made, right, more, old) = (idle.made, t.right, t.more, old.right);
+    print!(rt; "{made} {right} {more} {old}  ")
 }
 
 fn run(q: Sequence, image: Image, n: u8) -> Seen {
@@ -214,98 +208,123 @@ fn run(q: Sequence, image: Image, n: u8) -> Seen {
     outcome(h)
 }
 
-fn row(name: &[u8], image: Image) {
+fn row(rt: &impl Print, name: &str, image: Image) -> io::Result<()> {
     let q = i2c::standard();
     let idle = run(q, image, start::IDLE);
-    print::left(name, 10);
-    module(idle.identity);
+    print::left(rt, name, 10)?;
+    module(rt, idle.identity)?;
     counts(
+        rt,
         idle,
         tallied(q, idle, image),
         tallied(Sequence::Pulses, idle, image),
-    );
-    ending(run(Sequence::Pulses, image, start::ACK_WRITE));
+    )?;
+    ending(rt, run(Sequence::Pulses, image, start::ACK_WRITE))
 }
 
-fn title() {
+fn title(rt: &impl Print) -> io::Result<()> {
     print::text(
-        b"Images of modules (made, not dumped) identified on the bench from each stage of\n",
-    );
+        rt,
+        "Images of modules (made, not dumped) identified on the bench from each stage of\n",
+    )?;
     print::text(
-        b"the receiver, Send n with the bit 0 and 1, Listen with SDA noted low and high:\n",
-    );
-    print::text(b"39 states, bits taken a0, page A0, data next. 82599, port 0, PCI device 10fb.\n");
+        rt,
+        "the receiver, Send n with the bit 0 and 1, Listen with SDA noted low and high:\n",
+    )?;
     print::text(
-        b"  m         multispeed; 0 3 6 8: bytes of A0 as recorded; T: transfers from Idle\n",
-    );
-    print::text(b"  OK        states with the same kind and multispeed, no byte of the module\n");
-    print::text(b"            changed, and at the end the module Idle and both lines released\n");
-    print::text(b"  +1        those of them with one transfer more, as the module pulled SDA\n");
-    print::text(b"  old       states that are OK with sequence=pulses, the original's clearing\n");
-    print::text(b"  AckWrite  what this state gave with that, and after how many transfers\n");
-    print::text(b"image     kind             m 0  3  6  8  supported by    T OK +1 old AckWrite\n");
+        rt,
+        "39 states, bits taken a0, page A0, data next. 82599, port 0, PCI device 10fb.\n",
+    )?;
+    print::text(
+        rt,
+        "  m         multispeed; 0 3 6 8: bytes of A0 as recorded; T: transfers from Idle\n",
+    )?;
+    print::text(
+        rt,
+        "  OK        states with the same kind and multispeed, no byte of the module\n",
+    )?;
+    print::text(
+        rt,
+        "            changed, and at the end the module Idle and both lines released\n",
+    )?;
+    print::text(
+        rt,
+        "  +1        those of them with one transfer more, as the module pulled SDA\n",
+    )?;
+    print::text(
+        rt,
+        "  old       states that are OK with sequence=pulses, the original's clearing\n",
+    )?;
+    print::text(
+        rt,
+        "  AckWrite  what this state gave with that, and after how many transfers\n",
+    )?;
+    print::text(
+        rt,
+        "image     kind             m 0  3  6  8  supported by    T OK +1 old AckWrite\n",
+    )
 }
 
 // Whether the image can be read; if so and `printed`, its line.
-fn one(name: &[u8], printed: bool) -> bool {
-    let image = image::files::read(name);
+fn one<R: Files + Print + Eprint>(rt: &R, name: &str, printed: bool) -> io::Result<bool> {
+    let image = image::files::read(rt, name.as_bytes());
     let size = image.size;
     match size {
         Size::Whole => {
             if printed {
-                row(name, image);
+                row(rt, name, image)?;
             }
-            true
+            Ok(true)
         }
-        Size::Short(_) => refused(name, size),
-        Size::Long => refused(name, size),
-        Size::Unread => refused(name, size),
+        Size::Short(_) | Size::Long | Size::Unread(_) => refused(rt, name, size),
     }
 }
 
-fn refused(name: &[u8], size: Size) -> bool {
-    faults::shipped(name, size);
-    false
+fn refused(rt: &impl Eprint, name: &str, size: Size) -> io::Result<bool> {
+    faults::shipped(rt, name, size)?;
+    Ok(false)
 }
 
-fn shipped(n: u8, printed: bool) -> bool {
+fn shipped<R: Files + Print + Eprint>(rt: &R, n: u8, printed: bool) -> io::Result<bool> {
     match n {
-        0 => one(b"dacu.bin", printed),
-        1 => one(b"daact.bin", printed),
-        2 => one(b"sr.bin", printed),
-        3 => one(b"srsx.bin", printed),
-        4 => one(b"lr.bin", printed),
-        5 => one(b"lrlx.bin", printed),
-        6 => one(b"t.bin", printed),
-        7 => one(b"sx.bin", printed),
-        8 => one(b"lx.bin", printed),
-        9 => one(b"bx10g.bin", printed),
-        10 => one(b"bx1g.bin", printed),
-        11 => one(b"lrm.bin", printed),
-        12 => one(b"dalin.bin", printed),
-        _ => one(b"sff.bin", printed),
+        0 => one(rt, "dacu.bin", printed),
+        1 => one(rt, "daact.bin", printed),
+        2 => one(rt, "sr.bin", printed),
+        3 => one(rt, "srsx.bin", printed),
+        4 => one(rt, "lr.bin", printed),
+        5 => one(rt, "lrlx.bin", printed),
+        6 => one(rt, "t.bin", printed),
+        7 => one(rt, "sx.bin", printed),
+        8 => one(rt, "lx.bin", printed),
+        9 => one(rt, "bx10g.bin", printed),
+        10 => one(rt, "bx1g.bin", printed),
+        11 => one(rt, "lrm.bin", printed),
+        12 => one(rt, "dalin.bin", printed),
+        _ => one(rt, "sff.bin", printed),
     }
 }
 
 // Nothing is printed where one cannot be read.
-fn readable() -> bool {
+fn readable<R: Files + Print + Eprint>(rt: &R) -> io::Result<bool> {
     for n in 0..IMAGES {
-        if !shipped(n, false) {
-            return false;
+        if !shipped(rt, n, false)? {
+            return Ok(false);
         }
     }
-    true
+    Ok(true)
 }
 
-fn rows() {
+fn rows<R: Files + Print + Eprint>(rt: &R) -> io::Result<()> {
     for n in 0..IMAGES {
-        shipped(n, true);
+        shipped(rt, n, true)?;
     }
+    Ok(())
 }
 
-pub(crate) fn all() {
-    if readable() {
-        title();
-        rows();
+pub(crate) fn all<R: Files + Print + Eprint>(rt: &R) -> io::Result<()> {
+    if readable(rt)? {
+        title(rt)?;
+        rows(rt)?;
     }
+    Ok(())
 }

@@ -181,7 +181,7 @@ semaphores : (f : Family) → eqb 0x10140 (layout_of f).reg ≡ false → eqb (s
     → Semaphores (Elsewhere (layout_of f)) f
 unfolding at_lines
 semaphores f a b c =
-    record { passes = record { flushes = (distinct f).reg; waits = λ us. refl }; first = opens _ _ a; swsm = opens _ _ b; sync = opens _ _ c }
+    record { passes = record { flushes = (distinct f).reg; waits = λ us. refl }; first = opens (layout_of f) _ a; swsm = opens (layout_of f) _ b; sync = opens (layout_of f) _ c }
 
 all_semaphores : (f : Family) → Semaphores (Elsewhere (layout_of f)) f
 unfolding layout_of x550em swsm sw_fw_sync is pick

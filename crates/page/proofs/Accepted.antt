@@ -120,15 +120,15 @@ module _ (q : Sequence) (port : Port) (form : Form) (tries : ℕ) where
   close_run left buffer l m r judged = refl
   close_run left buffer l m r (failed n x k d) = (run_then _ _ (Err x) k m d.0 d.1).1
 
-  rest_run : (n left : ℕ) (buffer bytes : List ℕ) (l last m : List Answer) (r : R (Unit {0})) → n ≤ 96 → Reads q port form tries left n l bytes
+  rest_run : (left n : ℕ) (buffer bytes : List ℕ) (l last m : List Answer) (r : R (Unit {0})) → n ≤ 96 → Reads q port form tries left n l bytes
       → Closes q port form tries (sums_of (sets buffer (96 - n) bytes)) left last r
       → (run (page_from q port form tries n buffer) (l ++ (last ++ m))).status ≡ ended (record { result = r; buffer = sets buffer (96 - n) bytes })
   unfolding run page_from byte_seen EndsOver
-  rest_run n left buffer bytes l last m r h none c = close_run n buffer last m r c
-  rest_run n left buffer bytes l last m r h (one k b l₁ l₂ bs e d) c =
+  rest_run left n buffer bytes l last m r h none c = close_run n buffer last m r c
+  rest_run left n buffer bytes l last m r h (one k b l₁ l₂ bs e d) c =
       rw (append_assoc, ← sets_one k b buffer bs h)
       ((run_then _ _ (Ok b) l₁ (l₂ ++ (last ++ m)) e.0 e.1).1
-      ∙ rest_run k left (set buffer (place_of k) b) bs l₂ last m r (omega arith) d (rw (sets_one k b buffer bs h) c))
+      ∙ rest_run left k (set buffer (place_of k) b) bs l₂ last m r (omega arith) d (rw (sets_one k b buffer bs h) c))
 
   -- where the run has ended, they end so
   one_ended : (n : ℕ) (buffer : List ℕ) (f : Filled) (l m : List Answer) (r : R ℕ) → suc n ≤ 96
@@ -199,7 +199,7 @@ module _ (q : Sequence) (port : Port) (form : Form) (tries : ℕ) where
           let first = sets_first buffer w.bytes h few in
           let c = closes_by _ (sums_of (sets buffer 0 w.bytes)) w.left w.last f.result (λ z. sym (ap sums_of first ∙ all_sums w.left buffer w.bytes w.before w.reads z)) w.closes in
           ap (λ t. (run (page q port form tries buffer) t).status) w.parts
-          ∙ rest_run 96 w.left buffer w.bytes w.before w.last w.behind f.result (omega arith) w.reads c
+          ∙ rest_run w.left 96 buffer w.bytes w.before w.last w.behind f.result (omega arith) w.reads c
           ∙ ap (λ b. ended (record { result = f.result; buffer = b })) (first ∙ sym w.stored)
 
   -- what the buffer holds over the last n bytes

@@ -25,7 +25,7 @@ use Rattle.page.specs.declared.calls.PageCall.TheVariants.{Going}
 use Rattle.page.specs.declared.calls.PageTold.{PageTold}
 use Rattle.page.specs.declared.calls.PageTold.TheVariants.{Ask}
 use Rattle.page.specs.Page.{place_of, request_at}
-use Rattle.page.specs.Walk.{Fills, access_page, buffer_page, cap_at, filled_at, filling, rest_page, stored, valid_page}
+use Rattle.page.specs.Walk.{Fills, access_page, buffer_page, cap_at, filled_at, filled_from, filling, rest_page, stored, valid_page}
 use Rattle.page.specs.Calls.{FilledAs, buffer_stepped, filled_call, kept, said_page, stands_page, stepped_page, valid_call}
 use Rattle.page.proofs.Laws.{filled_going, filling_on, stored_erase}
 
@@ -54,5 +54,5 @@ module _ (port : Port) (q : Sequence) (form : Form) (tries : ℕ) (m : Meter) (l
         yields = ap goes (request_on port (request_at form left) (locked q) tries (cap_at tries left) m h g a x _ d) ∙ ap (lent buffer) (sym (admitted _ _ a _ valid d.kind));
         limits = (d.access, picked _ _ held (picked _ _ v d.limits));
         holds = ap (stored (place_of left) buffer) (d.yields (locked q)) ∙ stored_erase _ _ _ ∙ ap (kept buffer) (sym (admitted _ _ a _ valid d.kind));
-        fills = λ l. filled_going q port form tries left buffer l unmarked g ∙ filling_on _ _ buffer port q form left h a _ l (request_next_lem d);
+        fills = λ l. filled_going q port form tries left buffer l unmarked g ∙ filling_on (place_of left) (filled_from q port form tries left) buffer port q form left h a _ l (request_next_lem d);
       }

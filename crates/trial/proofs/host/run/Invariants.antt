@@ -1,0 +1,4 @@
+use Rattle.trial.proofs.host.run.Given as goal
+
+abbrev pub decreases-loop-left : goal.decreases-loop-left
+decreases-loop-left l = l.left

@@ -1,4 +1,4 @@
-//! Links the archive that `rt staticlib host` writes: from the folder that `SULFRYK_LIB` names, else from the repository's.
+//! Links the archive that `rt lib` writes in `crates/host`: from the folder that `SULFRYK_LIB` names, else from `crates/host/out`.
 
 use std::{env, path::PathBuf};
 
@@ -6,11 +6,11 @@ fn main() {
     let manifest = PathBuf::from(env::var_os("CARGO_MANIFEST_DIR").expect("set by cargo"));
     let folder = match env::var_os("SULFRYK_LIB") {
         Some(folder) => PathBuf::from(folder),
-        None => manifest.join("../target/staticlib"),
+        None => manifest.join("../crates/host/out"),
     };
     let archive = folder.join("libhost.a");
     if !archive.exists() {
-        println!("cargo:warning=there is no {}; `rt staticlib host` writes it", archive.display());
+        println!("cargo:warning=there is no {}; `rt lib` in crates/host writes it", archive.display());
     }
     println!("cargo:rerun-if-env-changed=SULFRYK_LIB");
     println!("cargo:rerun-if-changed={}", archive.display());

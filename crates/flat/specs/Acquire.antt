@@ -1,5 +1,5 @@
 -- States of `acquire` as numbers, and back; back again nothing is lost. Written by `derive`.
-use Rattle.std.specs.Prelude.{ℕ, ◌≡◌, refl, eqb}
+use Rattle.std.specs.Prelude.{◌≡◌, refl, eqb}
 use Rattle.flat.specs.Pick.{pick, bit, set, back_bit}
 use Rattle.acquire.specs.declared.acquire.Stage.{Stage}
 use Rattle.acquire.specs.declared.acquire.Stage.TheVariants.{Bits as StageBits, Token as StageToken, Releasing as StageReleasing, Waiting as StageWaiting}

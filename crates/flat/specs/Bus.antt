@@ -1,5 +1,5 @@
 -- States of `bus` as numbers, and back; back again nothing is lost. Written by `derive`.
-use Rattle.std.specs.Prelude.{ℕ, ◌≡◌, refl, eqb}
+use Rattle.std.specs.Prelude.{◌≡◌, refl, eqb}
 use Rattle.flat.specs.Pick.{pick}
 use Rattle.bus.specs.declared.Taken.{Taken}
 use Rattle.flat.specs.declared.of_bus.TakenFlat.{TakenFlat}

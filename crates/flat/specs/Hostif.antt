@@ -1,5 +1,5 @@
 -- States of `hostif` as numbers, and back; back again nothing is lost. Written by `derive`.
-use Rattle.std.specs.Prelude.{ℕ, ◌≡◌, refl, eqb}
+use Rattle.std.specs.Prelude.{◌≡◌, refl, eqb}
 use Rattle.flat.specs.Pick.{pick, bit, set, back_bit}
 use Rattle.hostif.specs.declared.request.Request.{Request}
 use Rattle.hostif.specs.declared.request.Request.TheVariants.{Fwsts as RequestFwsts, Hicr as RequestHicr, Word as RequestWord, Start as RequestStart, Polling as RequestPolling}

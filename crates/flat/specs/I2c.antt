@@ -1,5 +1,5 @@
 -- States of `i2c` as numbers, and back; back again nothing is lost. Written by `derive`.
-use Rattle.std.specs.Prelude.{ℕ, ◌≡◌, refl, eqb}
+use Rattle.std.specs.Prelude.{◌≡◌, refl, eqb}
 use Rattle.flat.specs.Pick.{pick, bit, set, back_bit}
 use Rattle.i2c.specs.declared.once.Request.{Request}
 use Rattle.i2c.specs.declared.once.Request.TheVariants.{ReadByte as RequestReadByte, WriteByte as RequestWriteByte, ReadCombined as RequestReadCombined, WriteCombined as RequestWriteCombined}

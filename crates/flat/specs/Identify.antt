@@ -1,5 +1,5 @@
 -- States of `identify` as numbers, and back; back again nothing is lost. Written by `derive`.
-use Rattle.std.specs.Prelude.{ℕ, ◌≡◌, refl, eqb}
+use Rattle.std.specs.Prelude.{◌≡◌, refl, eqb}
 use Rattle.flat.specs.Pick.{pick}
 use Rattle.identify.specs.declared.place.Place.{Place}
 use Rattle.identify.specs.declared.place.Place.TheVariants.{Identifier as PlaceIdentifier, Comp1g as PlaceComp1g, Comp10g as PlaceComp10g, Cable as PlaceCable, Rate as PlaceRate, Km as PlaceKm, Hm as PlaceHm, Active as PlaceActive, QsfpIdentifier as PlaceQsfpIdentifier, Qsfp10g as PlaceQsfp10g, Qsfp1g as PlaceQsfp1g, QsfpConnector as PlaceQsfpConnector, QsfpLength as PlaceQsfpLength, QsfpTechnology as PlaceQsfpTechnology}

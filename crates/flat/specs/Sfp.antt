@@ -1,6 +1,5 @@
 -- States of `sfp` as numbers, and back; back again nothing is lost. Written by `derive`.
-use Rattle.std.specs.Prelude.{ℕ, ◌≡◌, refl, eqb}
-use Rattle.flat.specs.Pick.{pick}
+use Rattle.std.specs.Prelude.{◌≡◌, refl}
 use Rattle.sfp.specs.declared.Codes.{Codes}
 use Rattle.flat.specs.declared.of_sfp.CodesFlat.{CodesFlat}
 

@@ -1,5 +1,5 @@
 -- States of `softrate` as numbers, and back; back again nothing is lost. Written by `derive`.
-use Rattle.std.specs.Prelude.{ℕ, ◌≡◌, refl, eqb}
+use Rattle.std.specs.Prelude.{◌≡◌, refl, eqb}
 use Rattle.flat.specs.Pick.{pick, bit, set, back_bit}
 use Rattle.softrate.specs.declared.spot.Place.{Place}
 use Rattle.softrate.specs.declared.spot.Place.TheVariants.{Reading as PlaceReading, Writing as PlaceWriting}

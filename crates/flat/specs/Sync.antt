@@ -1,5 +1,5 @@
 -- States of `sync` as numbers, and back; back again nothing is lost. Written by `derive`.
-use Rattle.std.specs.Prelude.{ℕ, ◌≡◌, refl, eqb}
+use Rattle.std.specs.Prelude.{◌≡◌, refl, eqb}
 use Rattle.flat.specs.Pick.{pick}
 use Rattle.sync.specs.declared.swesmbi.Swesmbi.{Swesmbi}
 use Rattle.sync.specs.declared.swesmbi.Swesmbi.TheVariants.{Setting as SwesmbiSetting, Checking as SwesmbiChecking, Waiting as SwesmbiWaiting}

@@ -77,10 +77,10 @@ use Rattle.page.specs.declared.sums.Paged.{Paged}
 use Rattle.page.specs.declared.sums.Paged.TheVariants.{Ok as PagedOk, FirstSum, SecondSum, Err as PagedErr}
 use Rattle.page.specs.declared.walk.Form.{Form}
 use Rattle.page.specs.declared.walk.Form.TheVariants.{Sff8472, Sff8636}
-use Rattle.page.specs.Page.{Filled, paged_of as resultIn}
+use Rattle.page.specs.Page.{Filled, paged_of as result_in}
 use Rattle.page.specs.Walk.{Fills}
-use Rattle.page.specs.Calls.{buffer_after, buffer_fits, FilledAs, filled_call, follows_buffer, follows_page, open_form, open_page, open_qsfp_page, PageAt, said_at as saidPageAt, said_page, stands_page, step_page}
-use Rattle.page.proofs.Runs.{page_steps_on, stands_at as standsPageAt}
+use Rattle.page.specs.Calls.{buffer_after, buffer_fits, FilledAs, filled_call, follows_buffer, follows_page, open_form, open_page, open_qsfp_page, PageAt, said_at as said_page_at, said_page, stands_page, step_page}
+use Rattle.page.proofs.Runs.{page_steps_on, stands_at as stands_page_at}
 use Rattle.hostif.specs.Hostif.{command, Left}
 use Rattle.transfer.specs.declared.attempt.Sequence.{Sequence}
 use Rattle.i2c.specs.Calls.{follows_setup, follows_transfer, said_setup, said_transfer, stands_setup, stands_transfer, step_setup, step_transfer}
@@ -98,13 +98,13 @@ use Rattle.softrate.proofs.Runs.{rate_lasts, rate_steps_on, rate_after}
 use Rattle.light.specs.declared.sensed.Measured.{Measured}
 use Rattle.light.specs.declared.sensed.Measured.TheVariants.{Ok as MeasuredOk, Coefficient, Result, Err as MeasuredErr}
 use Rattle.light.specs.declared.sensed.Measures.{Measures}
-use Rattle.light.specs.Sensed.{measured_of as measuresIn}
+use Rattle.light.specs.Sensed.{measured_of as measures_in}
 use Rattle.light.specs.Calls.{follows_light, said_light, stands_light, step_light}
 use Rattle.light.proofs.Ends.{light_after}
 use Rattle.light.proofs.Runs.{light_lasts, light_steps_on}
-use Rattle.hostif.specs.Calls.{block_fits, CommandAt, follows_block, follows_command, follows_token, open_command, said_at as saidCommandAt, said_command, said_token, stands_command, stands_token, step_command, step_token}
+use Rattle.hostif.specs.Calls.{block_fits, CommandAt, follows_block, follows_command, follows_token, open_command, said_at as said_command_at, said_command, said_token, stands_command, stands_token, step_command, step_token}
 use Rattle.hostif.proofs.Ends.{token_after}
-use Rattle.hostif.proofs.Runs.{command_steps_on, stands_at as standsCommandAt, token_lasts, token_steps_on}
+use Rattle.hostif.proofs.Runs.{command_steps_on, stands_at as stands_command_at, token_lasts, token_steps_on}
 use Rattle.acquire.specs.Calls.{follows_acquire, follows_release, said_acquire, said_release, stands_acquire, stands_release, step_acquire, step_release}
 use Rattle.acquire.proofs.Ends.{acquire_after, release_after}
 use Rattle.acquire.proofs.Runs.{acquire_lasts, acquire_steps_on, release_lasts, release_steps_on}
@@ -432,8 +432,8 @@ unfolding identified_of result_of found_of failed_of failure_of
 identified_is (Found i) m = refl
 identified_is (NotFound e) m = refl
 
-measured_is : (r : Measured) (m : Meter) → measured_of r m ≡ result_of measures_of m (measuresIn r)
-unfolding measured_of result_of measuresIn failed_of failure_of
+measured_is : (r : Measured) (m : Meter) → measured_of r m ≡ result_of measures_of m (measures_in r)
+unfolding measured_of result_of measures_in failed_of failure_of
 measured_is (MeasuredOk v) m = refl
 measured_is Coefficient m = refl
 measured_is Result m = refl
@@ -763,10 +763,10 @@ command_leaves_so (CommandAsk x CommandOver) words v e = absurd e
 command_leaves_so (CommandEnd b) words v e = ap (λ (l : Left). l.block) (same_end e)
 command_leaves_so (CommandRefused q) words v e = absurd e
 
-command_tells_at : (t : CommandAt) (h : Held) → standsCommandAt t → CommandShown t h → h.block.next ≡ prompt left_of (saidCommandAt t)
+command_tells_at : (t : CommandAt) (h : Held) → stands_command_at t → CommandShown t h → h.block.next ≡ prompt left_of (said_command_at t)
 command_tells_at t h s v = command_tells t.told t.block h.block s.0 v.1
 
-command_goes_at : (t : CommandAt) (h k : Held) (a : Answer) → IfYes Asks (saidCommandAt t) → CommandShown t h → CommandPromise (Known a) h k → (u : CommandAt) × follows_command t a u × CommandShown u k
+command_goes_at : (t : CommandAt) (h k : Held) (a : Answer) → IfYes Asks (said_command_at t) → CommandShown t h → CommandPromise (Known a) h k → (u : CommandAt) × follows_command t a u × CommandShown u k
 command_goes_at t h k a q v d = command_goes t.told t.block h k a q v.0 v.1 d
 
 module _ (family device lan : ℕ) (words : List ℕ) (over : State) (b : Block) (ks : List (Turn Held)) (opened : Shows (TellsCommandOpen family device lan words) ShownCommand over b) (d : Driven block_of_held CommandPromise (record { block = b; lent = words }) ks) where
@@ -780,7 +780,7 @@ module _ (family device lan : ℕ) (words : List ℕ) (over : State) (b : Block)
     where
       by : (t : CommandTold) → TellsCommandOpen family device lan words t → ShownCommand over t b → (f : Bool) → block_fits words ≡ f → seen block_of_held (record { block = b; lent = words }) ks ≡ asked_seen left_of (run_asked (asked (open_command family device lan words)) (answers_in ks))
       by t k h true e =
-          told_seen left_of block_of_held CommandPromise saidCommandAt follows_command standsCommandAt CommandShown command_steps_on command_ends command_tells_at command_goes_at (record { told = t; block = words }) (record { block = b; lent = words }) ks (k.limits, e) (refl, (over, h)) d
+          told_seen left_of block_of_held CommandPromise said_command_at follows_command stands_command_at CommandShown command_steps_on command_ends command_tells_at command_goes_at (record { told = t; block = words }) (record { block = b; lent = words }) ks (k.limits, e) (refl, (over, h)) d
           ∙ ap (λ q. asked_seen left_of (run_asked (asked q) (answers_in ks))) k.yields
       by t k h false e =
           not_stepped left_of block_of_held CommandPromise (asked (open_command family device lan words)) (record { block = b; lent = words }) ks (refuses_words e)
@@ -793,7 +793,7 @@ module _ (family device lan : ℕ) (words : List ℕ) (over : State) (b : Block)
     where
       by : (t : CommandTold) → TellsCommandOpen family device lan words t → ShownCommand over t b → (f : Bool) → block_fits words ≡ f → (last_held (record { block = b; lent = words }) ks).lent ≡ v.block
       by t k h true e =
-          let u = told_ends left_of block_of_held CommandPromise saidCommandAt follows_command standsCommandAt CommandShown command_steps_on command_ends command_tells_at command_goes_at (record { told = t; block = words }) (record { block = b; lent = words }) ks (k.limits, e) (refl, (over, h)) d v (subst (λ q. Ended (asked q) (answers_in ks) v) (sym k.yields) n) in
+          let u = told_ends left_of block_of_held CommandPromise said_command_at follows_command stands_command_at CommandShown command_steps_on command_ends command_tells_at command_goes_at (record { told = t; block = words }) (record { block = b; lent = words }) ks (k.limits, e) (refl, (over, h)) d v (subst (λ q. Ended (asked q) (answers_in ks) v) (sym k.yields) n) in
           sym u.2.0 ∙ command_leaves_so u.0.told u.0.block v u.1
       by t k h false e = never_ends _ (answers_in ks) v (refuses_words e) n
 
@@ -801,8 +801,8 @@ module _ (family device lan : ℕ) (words : List ℕ) (over : State) (b : Block)
 abbrev PageShown : PageAt → Held → Type 0
 PageShown t h = (t.buffer ≡ h.lent) × ShownBy ShownPage t.told h.block
 
-paged_is : (p : Paged) (m : Meter) → paged_of p m ≡ result_of done_of m (resultIn p)
-unfolding paged_of result_of resultIn failed_of failure_of
+paged_is : (p : Paged) (m : Meter) → paged_of p m ≡ result_of done_of m (result_in p)
+unfolding paged_of result_of result_in failed_of failure_of
 paged_is PagedOk m = refl
 paged_is FirstSum m = refl
 paged_is SecondSum m = refl
@@ -835,10 +835,10 @@ page_goes (PageAsk x s) bytes h k a q e (old, v) d =
 page_goes (PageEnd p m) bytes h k a q e w d = absurd q
 page_goes (PageRefused r) bytes h k a q e w d = absurd q
 
-page_tells_at : (t : PageAt) (h : Held) → standsPageAt t → PageShown t h → h.block.next ≡ prompt filled_of (saidPageAt t)
+page_tells_at : (t : PageAt) (h : Held) → stands_page_at t → PageShown t h → h.block.next ≡ prompt filled_of (said_page_at t)
 page_tells_at t h s v = page_tells t.told t.buffer h.block s.0 v.1
 
-page_goes_at : (t : PageAt) (h k : Held) (a : Answer) → IfYes Asks (saidPageAt t) → PageShown t h → PagePromise (Known a) h k → (u : PageAt) × follows_page t a u × PageShown u k
+page_goes_at : (t : PageAt) (h k : Held) (a : Answer) → IfYes Asks (said_page_at t) → PageShown t h → PagePromise (Known a) h k → (u : PageAt) × follows_page t a u × PageShown u k
 page_goes_at t h k a q v d = page_goes t.told t.buffer h k a q v.0 v.1 d
 
 too_short : {A : Type 0} (bytes : List ℕ) (o : Asked Port) (e f : Bool) (p : Port → Prog A) → f ≡ false → Refuses (asked (lent bytes (and_then o (λ port. question e 4 (question f 9 (yes (p port)))))))
@@ -871,7 +871,7 @@ module _ (form : Form) (family device lan attempts : ℕ) (bytes : List ℕ) whe
       where
         by : (f : Bool) → buffer_fits bytes ≡ f → seen block_of_held (record { block = b; lent = bytes }) ks ≡ asked_seen filled_of (run_asked (asked (opens q)) (answers_in ks))
         by true e =
-            told_seen filled_of block_of_held PagePromise saidPageAt follows_page standsPageAt PageShown page_steps_on page_ends page_tells_at page_goes_at (record { told = t; buffer = bytes }) (record { block = b; lent = bytes }) ks (k.limits, e) (refl, (over, h)) d
+            told_seen filled_of block_of_held PagePromise said_page_at follows_page stands_page_at PageShown page_steps_on page_ends page_tells_at page_goes_at (record { told = t; buffer = bytes }) (record { block = b; lent = bytes }) ks (k.limits, e) (refl, (over, h)) d
             ∙ ap (λ q. asked_seen filled_of (run_asked (asked q) (answers_in ks))) k.yields
         by false e =
             not_stepped filled_of block_of_held PagePromise (asked (opens q)) (record { block = b; lent = bytes }) ks (refuses_bytes q e)
@@ -886,7 +886,7 @@ module _ (form : Form) (family device lan attempts : ℕ) (bytes : List ℕ) whe
       where
         by : (f : Bool) → buffer_fits bytes ≡ f → (last_held (record { block = b; lent = bytes }) ks).lent ≡ v.result.buffer
         by true e =
-            let u = told_ends filled_of block_of_held PagePromise saidPageAt follows_page standsPageAt PageShown page_steps_on page_ends page_tells_at page_goes_at (record { told = t; buffer = bytes }) (record { block = b; lent = bytes }) ks (k.limits, e) (refl, (over, h)) d v (subst (λ q. Ended (asked q) (answers_in ks) v) (sym k.yields) n) in
+            let u = told_ends filled_of block_of_held PagePromise said_page_at follows_page stands_page_at PageShown page_steps_on page_ends page_tells_at page_goes_at (record { told = t; buffer = bytes }) (record { block = b; lent = bytes }) ks (k.limits, e) (refl, (over, h)) d v (subst (λ q. Ended (asked q) (answers_in ks) v) (sym k.yields) n) in
             sym u.2.0 ∙ page_leaves_so u.0.told u.0.buffer v u.1
         by false e = never_ends _ (answers_in ks) v (refuses_bytes q e) n
 

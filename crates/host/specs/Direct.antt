@@ -13,7 +13,7 @@ use Rattle.i2c.specs.Direct.{carrying}
 use Rattle.identify.specs.declared.place.Place.{Place}
 use Rattle.identify.specs.Place.{request_at, tries_at, cap_at, valid_place}
 use Rattle.softrate.specs.declared.spot.Spot.{Spot}
-use Rattle.softrate.specs.Spot.{request_at as requestOn, tries_at as triesOn, cap_at as capOn, valid_spot}
+use Rattle.softrate.specs.Spot.{request_at as request_on, tries_at as tries_on, cap_at as cap_on, valid_spot}
 use Rattle.flat.specs.declared.State.{State}
 use Rattle.flat.specs.Hardware.{the_port, the_meter}
 use Rattle.flat.specs.Bus.{flat_job, the_job, the_taken}
@@ -121,7 +121,7 @@ abbrev pub IdentifyTerms : Port → State → Terms → Type 0
 IdentifyTerms port s t = TermsAs (valid_place (place_in s)) (request_at (place_in s)) (tries_at port (place_in s)) (cap_at port (place_in s)) t
 
 abbrev pub RateTerms : Port → State → Terms → Type 0
-RateTerms port s t = TermsAs (valid_spot (spot_in s)) (requestOn (set s.b23) (spot_in s)) (triesOn port (spot_in s).place) (capOn port (spot_in s)) t
+RateTerms port s t = TermsAs (valid_spot (spot_in s)) (request_on (set s.b23) (spot_in s)) (tries_on port (spot_in s).place) (cap_on port (spot_in s)) t
 
 -- by the number of the call; of the others there are none
 unfoldable pub TermsOf : ℕ → Port → Meter → State → Terms → Type 0

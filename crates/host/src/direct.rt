@@ -167,7 +167,7 @@ fn terms_of(p: Port, m: Meter, s: State) -> Terms
 }
 
 // A step with an answer of a kind that there is.
-#[tactic(auto, using(bus::proofs::Laws::moved_map, crate::proofs::Laws::call_moves), unfolding(bus::specs::Quick::MovedBy))]
+#[tactic(auto, unfolding(bus::specs::Quick::MovedBy))]
 fn inside(s: State, a: Answer) -> Moved
     ensures { MovedBy (λ x next. Stepped s a (moved_block s x next)) result }
 {

@@ -40,7 +40,7 @@ fn by_number(sequence: u32) -> Named
 }
 
 #[unsafe(no_mangle)]
-#[tactic(auto, unfolding(crate::specs::Open::OpenedBy, crate::specs::Shown::Shows))]
+#[tactic(auto, unfolding(crate::specs::Open::OpenedBy))]
 pub extern "C" fn sulfryk_read_byte_open(
     family: u32,
     device: u16,
@@ -66,7 +66,7 @@ pub extern "C" fn sulfryk_read_byte_open(
 }
 
 #[unsafe(no_mangle)]
-#[tactic(auto, unfolding(crate::specs::Open::OpenedBy, crate::specs::Shown::Shows))]
+#[tactic(auto, unfolding(crate::specs::Open::OpenedBy))]
 pub extern "C" fn sulfryk_write_byte_open(
     family: u32,
     device: u16,
@@ -90,7 +90,7 @@ pub extern "C" fn sulfryk_write_byte_open(
 }
 
 #[unsafe(no_mangle)]
-#[tactic(auto, unfolding(crate::specs::Open::OpenedBy, crate::specs::Shown::Shows))]
+#[tactic(auto, unfolding(crate::specs::Open::OpenedBy))]
 pub extern "C" fn sulfryk_read_combined_open(
     family: u32,
     device: u16,
@@ -113,7 +113,7 @@ pub extern "C" fn sulfryk_read_combined_open(
 }
 
 #[unsafe(no_mangle)]
-#[tactic(auto, unfolding(crate::specs::Open::OpenedBy, crate::specs::Shown::Shows))]
+#[tactic(auto, unfolding(crate::specs::Open::OpenedBy))]
 pub extern "C" fn sulfryk_write_combined_open(
     family: u32,
     device: u16,
@@ -137,7 +137,6 @@ pub extern "C" fn sulfryk_write_combined_open(
 }
 
 #[unsafe(no_mangle)]
-#[tactic(auto, unfolding(crate::specs::Shown::Shows))]
 pub extern "C" fn sulfryk_qsfp_setup_open() -> Block
     ensures { Shows (TellsSetup (yes (erase (change setup_bus)))) ShownSetup over_setup result }
 {
@@ -145,7 +144,7 @@ pub extern "C" fn sulfryk_qsfp_setup_open() -> Block
 }
 
 #[unsafe(no_mangle)]
-#[tactic(auto, unfolding(crate::specs::Open::OpenedBy, crate::specs::Shown::Shows))]
+#[tactic(auto, unfolding(crate::specs::Open::OpenedBy))]
 pub extern "C" fn sulfryk_identify_open(family: u32, device: u16, lan: u32, sequence: u32) -> Block
     ensures { OpenedBy (named sequence) (λ q. Shows (TellsIdentify (open_identify q family device lan)) ShownIdentify over_identify) over_identify result }
 {
@@ -160,7 +159,7 @@ pub extern "C" fn sulfryk_identify_open(family: u32, device: u16, lan: u32, sequ
 }
 
 #[unsafe(no_mangle)]
-#[tactic(auto, unfolding(crate::specs::Open::OpenedBy, crate::specs::Shown::Shows))]
+#[tactic(auto, unfolding(crate::specs::Open::OpenedBy))]
 pub extern "C" fn sulfryk_identify_qsfp_open(
     family: u32,
     device: u16,
@@ -180,7 +179,7 @@ pub extern "C" fn sulfryk_identify_qsfp_open(
 }
 
 #[unsafe(no_mangle)]
-#[tactic(auto, unfolding(crate::specs::Open::OpenedBy, crate::specs::Shown::Shows))]
+#[tactic(auto, unfolding(crate::specs::Open::OpenedBy))]
 pub extern "C" fn sulfryk_soft_rate_select_open(
     family: u32,
     device: u16,
@@ -201,7 +200,7 @@ pub extern "C" fn sulfryk_soft_rate_select_open(
 }
 
 #[unsafe(no_mangle)]
-#[tactic(auto, unfolding(crate::specs::Open::OpenedBy, crate::specs::Shown::Shows))]
+#[tactic(auto, unfolding(crate::specs::Open::OpenedBy))]
 pub extern "C" fn sulfryk_light_open(
     family: u32,
     device: u16,
@@ -222,7 +221,6 @@ pub extern "C" fn sulfryk_light_open(
 }
 
 #[unsafe(no_mangle)]
-#[tactic(auto, unfolding(crate::specs::Shown::Shows))]
 pub extern "C" fn sulfryk_acquire_open(family: u32, device: u16, lan: u32, mask: u32) -> Block
     ensures { Shows (TellsAcquire (open_acquire family device lan mask)) ShownAcquire over_acquire result }
 {
@@ -233,7 +231,6 @@ pub extern "C" fn sulfryk_acquire_open(family: u32, device: u16, lan: u32, mask:
 }
 
 #[unsafe(no_mangle)]
-#[tactic(auto, unfolding(crate::specs::Shown::Shows))]
 pub extern "C" fn sulfryk_release_open(family: u32, device: u16, lan: u32, mask: u32) -> Block
     ensures { Shows (TellsRelease (open_release family device lan mask)) ShownRelease over_release result }
 {
@@ -244,7 +241,6 @@ pub extern "C" fn sulfryk_release_open(family: u32, device: u16, lan: u32, mask:
 }
 
 #[unsafe(no_mangle)]
-#[tactic(auto, unfolding(crate::specs::Shown::Shows))]
 pub extern "C" fn sulfryk_token_open(family: u32, device: u16, lan: u32, take: bool) -> Block
     ensures { Shows (TellsToken (open_token family device lan take)) ShownToken over_token result }
 {
@@ -255,7 +251,6 @@ pub extern "C" fn sulfryk_token_open(family: u32, device: u16, lan: u32, take: b
 }
 
 #[unsafe(no_mangle)]
-#[tactic(auto, unfolding(crate::specs::Shown::Shows))]
 pub extern "C" fn sulfryk_command_open(family: u32, device: u16, lan: u32, block: &[u32]) -> Block
     ensures { Shows (TellsCommandOpen family device lan block.now) ShownCommand over_command result }
 {
@@ -266,7 +261,6 @@ pub extern "C" fn sulfryk_command_open(family: u32, device: u16, lan: u32, block
 }
 
 #[unsafe(no_mangle)]
-#[tactic(auto, unfolding(crate::specs::Shown::Shows))]
 pub extern "C" fn sulfryk_script_open(family: u32, device: u16, lan: u32, script: &[u8]) -> Block
     ensures { Shows (TellsScriptOpen family device lan script.now) ShownScript over_script result }
 {
@@ -277,7 +271,7 @@ pub extern "C" fn sulfryk_script_open(family: u32, device: u16, lan: u32, script
 }
 
 #[unsafe(no_mangle)]
-#[tactic(auto, unfolding(crate::specs::Open::OpenedBy, crate::specs::Shown::Shows))]
+#[tactic(auto, unfolding(crate::specs::Open::OpenedBy))]
 pub extern "C" fn sulfryk_page_open(
     family: u32,
     device: u16,
@@ -299,7 +293,7 @@ pub extern "C" fn sulfryk_page_open(
 }
 
 #[unsafe(no_mangle)]
-#[tactic(auto, unfolding(crate::specs::Open::OpenedBy, crate::specs::Shown::Shows))]
+#[tactic(auto, unfolding(crate::specs::Open::OpenedBy))]
 pub extern "C" fn sulfryk_qsfp_page_open(
     family: u32,
     device: u16,

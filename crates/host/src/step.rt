@@ -27,14 +27,12 @@ fn answered(kind: u32, value: u32) -> Given
     }
 }
 
-#[tactic(auto, unfolding(crate::specs::Step::SteppedTransfer, crate::specs::Shown::Shows))]
 fn transfer(old: State, a: Answer) -> Block
     ensures { SteppedTransfer old a result }
 {
     crate::shown::transfer(old, i2c::calls::plain(flat::of_i2c::transfer_call(old), a))
 }
 
-#[tactic(auto, unfolding(crate::specs::Step::SteppedSetup, crate::specs::Shown::Shows))]
 fn setup(old: State, a: Answer) -> Block
     ensures { SteppedSetup old a result }
 {
@@ -44,7 +42,6 @@ fn setup(old: State, a: Answer) -> Block
     )
 }
 
-#[tactic(auto, unfolding(crate::specs::Step::SteppedIdentify, crate::specs::Shown::Shows))]
 fn identify(old: State, a: Answer) -> Block
     ensures { SteppedIdentify old a result }
 {
@@ -54,7 +51,6 @@ fn identify(old: State, a: Answer) -> Block
     )
 }
 
-#[tactic(auto, unfolding(crate::specs::Step::SteppedRate, crate::specs::Shown::Shows))]
 fn rate(old: State, a: Answer) -> Block
     ensures { SteppedRate old a result }
 {
@@ -64,14 +60,12 @@ fn rate(old: State, a: Answer) -> Block
     )
 }
 
-#[tactic(auto, unfolding(crate::specs::Step::SteppedLight, crate::specs::Shown::Shows))]
 fn light(old: State, a: Answer) -> Block
     ensures { SteppedLight old a result }
 {
     crate::shown::light(old, light::calls::plain(flat::of_light::light_call(old), a))
 }
 
-#[tactic(auto, unfolding(crate::specs::Step::SteppedAcquire, crate::specs::Shown::Shows))]
 fn acquire(old: State, a: Answer) -> Block
     ensures { SteppedAcquire old a result }
 {
@@ -81,7 +75,6 @@ fn acquire(old: State, a: Answer) -> Block
     )
 }
 
-#[tactic(auto, unfolding(crate::specs::Step::SteppedRelease, crate::specs::Shown::Shows))]
 fn release(old: State, a: Answer) -> Block
     ensures { SteppedRelease old a result }
 {
@@ -91,7 +84,6 @@ fn release(old: State, a: Answer) -> Block
     )
 }
 
-#[tactic(auto, unfolding(crate::specs::Step::SteppedToken, crate::specs::Shown::Shows))]
 fn token(old: State, a: Answer) -> Block
     ensures { SteppedToken old a result }
 {
@@ -141,7 +133,7 @@ pub extern "C" fn sulfryk_step(state: State, kind: u32, value: u32) -> Block
     }
 }
 
-#[tactic(auto, unfolding(crate::specs::Step::CommandStepped, crate::specs::Shown::Shows))]
+#[tactic(auto, unfolding(crate::specs::Step::CommandStepped))]
 fn command_on(old: State, block: &mut [u32], a: Answer) -> Block
     ensures { CommandStepped old block.old block.new a result }
 {
@@ -171,7 +163,7 @@ pub extern "C" fn sulfryk_command_step(
     }
 }
 
-#[tactic(auto, unfolding(crate::specs::Step::ScriptStepped, crate::specs::Shown::Shows))]
+#[tactic(auto, unfolding(crate::specs::Step::ScriptStepped))]
 fn script_on(old: State, script: &[u8], a: Answer) -> Block
     ensures { ScriptStepped old script.now a result }
 {
@@ -196,7 +188,7 @@ pub extern "C" fn sulfryk_script_step(state: State, script: &[u8], kind: u32, va
     }
 }
 
-#[tactic(auto, unfolding(crate::specs::Step::PageStepped, crate::specs::Shown::Shows))]
+#[tactic(auto, unfolding(crate::specs::Step::PageStepped))]
 fn page_on(old: State, buffer: &mut [u8], a: Answer) -> Block
     ensures { PageStepped old buffer.old buffer.new a result }
 {

@@ -7,7 +7,7 @@ abbrev pub invariant-loop-i : goal.invariant-loop-i
 invariant-loop-i l =
     record {
       bound : l.i ≤ length l.text;
-      same : run_of l.base l.d (drop l.i l.text) ≡ run_of l.base none l.text
+      same : run_of l.base l.d (drop l.i l.text) ≡ run_of l.base none l.text;
     }
 
 abbrev pub decreases-loop-i : goal.decreases-loop-i

@@ -7,7 +7,7 @@ abbrev pub invariant-loop-i : goal.invariant-loop-i
 invariant-loop-i l =
     record {
       bound : l.i ≤ length l.text;
-      same : l.i + place_of l.b (drop l.i l.text) ≡ place_of l.b l.text
+      same : l.i + place_of l.b (drop l.i l.text) ≡ place_of l.b l.text;
     }
 
 abbrev pub decreases-loop-i : goal.decreases-loop-i

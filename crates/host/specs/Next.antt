@@ -1,5 +1,5 @@
 -- What is next, as numbers: an access, an end with its values, a failure or a refusal with its number.
-use Rattle.std.specs.Prelude.{ℕ, ◌+◌, cond, ℤ, pos, get_or}
+use Rattle.std.specs.Prelude.{ℕ, cond, pos, get_or}
 use Rattle.std.specs.Float.{binary32}
 use Rattle.std.specs.Float.Ieee.{eq, to_bits}
 use Rattle.hardware.specs.declared.Access.{Access}

@@ -5,57 +5,46 @@ use Rattle.std.proofs.Common.{subst, sym}
 use Rattle.hardware.specs.Numbers.{refusal_number}
 use Rattle.hardware.specs.Prog.{blank}
 use Rattle.flat.specs.declared.State.{State}
-use Rattle.i2c.specs.declared.calls.TransferCall.{TransferCall}
 use Rattle.i2c.specs.declared.calls.TransferCall.TheVariants.{Over as TransferOver}
 use Rattle.i2c.specs.declared.calls.TransferTold.{TransferTold}
 use Rattle.i2c.specs.declared.calls.TransferTold.TheVariants.{Ask as TransferAsk, End as TransferEnd, Refused as TransferRefused}
 use Rattle.flat.specs.I2c.{flat_transfer_call, the_transfer_call, back_transfer_call, number_transfer_call}
-use Rattle.i2c.specs.declared.calls.SetupCall.{SetupCall}
 use Rattle.i2c.specs.declared.calls.SetupCall.TheVariants.{Over as SetupOver}
 use Rattle.i2c.specs.declared.calls.SetupTold.{SetupTold}
 use Rattle.i2c.specs.declared.calls.SetupTold.TheVariants.{Ask as SetupAsk, End as SetupEnd, Refused as SetupRefused}
 use Rattle.flat.specs.I2c.{flat_setup_call, the_setup_call, back_setup_call, number_setup_call}
-use Rattle.identify.specs.declared.calls.IdentifyCall.{IdentifyCall}
 use Rattle.identify.specs.declared.calls.IdentifyCall.TheVariants.{Over as IdentifyOver}
 use Rattle.identify.specs.declared.calls.IdentifyTold.{IdentifyTold}
 use Rattle.identify.specs.declared.calls.IdentifyTold.TheVariants.{Ask as IdentifyAsk, End as IdentifyEnd, Refused as IdentifyRefused}
 use Rattle.flat.specs.Identify.{flat_identify_call, the_identify_call, back_identify_call, number_identify_call}
-use Rattle.softrate.specs.declared.calls.RateCall.{RateCall}
 use Rattle.softrate.specs.declared.calls.RateCall.TheVariants.{Over as RateOver}
 use Rattle.softrate.specs.declared.calls.RateTold.{RateTold}
 use Rattle.softrate.specs.declared.calls.RateTold.TheVariants.{Ask as RateAsk, End as RateEnd, Refused as RateRefused}
 use Rattle.flat.specs.Softrate.{flat_rate_call, the_rate_call, back_rate_call, number_rate_call}
-use Rattle.light.specs.declared.calls.LightCall.{LightCall}
 use Rattle.light.specs.declared.calls.LightCall.TheVariants.{Over as LightOver}
 use Rattle.light.specs.declared.calls.LightTold.{LightTold}
 use Rattle.light.specs.declared.calls.LightTold.TheVariants.{Ask as LightAsk, End as LightEnd, Refused as LightRefused}
 use Rattle.flat.specs.Light.{flat_light_call, the_light_call, back_light_call, number_light_call}
-use Rattle.acquire.specs.declared.calls.AcquireCall.{AcquireCall}
 use Rattle.acquire.specs.declared.calls.AcquireCall.TheVariants.{Over as AcquireOver}
 use Rattle.acquire.specs.declared.calls.AcquireTold.{AcquireTold}
 use Rattle.acquire.specs.declared.calls.AcquireTold.TheVariants.{Ask as AcquireAsk, End as AcquireEnd, Refused as AcquireRefused}
 use Rattle.flat.specs.Acquire.{flat_acquire_call, the_acquire_call, back_acquire_call, number_acquire_call}
-use Rattle.acquire.specs.declared.calls.ReleaseCall.{ReleaseCall}
 use Rattle.acquire.specs.declared.calls.ReleaseCall.TheVariants.{Over as ReleaseOver}
 use Rattle.acquire.specs.declared.calls.ReleaseTold.{ReleaseTold}
 use Rattle.acquire.specs.declared.calls.ReleaseTold.TheVariants.{Ask as ReleaseAsk, End as ReleaseEnd, Refused as ReleaseRefused}
 use Rattle.flat.specs.Acquire.{flat_release_call, the_release_call, back_release_call, number_release_call}
-use Rattle.hostif.specs.declared.calls.TokenCall.{TokenCall}
 use Rattle.hostif.specs.declared.calls.TokenCall.TheVariants.{Over as TokenOver}
 use Rattle.hostif.specs.declared.calls.TokenTold.{TokenTold}
 use Rattle.hostif.specs.declared.calls.TokenTold.TheVariants.{Ask as TokenAsk, End as TokenEnd, Refused as TokenRefused}
 use Rattle.flat.specs.Hostif.{flat_token_call, the_token_call, back_token_call, number_token_call}
-use Rattle.hostif.specs.declared.calls.CommandCall.{CommandCall}
 use Rattle.hostif.specs.declared.calls.CommandCall.TheVariants.{Over as CommandOver}
 use Rattle.hostif.specs.declared.calls.CommandTold.{CommandTold}
 use Rattle.hostif.specs.declared.calls.CommandTold.TheVariants.{Ask as CommandAsk, End as CommandEnd, Refused as CommandRefused}
 use Rattle.flat.specs.Hostif.{flat_command_call, the_command_call, back_command_call, number_command_call}
-use Rattle.transfer.specs.declared.calls.ScriptCall.{ScriptCall}
 use Rattle.transfer.specs.declared.calls.ScriptCall.TheVariants.{Over as ScriptOver}
 use Rattle.transfer.specs.declared.calls.ScriptTold.{ScriptTold}
 use Rattle.transfer.specs.declared.calls.ScriptTold.TheVariants.{Ask as ScriptAsk, Read as ScriptRead, End as ScriptEnd, Refused as ScriptRefused}
 use Rattle.flat.specs.Transfer.{flat_script_call, the_script_call, back_script_call, number_script_call}
-use Rattle.page.specs.declared.calls.PageCall.{PageCall}
 use Rattle.page.specs.declared.calls.PageCall.TheVariants.{Over as PageOver}
 use Rattle.page.specs.declared.calls.PageTold.{PageTold}
 use Rattle.page.specs.declared.calls.PageTold.TheVariants.{Ask as PageAsk, End as PageEnd, Refused as PageRefused}

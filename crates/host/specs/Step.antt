@@ -21,11 +21,8 @@ use Rattle.acquire.specs.Calls.{step_release}
 use Rattle.flat.specs.Acquire.{the_release_call}
 use Rattle.hostif.specs.Calls.{step_token}
 use Rattle.flat.specs.Hostif.{the_token_call}
-use Rattle.hostif.specs.declared.calls.CommandTold.{CommandTold}
 use Rattle.flat.specs.Hostif.{the_command_call}
-use Rattle.transfer.specs.declared.calls.ScriptTold.{ScriptTold}
 use Rattle.flat.specs.Transfer.{the_script_call}
-use Rattle.page.specs.declared.calls.PageTold.{PageTold}
 use Rattle.flat.specs.Page.{the_page_call}
 use Rattle.hostif.specs.Calls.{said_command, stands_command, step_command}
 use Rattle.hostif.specs.Left.{call_left as command_left, told_left}

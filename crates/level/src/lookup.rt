@@ -5,7 +5,7 @@ ghost use Rattle.level.specs.Level.{Greatest, LeastCounts, LevelOf};
 use crate::dbm::Level;
 
 // Entry k is the least count c with 10^k at most c^100. Equal entries stand beside each other where k is small.
-const LEAST: [u16; 482] = [
+static LEAST: [u16; 482] = [
     1, 2, 2, 2, 2, 2, 2, 2, 2, 2, 2, 2, 2, 2, 2, 2, 2, 2, 2, 2, 2, 2, 2, 2, 2, 2, 2, 2, 2, 2, 2, 3,
     3, 3, 3, 3, 3, 3, 3, 3, 3, 3, 3, 3, 3, 3, 3, 3, 4, 4, 4, 4, 4, 4, 4, 4, 4, 4, 4, 4, 4, 5, 5, 5,
     5, 5, 5, 5, 5, 5, 6, 6, 6, 6, 6, 6, 6, 6, 7, 7, 7, 7, 7, 7, 7, 8, 8, 8, 8, 8, 8, 9, 9, 9, 9, 9,
@@ -35,10 +35,10 @@ const LEAST: [u16; 482] = [
 ];
 
 #[tactic(auto, using(crate::proofs::Table::right))]
-pub(crate) fn table() -> [u16; 482]
-    ensures { LeastCounts result }
+pub(crate) fn table() -> &'static [u16; 482]
+    ensures { LeastCounts result.now }
 {
-    LEAST
+    &LEAST
 }
 
 // The place of the last entry that is not above the count. Nine halvings leave one place of 482.

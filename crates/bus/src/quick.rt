@@ -44,7 +44,7 @@ fn wait(ctl: u32, bits: u8, g: Goal) -> Quick
 }
 
 #[tactic(auto, unfolding(crate::specs::Quick::QuickBy, crate::specs::Line::line_next, hardware::specs::Marks::acknowledged, crate::specs::Line::heard_at, crate::specs::Line::heard_goal, crate::specs::Line::access_line, crate::specs::Line::access_at, crate::specs::Line::rest_line, crate::specs::Line::rest_at, hardware::specs::Prog::erase, crate::specs::Bus::or_held, hardware::specs::Registers::raw, hardware::specs::Registers::written, hardware::specs::Registers::flushed, crate::specs::Bus::flushing, crate::specs::Line::settled, crate::specs::Line::reached, crate::specs::Line::settle_us, crate::specs::Bus::wait, crate::specs::Bus::get, hardware::specs::Asked::fits, crate::specs::Line::valid_line, crate::specs::Line::valid_goal))]
-fn after_write(ctl: u32, bits: u8, g: Goal) -> Quick
+fn written(ctl: u32, bits: u8, g: Goal) -> Quick
     ensures { (l : Layout) → QuickBy l (line_of ctl bits (Line.Write g)) Answer.Done result }
 {
     if crate::line::valid_goal(g) {
@@ -57,7 +57,7 @@ fn after_write(ctl: u32, bits: u8, g: Goal) -> Quick
 }
 
 #[tactic(auto, unfolding(crate::specs::Quick::QuickBy, crate::specs::Line::line_next, hardware::specs::Marks::acknowledged, crate::specs::Line::heard_at, crate::specs::Line::heard_goal, crate::specs::Line::access_line, crate::specs::Line::access_at, crate::specs::Line::rest_line, crate::specs::Line::rest_at, hardware::specs::Prog::erase, crate::specs::Bus::or_held, hardware::specs::Registers::raw, hardware::specs::Registers::written, hardware::specs::Registers::flushed, crate::specs::Bus::flushing, crate::specs::Line::settled, crate::specs::Line::reached, crate::specs::Line::settle_us, crate::specs::Bus::wait, crate::specs::Bus::get, hardware::specs::Asked::fits, crate::specs::Line::valid_line, crate::specs::Line::valid_goal, hardware::specs::Registers::outcome))]
-fn after_flush(l: Layout, ctl: u32, bits: u8, g: Goal) -> Quick
+fn flushed(l: Layout, ctl: u32, bits: u8, g: Goal) -> Quick
     ensures { (v : ℕ) → QuickBy l (line_of ctl bits (Line.Flush g)) (Answer.Value v) result }
 {
     if crate::line::valid_goal(g) {
@@ -90,7 +90,7 @@ fn free(l: Layout, ctl: u32, bits: u8) -> Quick
 }
 
 #[tactic(auto, unfolding(crate::specs::Quick::QuickBy, crate::specs::Line::line_next, hardware::specs::Marks::acknowledged, crate::specs::Line::heard_at, crate::specs::Line::heard_goal, crate::specs::Line::access_line, crate::specs::Line::access_at, crate::specs::Line::rest_line, crate::specs::Line::rest_at, hardware::specs::Prog::erase, crate::specs::Bus::or_held, hardware::specs::Registers::raw, hardware::specs::Registers::written, hardware::specs::Registers::flushed, crate::specs::Bus::flushing, crate::specs::Line::settled, crate::specs::Line::reached, crate::specs::Line::settle_us, crate::specs::Bus::wait, crate::specs::Bus::get, hardware::specs::Asked::fits, crate::specs::Line::valid_line, crate::specs::Line::valid_goal, hardware::specs::Registers::outcome))]
-fn after_settle(l: Layout, ctl: u32, bits: u8, g: Goal) -> Quick
+fn settled(l: Layout, ctl: u32, bits: u8, g: Goal) -> Quick
     ensures { QuickBy l (line_of ctl bits (Line.Settle g)) Answer.Done result }
 {
     if crate::line::valid_goal(g) {
@@ -111,7 +111,7 @@ fn after_settle(l: Layout, ctl: u32, bits: u8, g: Goal) -> Quick
 }
 
 #[tactic(auto, unfolding(crate::specs::Quick::QuickBy, crate::specs::Line::line_next, hardware::specs::Marks::acknowledged, crate::specs::Line::heard_at, crate::specs::Line::heard_goal, crate::specs::Line::access_line, crate::specs::Line::access_at, crate::specs::Line::rest_line, crate::specs::Line::rest_at, hardware::specs::Prog::erase, crate::specs::Bus::or_held, hardware::specs::Registers::raw, hardware::specs::Registers::written, hardware::specs::Registers::flushed, crate::specs::Bus::flushing, crate::specs::Line::settled, crate::specs::Line::reached, crate::specs::Line::settle_us, crate::specs::Bus::wait, crate::specs::Bus::get, hardware::specs::Asked::fits, crate::specs::Line::valid_line, crate::specs::Line::valid_goal, hardware::specs::Registers::outcome, crate::specs::Bus::sda_seen, hardware::specs::Prog::pick))]
-fn after_check(l: Layout, ctl: u32, bits: u8, v: u32) -> Quick
+fn checked(l: Layout, ctl: u32, bits: u8, v: u32) -> Quick
     ensures { QuickBy l (line_of ctl bits Line.Check) (Answer.Value v) result }
 {
     if hardware::none_of(v, l.sdain) {
@@ -121,7 +121,7 @@ fn after_check(l: Layout, ctl: u32, bits: u8, v: u32) -> Quick
 }
 
 #[tactic(auto, unfolding(crate::specs::Quick::QuickBy, crate::specs::Line::line_next, hardware::specs::Marks::acknowledged, crate::specs::Line::heard_at, crate::specs::Line::heard_goal, crate::specs::Line::access_line, crate::specs::Line::access_at, crate::specs::Line::rest_line, crate::specs::Line::rest_at, hardware::specs::Prog::erase, crate::specs::Bus::or_held, hardware::specs::Registers::raw, hardware::specs::Registers::written, hardware::specs::Registers::flushed, crate::specs::Bus::flushing, crate::specs::Line::settled, crate::specs::Line::reached, crate::specs::Line::settle_us, crate::specs::Bus::wait, crate::specs::Bus::get, hardware::specs::Asked::fits, crate::specs::Line::valid_line, crate::specs::Line::valid_goal, hardware::specs::Registers::outcome, crate::specs::Bus::scl_seen, hardware::specs::Prog::pick))]
-fn after_rise(l: Layout, ctl: u32, bits: u8, left: u16, v: u32) -> Quick
+fn risen(l: Layout, ctl: u32, bits: u8, left: u16, v: u32) -> Quick
     ensures { QuickBy l (line_of ctl bits (Line.Rise left)) (Answer.Value v) result }
 {
     if left < 500 {
@@ -144,15 +144,15 @@ fn value(l: Layout, ctl: u32, bits: u8, line: Line, v: u32) -> Quick
         Line::Ack(_) => Quick::Slow,
         Line::Rest(_) => Quick::Slow,
         Line::Write(_) => Quick::Slow,
-        Line::Flush(g) => after_flush(l, ctl, bits, g),
+        Line::Flush(g) => flushed(l, ctl, bits, g),
         Line::Settle(_) => Quick::Slow,
-        Line::Check => after_check(l, ctl, bits, v),
-        Line::Rise(left) => after_rise(l, ctl, bits, left, v),
+        Line::Check => checked(l, ctl, bits, v),
+        Line::Rise(left) => risen(l, ctl, bits, left, v),
     }
 }
 
 #[tactic(auto, unfolding(crate::specs::Quick::QuickBy, crate::specs::Line::line_next, hardware::specs::Marks::acknowledged, crate::specs::Line::heard_at, crate::specs::Line::heard_goal, crate::specs::Line::access_line, crate::specs::Line::access_at, crate::specs::Line::rest_line, crate::specs::Line::rest_at, hardware::specs::Prog::erase, crate::specs::Bus::or_held, hardware::specs::Registers::raw, hardware::specs::Registers::written, hardware::specs::Registers::flushed, crate::specs::Bus::flushing, crate::specs::Line::settled, crate::specs::Line::reached, crate::specs::Line::settle_us, crate::specs::Bus::wait, crate::specs::Bus::get, hardware::specs::Asked::fits, crate::specs::Line::valid_line, crate::specs::Line::valid_goal, hardware::specs::Registers::outcome))]
-fn after_pause(ctl: u32, bits: u8, us: u8) -> Quick
+fn paused(ctl: u32, bits: u8, us: u8) -> Quick
     ensures { (l : Layout) → QuickBy l (line_of ctl bits (Line.Pause us)) Answer.Done result }
 {
     if us < 6 {
@@ -167,13 +167,13 @@ fn done(l: Layout, ctl: u32, bits: u8, line: Line) -> Quick
 {
     match line {
         Line::Look => Quick::Slow,
-        Line::Pause(us) => after_pause(ctl, bits, us),
+        Line::Pause(us) => paused(ctl, bits, us),
         Line::Sample => Quick::Slow,
         Line::Ack(_) => Quick::Slow,
         Line::Rest(_) => Quick::Slow,
-        Line::Write(g) => after_write(ctl, bits, g),
+        Line::Write(g) => written(ctl, bits, g),
         Line::Flush(_) => Quick::Slow,
-        Line::Settle(g) => after_settle(l, ctl, bits, g),
+        Line::Settle(g) => settled(l, ctl, bits, g),
         Line::Check => Quick::Slow,
         Line::Rise(_) => Quick::Slow,
     }

@@ -108,11 +108,11 @@ abbrev pub moved_block : State → Access → Job → Block
 moved_block s x next = block_of (asked_of x 0) (with_job s next)
 
 -- a call's request with its limits
-pub record TermsAs (v : Bool) (r : Request) (attempts transfers : ℕ) (t : Terms) : Type 0 where
+pub record TermsAs (v : Bool) (r : Request) (most all : ℕ) (t : Terms) : Type 0 where
   pub held : t.held ≡ v
   pub request : t.request ≡ r
-  pub tries : t.tries ≡ attempts
-  pub cap : t.cap ≡ transfers
+  pub tries : t.tries ≡ most
+  pub cap : t.cap ≡ all
 
 abbrev pub TransferTerms : Port → Meter → State → Terms → Type 0
 TransferTerms port m s t = TermsAs (valid_operands port (request_in s) m) (request_in s) (limit_of (request_in s)) (limit_of (request_in s)) t

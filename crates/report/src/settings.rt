@@ -91,8 +91,8 @@ fn defaults() -> Settings {
 // The first place of the byte, or the text's length.
 #[tactic(auto, using(crate::proofs::Laws::place_end, crate::proofs::Laws::place_found, crate::proofs::Laws::place_next))]
 fn find(text: &[u8], b: u8) -> usize
-    ensures yields { result ≡ place_of b text.now }
-    ensures limits { result ≤ length text.now }
+    ensures place { result ≡ place_of b text.now }
+    ensures within { result ≤ length text.now }
 {
     let mut i = 0;
     while i < text.len() {

@@ -1,4 +1,4 @@
 use Rattle.bus.proofs.quick.value.Goals as goal
 
 pub returns-in-Flush : goal.returns-in-Flush
-returns-in-Flush c = rw c.in-Flush.is (c.after_flush.ensures c.args.v)
+returns-in-Flush c = rw c.in-Flush.is (c.flushed.ensures c.args.v)

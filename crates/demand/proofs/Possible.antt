@@ -42,7 +42,7 @@ use Rattle.bench.specs.Mux.{has_mux, joins}
 use Rattle.demand.proofs.AtOnce.{at_once_stays}
 use Rattle.demand.proofs.AtOnceCalls.{AtOnces, transferred_at_once, identify_at_once, page_at_once, rate_at_once, light_at_once}
 
--- each of the at_once answers works
+-- each of the at-once answers works
 at_once_works : (x : Access) → Works x (at_once x)
 unfolding at_once
 at_once_works (Read r) = at_once_stays r _ refl
@@ -79,7 +79,7 @@ dones_length : (n : ℕ) → length (dones n) ≡ n
 dones_length zero = refl
 dones_length (suc n) = ap suc (dones_length n)
 
--- a run with the at_once answers
+-- a run with the at-once answers
 abbrev pub prompt_run : {A : Type 0} → Port → Prog A → Bench → Start → BenchRun BenchWorld A
 prompt_run port p b start = run (layout_of port.family) (machine port) (fixed at_once) p (at_start start b) []
 

@@ -109,7 +109,7 @@ module _ {A : Type 0} (port : Port) (p : Prog A) (b : Bench) (start : Start) (mo
   list_possible h = (prompt_list, list_meets h, list_long, list_finishes)
 
 module _ (q : Sequence) (port : Port) (b : Bench) (start : Start) where
-  -- a whole identification with the at_once answers
+  -- a whole identification with the at-once answers
   abbrev pub prompt : BenchRun BenchWorld (R Identity)
   prompt = prompt_run port (identify q port) b start
 

@@ -17,17 +17,14 @@ use Rattle.hardware.proofs.Longest.{Falls, lasting_falls, Accepts, steps_few}
 use Rattle.hardware.proofs.Ends.{run_ends, ask_ends, ends_erase}
 use Rattle.acquire.specs.declared.acquire.Acquire.{Acquire}
 use Rattle.acquire.specs.declared.release.Release.{Release}
-use Rattle.acquire.specs.declared.calls.AcquireCall.TheVariants.{Going as AcquireGoing, Over as AcquireOver}
-use Rattle.acquire.specs.declared.calls.AcquireTold.{AcquireTold}
-use Rattle.acquire.specs.declared.calls.AcquireTold.TheVariants.{Ask as AcquireAsk, End as AcquireEnd, Refused as AcquireRefused}
-use Rattle.acquire.specs.declared.calls.ReleaseCall.TheVariants.{Going as ReleaseGoing, Over as ReleaseOver}
-use Rattle.acquire.specs.declared.calls.ReleaseTold.{ReleaseTold}
-use Rattle.acquire.specs.declared.calls.ReleaseTold.TheVariants.{Ask as ReleaseAsk, End as ReleaseEnd, Refused as ReleaseRefused}
 use Rattle.hostif.specs.Acquire.{acquire, release}
 use Rattle.acquire.specs.Acquire.{rest_acquire, rest_release}
 use Rattle.acquire.specs.Calls.{open_acquire, step_acquire, said_acquire, stands_acquire, open_release, step_release, said_release, stands_release, follows_acquire, follows_release}
 use Rattle.acquire.proofs.Ends.{ACQUIRE_STEPS, acquire_ends, RELEASE_STEPS, release_ends, acquire_after, release_after, acquire_rest_ends, release_rest_ends}
 use Rattle.hardware.specs.Promise.{Keeps}
+use Rattle.acquire.specs.Aliases.{ReleaseTold, AcquireTold}
+use Rattle.hardware.specs.declared.Told.TheVariants.{Ask, End}
+use Rattle.std.specs.Prelude.{Ok, Err, Some, None}
 
 pub acquire_runs : (family device lan mask : ℕ) (r : AcquireTold) → said_acquire r ≡ open_acquire family device lan mask → (l : List Answer)
     → run_asked (said_acquire r) l ≡ and_then (open_port family device lan) (λ port. yes (run (acquire port mask) l))
@@ -39,17 +36,17 @@ pub acquire_finishes : (port : Port) (mask : ℕ) (l : List Answer) → ACQUIRE_
 acquire_finishes port mask l h w = run_ends (acquire port mask) (ACQUIRE_STEPS port.family) l (acquire_ends port mask) h w
 
 -- a state that was handed out, with any answer of the kind that its access awaits, is not refused
-pub acquire_accepts : (x : Access) (port : Port) (hw : ℕ) (t : Acquire) (a : Answer) → stands_acquire (AcquireAsk x (AcquireGoing port hw t))
-    → fits x a ≡ true → step_acquire (AcquireGoing port hw t) a ≡ yes (erase (rest_acquire port hw t a))
+pub acquire_accepts : (x : Access) (port : Port) (hw : ℕ) (t : Acquire) (a : Answer) → stands_acquire (Ok (Ask x (Some (port, hw, t))))
+    → fits x a ≡ true → step_acquire (Some (port, hw, t)) a ≡ yes (erase (rest_acquire port hw t a))
 unfolding stands_acquire step_acquire admitting question
 acquire_accepts x port hw t a h e = rw (h.1, ← h.0, e)
 
 pub acquire_steps_on : StepsOn said_acquire follows_acquire stands_acquire
 unfolding follows_acquire said_acquire stands_acquire AwaitedIn Awaited left_asked_after left_after IfYes Asks
-acquire_steps_on (AcquireAsk y (AcquireGoing port hw t)) u a h k w = (k.yields ∙ acquire_accepts y port hw t a h (is_true (fits y a) w.0), k.limits, tt)
-acquire_steps_on (AcquireAsk y AcquireOver) u a h k w = absurd h
-acquire_steps_on (AcquireEnd o) u a h k w = absurd k
-acquire_steps_on (AcquireRefused q) u a h k w = absurd k
+acquire_steps_on (Ok (Ask y (Some (port, hw, t)))) u a h k w = (k.yields ∙ acquire_accepts y port hw t a h (is_true (fits y a) w.0), k.limits, tt)
+acquire_steps_on (Ok (Ask y None)) u a h k w = absurd h
+acquire_steps_on (Ok (End o)) u a h k w = absurd k
+acquire_steps_on (Err q) u a h k w = absurd k
 
 -- its number falls at every accepted step
 pub acquire_falls : Falls said_acquire follows_acquire stands_acquire
@@ -69,17 +66,17 @@ pub release_finishes : (port : Port) (mask : ℕ) (l : List Answer) → RELEASE_
     → (v : R (Unit {0})) × ((run (release port mask) l).status ≡ ended v)
 release_finishes port mask l h w = run_ends (release port mask) (RELEASE_STEPS port.family) l (release_ends port mask) h w
 
-pub release_accepts : (x : Access) (port : Port) (hw : ℕ) (t : Release) (a : Answer) → stands_release (ReleaseAsk x (ReleaseGoing port hw t))
-    → fits x a ≡ true → step_release (ReleaseGoing port hw t) a ≡ yes (erase (rest_release port hw t a))
+pub release_accepts : (x : Access) (port : Port) (hw : ℕ) (t : Release) (a : Answer) → stands_release (Ok (Ask x (Some (port, hw, t))))
+    → fits x a ≡ true → step_release (Some (port, hw, t)) a ≡ yes (erase (rest_release port hw t a))
 unfolding stands_release step_release admitting question
 release_accepts x port hw t a h e = rw (h.1, ← h.0, e)
 
 pub release_steps_on : StepsOn said_release follows_release stands_release
 unfolding follows_release said_release stands_release AwaitedIn Awaited left_asked_after left_after IfYes Asks
-release_steps_on (ReleaseAsk y (ReleaseGoing port hw t)) u a h k w = (k.yields ∙ release_accepts y port hw t a h (is_true (fits y a) w.0), k.limits, tt)
-release_steps_on (ReleaseAsk y ReleaseOver) u a h k w = absurd h
-release_steps_on (ReleaseEnd o) u a h k w = absurd k
-release_steps_on (ReleaseRefused q) u a h k w = absurd k
+release_steps_on (Ok (Ask y (Some (port, hw, t)))) u a h k w = (k.yields ∙ release_accepts y port hw t a h (is_true (fits y a) w.0), k.limits, tt)
+release_steps_on (Ok (Ask y None)) u a h k w = absurd h
+release_steps_on (Ok (End o)) u a h k w = absurd k
+release_steps_on (Err q) u a h k w = absurd k
 
 pub release_falls : Falls said_release follows_release stands_release
 release_falls = lasting_falls said_release follows_release stands_release release_steps_on
@@ -90,15 +87,15 @@ pub release_driven : (family device lan mask : ℕ) (t : ReleaseTold) → Keeps 
 release_driven family device lan mask t k ks kept w = opened_runs said_release follows_release stands_release release_steps_on t ks k kept w ∙ release_runs family device lan mask t k.yields (answers_of ks)
 
 -- from any state that passes question 10, whoever made it, a call takes at most so many steps more
-pub acquire_lasts : (x : Access) (port : Port) (hw : ℕ) (s : Acquire) (ks : List (Exchange AcquireTold)) → stands_acquire (AcquireAsk x (AcquireGoing port hw s))
-    → AllKept (Accepts said_acquire follows_acquire) (AcquireAsk x (AcquireGoing port hw s)) ks → Lasts said_acquire (AcquireAsk x (AcquireGoing port hw s)) ks (suc (acquire_after port.family s))
+pub acquire_lasts : (x : Access) (port : Port) (hw : ℕ) (s : Acquire) (ks : List (Exchange AcquireTold)) → stands_acquire (Ok (Ask x (Some (port, hw, s))))
+    → AllKept (Accepts said_acquire follows_acquire) (Ok (Ask x (Some (port, hw, s)))) ks → Lasts said_acquire (Ok (Ask x (Some (port, hw, s)))) ks (suc (acquire_after port.family s))
 unfolding said_acquire IfYes
 acquire_lasts x port hw s ks h k =
-    steps_few said_acquire follows_acquire stands_acquire acquire_steps_on (AcquireAsk x (AcquireGoing port hw s)) ks (suc (acquire_after port.family s)) h k
+    steps_few said_acquire follows_acquire stands_acquire acquire_steps_on (Ok (Ask x (Some (port, hw, s)))) ks (suc (acquire_after port.family s)) h k
     (ask_ends x _ (acquire_after port.family s) (λ a. ends_erase _ _ (acquire_rest_ends port hw s a)))
 
-pub release_lasts : (x : Access) (port : Port) (hw : ℕ) (s : Release) (ks : List (Exchange ReleaseTold)) → stands_release (ReleaseAsk x (ReleaseGoing port hw s))
-    → AllKept (Accepts said_release follows_release) (ReleaseAsk x (ReleaseGoing port hw s)) ks → Lasts said_release (ReleaseAsk x (ReleaseGoing port hw s)) ks (suc (release_after s))
+pub release_lasts : (x : Access) (port : Port) (hw : ℕ) (s : Release) (ks : List (Exchange ReleaseTold)) → stands_release (Ok (Ask x (Some (port, hw, s))))
+    → AllKept (Accepts said_release follows_release) (Ok (Ask x (Some (port, hw, s)))) ks → Lasts said_release (Ok (Ask x (Some (port, hw, s)))) ks (suc (release_after s))
 unfolding said_release IfYes
 release_lasts x port hw s ks h k =
-    steps_few said_release follows_release stands_release release_steps_on (ReleaseAsk x (ReleaseGoing port hw s)) ks (suc (release_after s)) h k (ask_ends x _ (release_after s) (λ a. ends_erase _ _ (release_rest_ends port hw s a)))
+    steps_few said_release follows_release stands_release release_steps_on (Ok (Ask x (Some (port, hw, s)))) ks (suc (release_after s)) h k (ask_ends x _ (release_after s) (λ a. ends_erase _ _ (release_rest_ends port hw s a)))

@@ -1,3 +1,4 @@
 pub mod Acquire
 pub mod Calls
 pub mod MuxFails
+pub mod Aliases

@@ -1,14 +1,16 @@
 // A mask is acquired. With TOKEN, the bits of SW_FW_SYNC and then the firmware's token; while the firmware is busy the
 // bits are given back, and both are asked for again 5 ms later, 1,000 tries in all.
+#![tactic(auto, using(hardware::proofs::Prog::going, hardware::proofs::Prog::over, crate::proofs::Laws::token_alone, crate::proofs::Laws::token_bits, hardware::proofs::Laws::one_less, hardware::proofs::Laws::both_true), unfolding(crate::specs::Acquire::acquire_next, crate::specs::Acquire::access_acquire, crate::specs::Acquire::access_acquire_at, crate::specs::Acquire::rest_acquire, crate::specs::Acquire::rest_acquire_at, crate::specs::Acquire::release_next, crate::specs::Acquire::access_release, crate::specs::Acquire::rest_release, sync::specs::Resource::acquire_bits_next, sync::specs::Resource::release_bits_next, hostif::specs::Hostif::token_next, hardware::specs::Prog::followed, hardware::specs::Prog::erase, hardware::specs::Prog::or_err, hardware::specs::Prog::pick, hardware::specs::Registers::reply, hostif::specs::Acquire::hw_of, hostif::specs::Acquire::with_bits, hostif::specs::Acquire::acquired_all, hostif::specs::Acquire::not_granted, hostif::specs::Acquire::given_back, hostif::specs::Acquire::token_seen, hostif::specs::Acquire::gave, hostif::specs::Acquire::give_bits, hostif::specs::Acquire::token_given, hostif::specs::Acquire::acquire, hostif::specs::Acquire::release, crate::specs::Acquire::valid_acquire_at, crate::specs::Acquire::valid_acquire, crate::specs::Acquire::valid_release, crate::specs::Calls::said_acquire, crate::specs::Calls::said_release, crate::specs::Calls::step_acquire, crate::specs::Calls::step_release, crate::specs::Calls::open_acquire, crate::specs::Calls::open_release, hardware::specs::Asked::question, hardware::specs::Asked::and_then, hardware::specs::Asked::opened, crate::specs::Acquire::valid_acquire_next, sync::specs::Resource::valid_release_bits_next, hostif::specs::Hostif::valid_token_next, hostif::specs::Acquire::try_token, sync::specs::Resource::acquire_bits, hostif::specs::Acquire::after_bits, sync::specs::Resource::valid_acquire_bits_next, hostif::specs::Acquire::acquire_token, hardware::specs::Failures::failure_of))]
+
 ghost use Rattle.std.specs.Prelude.{◌<◌, ◌≤◌, ◌≡◌, true};
 ghost use Rattle.hardware.specs.Prog.{erase, followed, or_err};
-ghost use Rattle.hardware.specs.Registers.{flag};
+ghost use Rattle.hardware.specs.Registers.{reply};
 ghost use Rattle.sync.specs.Resource.{acquire_bits, acquire_bits_next, valid_acquire_bits_next, release_bits_next, valid_release_bits_next};
 ghost use Rattle.hostif.specs.Hostif.{token_next, valid_token_next};
 ghost use Rattle.hostif.specs.Acquire.{TOKEN_TRIES, hw_of, not_granted, given_back, token_seen, acquire_token, try_token, after_bits, acquire};
 ghost use Rattle.acquire.specs.Acquire.{access_acquire_at, access_acquire, rest_acquire_at, rest_acquire, acquire_next, valid_acquire_at, valid_acquire, valid_acquire_next};
 
-use hardware::{Access, Answer, Error, Flag, Millis, Outcome, Port};
+use hardware::{Access, Answer, Error, Millis, Next, Port, R};
 use hostif::token::{Token, TokenNext};
 use sync::acquire_bits::{AcquireBits, AcquireBitsNext};
 use sync::regs::TOKEN;
@@ -23,7 +25,7 @@ pub const TOKEN_DELAY_MS: u16 = 5;
 pub enum Stage {
     Bits(AcquireBits, bool),
     Token(Token),
-    Releasing(ReleaseBits, Flag),
+    Releasing(ReleaseBits, R<bool>),
     Waiting,
 }
 
@@ -34,55 +36,47 @@ pub struct Acquire {
     pub stage: Stage,
 }
 
-#[derive(Clone, Copy)]
-pub enum AcquireNext {
-    Going(Acquire),
-    End(Outcome),
-}
+pub type AcquireNext = Next<Acquire, R<()>>;
 
 // The mask's bits of SW_FW_SYNC.
-#[tactic(auto, unfolding(crate::specs::Acquire::acquire_next, crate::specs::Acquire::access_acquire, crate::specs::Acquire::access_acquire_at, crate::specs::Acquire::rest_acquire, crate::specs::Acquire::rest_acquire_at, crate::specs::Acquire::release_next, crate::specs::Acquire::access_release, crate::specs::Acquire::rest_release, sync::specs::Resource::acquire_bits_next, sync::specs::Resource::release_bits_next, hostif::specs::Hostif::token_next, hardware::specs::Prog::followed, hardware::specs::Prog::erase, hardware::specs::Prog::or_err, hardware::specs::Prog::pick, hardware::specs::Registers::outcome, hardware::specs::Registers::flag, hostif::specs::Acquire::hw_of, hostif::specs::Acquire::with_bits, hostif::specs::Acquire::acquired_all, hostif::specs::Acquire::not_granted, hostif::specs::Acquire::given_back, hostif::specs::Acquire::token_seen, hostif::specs::Acquire::gave, hostif::specs::Acquire::give_bits, hostif::specs::Acquire::token_given, hostif::specs::Acquire::acquire, hostif::specs::Acquire::release, crate::specs::Acquire::valid_acquire_at, crate::specs::Acquire::valid_acquire, crate::specs::Acquire::valid_release, crate::specs::Calls::said_acquire, crate::specs::Calls::said_release, crate::specs::Calls::step_acquire, crate::specs::Calls::step_release, crate::specs::Calls::open_acquire, crate::specs::Calls::open_release, hardware::specs::Asked::question, hardware::specs::Asked::and_then, hardware::specs::Asked::port_opened))]
 pub fn hw(mask: u32) -> u32
     ensures { result ≡ hw_of mask }
 {
     mask & !TOKEN
 }
 
-#[tactic(auto, unfolding(hostif::specs::Acquire::not_granted, hardware::specs::Registers::flag, hardware::specs::Registers::outcome, hardware::specs::Prog::erase, crate::specs::Acquire::acquire_next, crate::specs::Acquire::access_acquire, crate::specs::Acquire::access_acquire_at, crate::specs::Acquire::rest_acquire, crate::specs::Acquire::rest_acquire_at, crate::specs::Acquire::valid_acquire_next, crate::specs::Acquire::valid_acquire, crate::specs::Acquire::valid_acquire_at, hardware::specs::Prog::pick))]
-fn token_refused(port: Port, hw: u32, left: u32, g: Flag) -> AcquireNext
-    ensures yields { acquire_next port hw result ≡ erase (not_granted (λ _. acquire_token port hw left) (flag g)) }
+fn token_refused(port: Port, hw: u32, left: u32, g: R<bool>) -> AcquireNext
+    ensures yields { acquire_next port hw result ≡ erase (not_granted (λ _. acquire_token port hw left) (reply g)) }
     ensures limits { left < TOKEN_TRIES → valid_acquire_next port result ≡ true }
 {
     match g {
-        Flag::Ok(_) => AcquireNext::Going(Acquire {
+        Ok(_) => Next::Going(Acquire {
             left,
             stage: Stage::Waiting,
         }),
-        Flag::Err(e) => AcquireNext::End(Outcome::Err(e)),
+        Err(e) => Next::End(Err(e)),
     }
 }
 
-#[tactic(auto, using(hardware::proofs::Prog::going), unfolding(crate::specs::Acquire::acquire_next, crate::specs::Acquire::access_acquire, crate::specs::Acquire::access_acquire_at, crate::specs::Acquire::rest_acquire, crate::specs::Acquire::rest_acquire_at, crate::specs::Acquire::release_next, crate::specs::Acquire::access_release, crate::specs::Acquire::rest_release, sync::specs::Resource::acquire_bits_next, sync::specs::Resource::release_bits_next, hostif::specs::Hostif::token_next, crate::specs::Acquire::valid_acquire_next, crate::specs::Acquire::valid_acquire, crate::specs::Acquire::valid_acquire_at, hardware::specs::Prog::pick, sync::specs::Resource::valid_release_bits_next, hardware::specs::Prog::followed, hardware::specs::Prog::or_err, hardware::specs::Registers::outcome, hardware::specs::Prog::erase))]
-fn releasing(port: Port, hw: u32, left: u32, g: Flag, n: ReleaseBitsNext) -> AcquireNext
-    ensures yields { acquire_next port hw result ≡ followed (release_bits_next port hw n) (or_err (λ _. not_granted (λ _. acquire_token port hw left) (flag g))) }
+fn releasing(port: Port, hw: u32, left: u32, g: R<bool>, n: ReleaseBitsNext) -> AcquireNext
+    ensures yields { acquire_next port hw result ≡ followed (release_bits_next port hw n) (or_err (λ _. not_granted (λ _. acquire_token port hw left) (reply g))) }
     ensures limits { left < TOKEN_TRIES → valid_release_bits_next n ≡ true → valid_acquire_next port result ≡ true }
 {
     match n {
-        ReleaseBitsNext::Going(t) => AcquireNext::Going(Acquire {
+        Next::Going(t) => Next::Going(Acquire {
             left,
             stage: Stage::Releasing(t, g),
         }),
-        ReleaseBitsNext::End(o) => match o {
-            Outcome::Ok => token_refused(port, hw, left, g),
-            Outcome::Err(e) => AcquireNext::End(Outcome::Err(e)),
+        Next::End(o) => match o {
+            Ok(()) => token_refused(port, hw, left, g),
+            Err(e) => Next::End(Err(e)),
         },
     }
 }
 
 // The token did not come: the bits go back first.
-#[tactic(auto, using(hardware::proofs::Prog::over), unfolding(hostif::specs::Acquire::given_back, hostif::specs::Acquire::with_bits, hardware::specs::Prog::pick, hardware::specs::Prog::or_err))]
-fn give_back(port: Port, hw: u32, left: u32, g: Flag) -> AcquireNext
-    ensures yields { acquire_next port hw result ≡ erase (given_back port hw (λ _. acquire_token port hw left) (flag g)) }
+fn give_back(port: Port, hw: u32, left: u32, g: R<bool>) -> AcquireNext
+    ensures yields { acquire_next port hw result ≡ erase (given_back port hw (λ _. acquire_token port hw left) (reply g)) }
     ensures limits { left < TOKEN_TRIES → valid_acquire_next port result ≡ true }
 {
     if hw == 0 {
@@ -91,37 +85,34 @@ fn give_back(port: Port, hw: u32, left: u32, g: Flag) -> AcquireNext
     releasing(port, hw, left, g, sync::release_bits::open(port, hw))
 }
 
-#[tactic(auto, unfolding(hardware::specs::Registers::flag, hostif::specs::Acquire::token_seen, hostif::specs::Acquire::acquired_all, hardware::specs::Prog::erase, crate::specs::Acquire::acquire_next, hardware::specs::Registers::outcome, crate::specs::Acquire::valid_acquire_next))]
-fn token_done(port: Port, hw: u32, left: u32, g: Flag) -> AcquireNext
-    ensures yields { acquire_next port hw result ≡ erase (token_seen port hw (λ _. acquire_token port hw left) (flag g)) }
+fn token_done(port: Port, hw: u32, left: u32, g: R<bool>) -> AcquireNext
+    ensures yields { acquire_next port hw result ≡ erase (token_seen port hw (λ _. acquire_token port hw left) (reply g)) }
     ensures limits { left < TOKEN_TRIES → valid_acquire_next port result ≡ true }
 {
     match g {
-        Flag::Ok(b) => {
+        Ok(b) => {
             if b {
-                return AcquireNext::End(Outcome::Ok);
+                return Next::End(Ok(()));
             }
-            give_back(port, hw, left, Flag::Ok(false))
+            give_back(port, hw, left, Ok(false))
         }
-        Flag::Err(e) => give_back(port, hw, left, Flag::Err(e)),
+        Err(e) => give_back(port, hw, left, Err(e)),
     }
 }
 
-#[tactic(auto, using(hardware::proofs::Prog::going), unfolding(crate::specs::Acquire::acquire_next, crate::specs::Acquire::access_acquire, crate::specs::Acquire::access_acquire_at, crate::specs::Acquire::rest_acquire, crate::specs::Acquire::rest_acquire_at, crate::specs::Acquire::release_next, crate::specs::Acquire::access_release, crate::specs::Acquire::rest_release, sync::specs::Resource::acquire_bits_next, sync::specs::Resource::release_bits_next, hostif::specs::Hostif::token_next, crate::specs::Acquire::valid_acquire_next, crate::specs::Acquire::valid_acquire, crate::specs::Acquire::valid_acquire_at, hardware::specs::Prog::pick, hostif::specs::Hostif::valid_token_next, hardware::specs::Prog::followed))]
 fn token(port: Port, hw: u32, left: u32, n: TokenNext) -> AcquireNext
     ensures yields { acquire_next port hw result ≡ followed (token_next port true n) (token_seen port hw (λ _. acquire_token port hw left)) }
     ensures limits { left < TOKEN_TRIES → valid_token_next port n ≡ true → valid_acquire_next port result ≡ true }
 {
     match n {
-        TokenNext::Going(t) => AcquireNext::Going(Acquire {
+        Next::Going(t) => Next::Going(Acquire {
             left,
             stage: Stage::Token(t),
         }),
-        TokenNext::End(g) => token_done(port, hw, left, g),
+        Next::End(g) => token_done(port, hw, left, g),
     }
 }
 
-#[tactic(auto, using(hardware::proofs::Prog::over), unfolding(crate::specs::Acquire::rest_acquire, crate::specs::Acquire::rest_acquire_at, crate::specs::Acquire::access_acquire, crate::specs::Acquire::access_acquire_at, crate::specs::Acquire::rest_release, crate::specs::Acquire::access_release, hostif::specs::Acquire::try_token, crate::specs::Acquire::valid_acquire_at, crate::specs::Acquire::valid_release, crate::specs::Calls::step_acquire, crate::specs::Calls::step_release, crate::specs::Calls::open_acquire, crate::specs::Calls::open_release, hardware::specs::Asked::question, hardware::specs::Asked::and_then, hardware::specs::Asked::port_opened, sync::specs::Resource::acquire_bits, hostif::specs::Acquire::token_given, hostif::specs::Acquire::gave))]
 fn try_token(port: Port, hw: u32, left: u32) -> AcquireNext
     ensures yields { acquire_next port hw result ≡ erase (try_token port hw left) }
     ensures limits { left < TOKEN_TRIES → valid_acquire_next port result ≡ true }
@@ -130,29 +121,27 @@ fn try_token(port: Port, hw: u32, left: u32) -> AcquireNext
 }
 
 // token: whether it comes after the bits.
-#[tactic(auto, using(hardware::proofs::Prog::going), unfolding(hardware::specs::Prog::followed, hardware::specs::Prog::or_err, hardware::specs::Registers::outcome, sync::specs::Resource::acquire_bits_next, hostif::specs::Acquire::after_bits, hardware::specs::Prog::pick, crate::specs::Acquire::acquire_next, crate::specs::Acquire::access_acquire, crate::specs::Acquire::access_acquire_at, crate::specs::Acquire::rest_acquire, crate::specs::Acquire::rest_acquire_at, crate::specs::Acquire::valid_acquire_next, crate::specs::Acquire::valid_acquire, crate::specs::Acquire::valid_acquire_at, sync::specs::Resource::valid_acquire_bits_next, hostif::specs::Acquire::acquired_all, hardware::specs::Prog::erase))]
 fn bits(port: Port, hw: u32, left: u32, token: bool, n: AcquireBitsNext) -> AcquireNext
     ensures yields { acquire_next port hw result ≡ followed (acquire_bits_next port hw n) (or_err (λ _. after_bits port hw left token)) }
     ensures limits { left < TOKEN_TRIES → valid_acquire_bits_next port.family n ≡ true → valid_acquire_next port result ≡ true }
 {
     match n {
-        AcquireBitsNext::Going(t) => AcquireNext::Going(Acquire {
+        Next::Going(t) => Next::Going(Acquire {
             left,
             stage: Stage::Bits(t, token),
         }),
-        AcquireBitsNext::End(o) => match o {
-            Outcome::Ok => {
+        Next::End(o) => match o {
+            Ok(()) => {
                 if token {
                     return try_token(port, hw, left);
                 }
-                AcquireNext::End(Outcome::Ok)
+                Next::End(Ok(()))
             }
-            Outcome::Err(e) => AcquireNext::End(Outcome::Err(e)),
+            Err(e) => Next::End(Err(e)),
         },
     }
 }
 
-#[tactic(auto, unfolding(sync::specs::Resource::acquire_bits))]
 fn first(port: Port, hw: u32) -> AcquireBitsNext
     ensures yields { acquire_bits_next port hw result ≡ erase (acquire_bits port hw) }
     ensures limits { valid_acquire_bits_next port.family result ≡ true }
@@ -162,13 +151,12 @@ fn first(port: Port, hw: u32) -> AcquireBitsNext
 }
 
 // A try for the bits and the token.
-#[tactic(auto, using(crate::proofs::Laws::token_alone, crate::proofs::Laws::token_bits, hardware::proofs::Laws::one_less, hardware::proofs::Prog::over), unfolding(hostif::specs::Acquire::acquire_token, hardware::specs::Prog::erase, crate::specs::Acquire::acquire_next, hardware::specs::Registers::outcome, crate::specs::Acquire::valid_acquire_next, hardware::specs::Failures::failure_of, hostif::specs::Acquire::after_bits, hardware::specs::Prog::pick))]
 fn open_token(port: Port, hw: u32, tries: u32) -> AcquireNext
     ensures yields { acquire_next port hw result ≡ erase (acquire_token port hw tries) }
     ensures limits { tries ≤ TOKEN_TRIES → valid_acquire_next port result ≡ true }
 {
     if tries == 0 {
-        return AcquireNext::End(Outcome::Err(Error::Firmware(
+        return Next::End(Err(Error::Firmware(
             hostif::token::TOKEN_COMMAND,
             hostif::token::TOKEN_BUSY,
         )));
@@ -191,7 +179,6 @@ pub fn open(port: Port, mask: u32) -> AcquireNext
     open_token(port, m, TOKEN_TRIES)
 }
 
-#[tactic(auto, unfolding(crate::specs::Acquire::access_acquire_at))]
 fn stage_access(port: Port, hw: u32, s: Stage) -> Access
     ensures { result ≡ access_acquire_at port hw s }
 {
@@ -203,7 +190,6 @@ fn stage_access(port: Port, hw: u32, s: Stage) -> Access
     }
 }
 
-#[tactic(auto, unfolding(crate::specs::Acquire::rest_acquire, crate::specs::Acquire::rest_acquire_at, crate::specs::Acquire::access_acquire, crate::specs::Acquire::access_acquire_at, crate::specs::Acquire::rest_release, crate::specs::Acquire::access_release, hostif::specs::Acquire::try_token, crate::specs::Acquire::valid_acquire_at, crate::specs::Acquire::valid_release, crate::specs::Calls::step_acquire, crate::specs::Calls::step_release, crate::specs::Calls::open_acquire, crate::specs::Calls::open_release, hardware::specs::Asked::question, hardware::specs::Asked::and_then, hardware::specs::Asked::port_opened, sync::specs::Resource::acquire_bits, hostif::specs::Acquire::token_given, hostif::specs::Acquire::gave))]
 pub fn access(port: Port, hw: u32, s: Acquire) -> Access
     ensures { result ≡ access_acquire port hw s }
 {
@@ -211,7 +197,6 @@ pub fn access(port: Port, hw: u32, s: Acquire) -> Access
     stage_access(port, hw, stage)
 }
 
-#[tactic(auto, using(hardware::proofs::Prog::over), unfolding(crate::specs::Acquire::rest_acquire_at, crate::specs::Acquire::valid_acquire_at))]
 fn stage_step(port: Port, hw: u32, left: u32, s: Stage, a: Answer) -> AcquireNext
     ensures yields { acquire_next port hw result ≡ erase (rest_acquire_at port hw left s a) }
     ensures limits { left < TOKEN_TRIES → valid_acquire_at port s ≡ true → valid_acquire_next port result ≡ true }
@@ -236,7 +221,6 @@ fn stage_step(port: Port, hw: u32, left: u32, s: Stage, a: Answer) -> AcquireNex
     }
 }
 
-#[tactic(auto, using(hardware::proofs::Laws::both_true), unfolding(crate::specs::Acquire::rest_acquire, crate::specs::Acquire::rest_acquire_at, crate::specs::Acquire::access_acquire, crate::specs::Acquire::access_acquire_at, crate::specs::Acquire::rest_release, crate::specs::Acquire::access_release, hostif::specs::Acquire::try_token, crate::specs::Acquire::valid_acquire_at, crate::specs::Acquire::valid_release, crate::specs::Calls::step_acquire, crate::specs::Calls::step_release, crate::specs::Calls::open_acquire, crate::specs::Calls::open_release, hardware::specs::Asked::question, hardware::specs::Asked::and_then, hardware::specs::Asked::port_opened, sync::specs::Resource::acquire_bits, hostif::specs::Acquire::token_given, hostif::specs::Acquire::gave, crate::specs::Acquire::valid_acquire))]
 pub fn step(port: Port, hw: u32, s: Acquire, a: Answer) -> AcquireNext
     ensures yields { acquire_next port hw result ≡ erase (rest_acquire port hw s a) }
     ensures limits { valid_acquire port s ≡ true → valid_acquire_next port result ≡ true }
@@ -245,7 +229,6 @@ pub fn step(port: Port, hw: u32, s: Acquire, a: Answer) -> AcquireNext
     stage_step(port, hw, s.left, stage, a)
 }
 
-#[tactic(auto, unfolding(crate::specs::Acquire::valid_acquire_at))]
 fn stage_valid(port: Port, s: Stage) -> bool
     ensures { result ≡ valid_acquire_at port s }
 {
@@ -258,7 +241,6 @@ fn stage_valid(port: Port, s: Stage) -> bool
     }
 }
 
-#[tactic(auto, unfolding(crate::specs::Acquire::valid_acquire, hardware::specs::Prog::pick))]
 pub fn valid(port: Port, s: Acquire) -> bool
     ensures { result ≡ valid_acquire port s }
 {

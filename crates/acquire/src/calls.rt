@@ -1,4 +1,6 @@
 // The stepwise calls of `acquire` and `release`: an opening names the first access, and each step the next, or the end.
+#![tactic(auto, using(hardware::proofs::Laws::opened_valid, hardware::proofs::Laws::admits_no, hardware::proofs::Laws::admits_valid, hardware::proofs::Laws::admits_yes, hardware::proofs::Laws::both_true), unfolding(crate::specs::Calls::said_acquire, crate::specs::Acquire::acquire_next, crate::specs::Calls::stands_acquire, crate::specs::Acquire::valid_acquire_next, crate::specs::Calls::valid_acquire_call, hardware::specs::Prog::pick, crate::specs::Calls::open_acquire, hardware::specs::Asked::and_then, hardware::specs::Asked::opened, crate::specs::Calls::step_acquire, crate::specs::Calls::said_release, crate::specs::Acquire::release_next, crate::specs::Calls::stands_release, crate::specs::Acquire::valid_release_next, crate::specs::Calls::valid_release_call, crate::specs::Calls::open_release, crate::specs::Calls::step_release))]
+
 ghost use Rattle.std.specs.Prelude.{◌≡◌, true};
 ghost use Rattle.hardware.specs.Asked.{yes, valid_port};
 ghost use Rattle.hardware.specs.Promise.{Keeps};
@@ -7,63 +9,33 @@ ghost use Rattle.acquire.specs.Calls.{open_acquire, valid_acquire_call, step_acq
 
 use crate::acquire::{Acquire, AcquireNext};
 use crate::release::{Release, ReleaseNext};
-use hardware::{Access, Admitted, Answer, Opening, Outcome, Port, Refusal};
+use hardware::{Answer, Next, Port, R, Refusal, Told};
 
-// With the port and the mask's bits of SW_FW_SYNC.
-#[derive(Clone, Copy)]
-pub enum AcquireCall {
-    Going(Port, u32, Acquire),
-    Over,
-}
+// The state of a call, none once it is over: with the port and the mask's bits of SW_FW_SYNC; and so below.
+pub type AcquireCall = Option<(Port, u32, Acquire)>;
 
-#[derive(Clone, Copy)]
-pub enum AcquireTold {
-    Ask(Access, AcquireCall),
-    End(Outcome),
-    Refused(Refusal),
-}
+pub type AcquireTold = Result<Told<AcquireCall, R<()>>, Refusal>;
 
-#[derive(Clone, Copy)]
-pub enum ReleaseCall {
-    Going(Port, u32, Release),
-    Over,
-}
+pub type ReleaseCall = Option<(Port, u32, Release)>;
 
-#[derive(Clone, Copy)]
-pub enum ReleaseTold {
-    Ask(Access, ReleaseCall),
-    End(Outcome),
-    Refused(Refusal),
-}
+pub type ReleaseTold = Result<Told<ReleaseCall, R<()>>, Refusal>;
 
-#[tactic(auto, unfolding(crate::specs::Calls::said_acquire, crate::specs::Acquire::acquire_next, crate::specs::Calls::stands_acquire, crate::specs::Acquire::valid_acquire_next, crate::specs::Calls::valid_acquire_call, hardware::specs::Prog::pick))]
 fn acquire_told(port: Port, hw: u32, n: AcquireNext) -> AcquireTold
     ensures { Keeps (said_acquire result ≡ yes (acquire_next port hw n)) (valid_port port ≡ true → valid_acquire_next port n ≡ true → stands_acquire result) }
 {
     match n {
-        AcquireNext::Going(t) => AcquireTold::Ask(
-            crate::acquire::access(port, hw, t),
-            AcquireCall::Going(port, hw, t),
-        ),
-        AcquireNext::End(o) => AcquireTold::End(o),
+        Next::Going(t) => Ok(Told::Ask(crate::acquire::access(port, hw, t), Some((port, hw, t)))),
+        Next::End(o) => Ok(Told::End(o)),
     }
 }
 
-#[tactic(auto, using(hardware::proofs::Laws::opened_valid), unfolding(crate::specs::Calls::open_acquire, hardware::specs::Asked::and_then, hardware::specs::Asked::port_opened, crate::specs::Calls::said_acquire, crate::specs::Calls::stands_acquire))]
 pub fn acquire_open(family: u32, device: u16, lan: u32, mask: u32) -> AcquireTold
     ensures { Keeps (said_acquire result ≡ open_acquire family device lan mask) (stands_acquire result) }
 {
-    match hardware::open_port(family, device, lan) {
-        Opening::Port(p) => acquire_told(
-            p,
-            crate::acquire::hw(mask),
-            crate::acquire::open(p, mask),
-        ),
-        Opening::Refused(q) => AcquireTold::Refused(q),
-    }
+    let p = hardware::open_port(family, device, lan)?;
+    acquire_told(p, crate::acquire::hw(mask), crate::acquire::open(p, mask))
 }
 
-#[tactic(auto, unfolding(crate::specs::Calls::valid_acquire_call, hardware::specs::Prog::pick))]
 fn valid_acquire(port: Port, t: Acquire) -> bool
     ensures { result ≡ valid_acquire_call port t }
 {
@@ -73,53 +45,31 @@ fn valid_acquire(port: Port, t: Acquire) -> bool
     false
 }
 
-#[tactic(auto, using(hardware::proofs::Laws::admits_no, hardware::proofs::Laws::admits_valid, hardware::proofs::Laws::admits_yes, hardware::proofs::Laws::both_true), unfolding(crate::specs::Calls::step_acquire, crate::specs::Calls::valid_acquire_call, crate::specs::Calls::said_acquire, crate::specs::Calls::stands_acquire))]
 pub fn acquire_step(s: AcquireCall, a: Answer) -> AcquireTold
     ensures { Keeps (said_acquire result ≡ step_acquire s a) (stands_acquire result) }
 {
-    match s {
-        AcquireCall::Going(port, hw, t) => {
-            match hardware::admit(
-                valid_acquire(port, t),
-                crate::acquire::access(port, hw, t),
-                a,
-            ) {
-                Admitted::Yes => acquire_told(port, hw, crate::acquire::step(port, hw, t, a)),
-                Admitted::No(q) => AcquireTold::Refused(q),
-            }
-        }
-        AcquireCall::Over => AcquireTold::Refused(Refusal::Finished),
-    }
+    let (port, hw, acquire) = s.ok_or(Refusal::Finished)?;
+    let valid = valid_acquire(port, acquire);
+    hardware::admit(valid, crate::acquire::access(port, hw, acquire), a)?;
+    acquire_told(port, hw, crate::acquire::step(port, hw, acquire, a))
 }
 
-#[tactic(auto, unfolding(crate::specs::Calls::said_release, crate::specs::Acquire::release_next, crate::specs::Calls::stands_release, crate::specs::Acquire::valid_release_next, crate::specs::Calls::valid_release_call, hardware::specs::Prog::pick))]
 fn release_told(port: Port, hw: u32, n: ReleaseNext) -> ReleaseTold
     ensures { Keeps (said_release result ≡ yes (release_next port hw n)) (valid_port port ≡ true → valid_release_next port n ≡ true → stands_release result) }
 {
     match n {
-        ReleaseNext::Going(t) => ReleaseTold::Ask(
-            crate::release::access(port, hw, t),
-            ReleaseCall::Going(port, hw, t),
-        ),
-        ReleaseNext::End(o) => ReleaseTold::End(o),
+        Next::Going(t) => Ok(Told::Ask(crate::release::access(port, hw, t), Some((port, hw, t)))),
+        Next::End(o) => Ok(Told::End(o)),
     }
 }
 
-#[tactic(auto, using(hardware::proofs::Laws::opened_valid), unfolding(crate::specs::Calls::open_release, hardware::specs::Asked::and_then, hardware::specs::Asked::port_opened, crate::specs::Calls::said_release, crate::specs::Calls::stands_release))]
 pub fn release_open(family: u32, device: u16, lan: u32, mask: u32) -> ReleaseTold
     ensures { Keeps (said_release result ≡ open_release family device lan mask) (stands_release result) }
 {
-    match hardware::open_port(family, device, lan) {
-        Opening::Port(p) => release_told(
-            p,
-            crate::acquire::hw(mask),
-            crate::release::open(p, mask),
-        ),
-        Opening::Refused(q) => ReleaseTold::Refused(q),
-    }
+    let p = hardware::open_port(family, device, lan)?;
+    release_told(p, crate::acquire::hw(mask), crate::release::open(p, mask))
 }
 
-#[tactic(auto, unfolding(crate::specs::Calls::valid_release_call, hardware::specs::Prog::pick))]
 fn valid_release(port: Port, t: Release) -> bool
     ensures { result ≡ valid_release_call port t }
 {
@@ -129,21 +79,11 @@ fn valid_release(port: Port, t: Release) -> bool
     false
 }
 
-#[tactic(auto, using(hardware::proofs::Laws::admits_no, hardware::proofs::Laws::admits_valid, hardware::proofs::Laws::admits_yes, hardware::proofs::Laws::both_true), unfolding(crate::specs::Calls::step_release, crate::specs::Calls::valid_release_call, crate::specs::Calls::said_release, crate::specs::Calls::stands_release))]
 pub fn release_step(s: ReleaseCall, a: Answer) -> ReleaseTold
     ensures { Keeps (said_release result ≡ step_release s a) (stands_release result) }
 {
-    match s {
-        ReleaseCall::Going(port, hw, t) => {
-            match hardware::admit(
-                valid_release(port, t),
-                crate::release::access(port, hw, t),
-                a,
-            ) {
-                Admitted::Yes => release_told(port, hw, crate::release::step(port, hw, t, a)),
-                Admitted::No(q) => ReleaseTold::Refused(q),
-            }
-        }
-        ReleaseCall::Over => ReleaseTold::Refused(Refusal::Finished),
-    }
+    let (port, hw, release) = s.ok_or(Refusal::Finished)?;
+    let valid = valid_release(port, release);
+    hardware::admit(valid, crate::release::access(port, hw, release), a)?;
+    release_told(port, hw, crate::release::step(port, hw, release, a))
 }

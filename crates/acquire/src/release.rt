@@ -1,15 +1,17 @@
 // A mask is released: the token first, then the bits of SW_FW_SYNC, which are released even if the token's release
 // failed.
+#![tactic(auto, using(hardware::proofs::Prog::going, hardware::proofs::Prog::over), unfolding(crate::specs::Acquire::acquire_next, crate::specs::Acquire::access_acquire, crate::specs::Acquire::access_acquire_at, crate::specs::Acquire::rest_acquire, crate::specs::Acquire::rest_acquire_at, crate::specs::Acquire::release_next, crate::specs::Acquire::access_release, crate::specs::Acquire::rest_release, sync::specs::Resource::acquire_bits_next, sync::specs::Resource::release_bits_next, hostif::specs::Hostif::token_next, crate::specs::Acquire::valid_release_next, crate::specs::Acquire::valid_release, sync::specs::Resource::valid_release_bits_next, hardware::specs::Prog::followed, hardware::specs::Prog::or_err, hardware::specs::Registers::reply, hardware::specs::Prog::erase, hostif::specs::Acquire::give_bits, hostif::specs::Acquire::with_bits, hardware::specs::Prog::pick, hostif::specs::Acquire::token_given, hostif::specs::Acquire::gave, hostif::specs::Hostif::valid_token_next, hostif::specs::Acquire::release, hostif::specs::Acquire::try_token, crate::specs::Acquire::valid_acquire_at, crate::specs::Calls::step_acquire, crate::specs::Calls::step_release, crate::specs::Calls::open_acquire, crate::specs::Calls::open_release, hardware::specs::Asked::question, hardware::specs::Asked::and_then, hardware::specs::Asked::opened, sync::specs::Resource::acquire_bits))]
+
 ghost use Rattle.std.specs.Prelude.{◌≡◌, true, false};
 ghost use Rattle.hardware.specs.Prog.{erase, followed, or_err, ret};
-ghost use Rattle.hardware.specs.Registers.{flag, outcome};
+ghost use Rattle.hardware.specs.Registers.{reply};
 ghost use Rattle.sync.specs.Resource.{release_bits_next, valid_release_bits_next};
 ghost use Rattle.hostif.specs.Hostif.{token_next, valid_token_next};
 ghost use Rattle.hostif.specs.Acquire.{hw_of, give_bits, token_given, release};
 ghost use Rattle.acquire.specs.Acquire.{access_release, rest_release, release_next, valid_release, valid_release_next};
 
 use crate::acquire::hw;
-use hardware::{Access, Answer, Flag, Outcome, Port};
+use hardware::{Access, Answer, Next, Port, R};
 use hostif::token::{Token, TokenNext};
 use sync::regs::TOKEN;
 use sync::release_bits::{ReleaseBits, ReleaseBitsNext};
@@ -18,75 +20,65 @@ use sync::release_bits::{ReleaseBits, ReleaseBitsNext};
 #[derive(Clone, Copy)]
 pub enum Release {
     Token(Token),
-    Bits(ReleaseBits, Outcome),
+    Bits(ReleaseBits, R<()>),
 }
 
-#[derive(Clone, Copy)]
-pub enum ReleaseNext {
-    Going(Release),
-    End(Outcome),
-}
+pub type ReleaseNext = Next<Release, R<()>>;
 
-#[tactic(auto, using(hardware::proofs::Prog::going), unfolding(crate::specs::Acquire::acquire_next, crate::specs::Acquire::access_acquire, crate::specs::Acquire::access_acquire_at, crate::specs::Acquire::rest_acquire, crate::specs::Acquire::rest_acquire_at, crate::specs::Acquire::release_next, crate::specs::Acquire::access_release, crate::specs::Acquire::rest_release, sync::specs::Resource::acquire_bits_next, sync::specs::Resource::release_bits_next, hostif::specs::Hostif::token_next, crate::specs::Acquire::valid_release_next, crate::specs::Acquire::valid_release, sync::specs::Resource::valid_release_bits_next, hardware::specs::Prog::followed, hardware::specs::Prog::or_err, hardware::specs::Registers::outcome, hardware::specs::Prog::erase))]
-fn bits(port: Port, hw: u32, w: Outcome, n: ReleaseBitsNext) -> ReleaseNext
-    ensures yields { release_next port hw result ≡ followed (release_bits_next port hw n) (or_err (λ _. ret (outcome w))) }
+fn bits(port: Port, hw: u32, w: R<()>, n: ReleaseBitsNext) -> ReleaseNext
+    ensures yields { release_next port hw result ≡ followed (release_bits_next port hw n) (or_err (λ _. ret (reply w))) }
     ensures limits { valid_release_bits_next n ≡ true → valid_release_next port result ≡ true }
 {
     match n {
-        ReleaseBitsNext::Going(t) => ReleaseNext::Going(Release::Bits(t, w)),
-        ReleaseBitsNext::End(o) => match o {
-            Outcome::Ok => ReleaseNext::End(w),
-            Outcome::Err(e) => ReleaseNext::End(Outcome::Err(e)),
+        Next::Going(t) => Next::Going(Release::Bits(t, w)),
+        Next::End(o) => match o {
+            Ok(()) => Next::End(w),
+            Err(e) => Next::End(Err(e)),
         },
     }
 }
 
-#[tactic(auto, using(hardware::proofs::Prog::over), unfolding(hostif::specs::Acquire::give_bits, hostif::specs::Acquire::with_bits, hardware::specs::Prog::pick, hardware::specs::Prog::or_err, hardware::specs::Prog::erase, crate::specs::Acquire::release_next, crate::specs::Acquire::valid_release_next))]
-fn open_bits(port: Port, hw: u32, w: Outcome) -> ReleaseNext
-    ensures yields { release_next port hw result ≡ erase (give_bits port hw (outcome w)) }
+fn open_bits(port: Port, hw: u32, w: R<()>) -> ReleaseNext
+    ensures yields { release_next port hw result ≡ erase (give_bits port hw (reply w)) }
     ensures limits { valid_release_next port result ≡ true }
 {
     if hw == 0 {
-        return ReleaseNext::End(w);
+        return Next::End(w);
     }
     bits(port, hw, w, sync::release_bits::open(port, hw))
 }
 
-#[tactic(auto, unfolding(hostif::specs::Acquire::token_given, hostif::specs::Acquire::gave, hardware::specs::Registers::flag, hardware::specs::Registers::outcome))]
-fn token_done(port: Port, hw: u32, g: Flag) -> ReleaseNext
-    ensures yields { release_next port hw result ≡ erase (token_given port hw (flag g)) }
+fn token_done(port: Port, hw: u32, g: R<bool>) -> ReleaseNext
+    ensures yields { release_next port hw result ≡ erase (token_given port hw (reply g)) }
     ensures limits { valid_release_next port result ≡ true }
 {
     match g {
-        Flag::Ok(_) => open_bits(port, hw, Outcome::Ok),
-        Flag::Err(e) => open_bits(port, hw, Outcome::Err(e)),
+        Ok(_) => open_bits(port, hw, Ok(())),
+        Err(e) => open_bits(port, hw, Err(e)),
     }
 }
 
-#[tactic(auto, using(hardware::proofs::Prog::going), unfolding(crate::specs::Acquire::acquire_next, crate::specs::Acquire::access_acquire, crate::specs::Acquire::access_acquire_at, crate::specs::Acquire::rest_acquire, crate::specs::Acquire::rest_acquire_at, crate::specs::Acquire::release_next, crate::specs::Acquire::access_release, crate::specs::Acquire::rest_release, sync::specs::Resource::acquire_bits_next, sync::specs::Resource::release_bits_next, hostif::specs::Hostif::token_next, crate::specs::Acquire::valid_release_next, crate::specs::Acquire::valid_release, hostif::specs::Hostif::valid_token_next, hardware::specs::Prog::followed))]
 fn token(port: Port, hw: u32, n: TokenNext) -> ReleaseNext
     ensures yields { release_next port hw result ≡ followed (token_next port false n) (token_given port hw) }
     ensures limits { valid_token_next port n ≡ true → valid_release_next port result ≡ true }
 {
     match n {
-        TokenNext::Going(t) => ReleaseNext::Going(Release::Token(t)),
-        TokenNext::End(g) => token_done(port, hw, g),
+        Next::Going(t) => Next::Going(Release::Token(t)),
+        Next::End(g) => token_done(port, hw, g),
     }
 }
 
-#[tactic(auto, using(hardware::proofs::Prog::over), unfolding(hostif::specs::Acquire::release, hardware::specs::Prog::pick, hardware::specs::Prog::erase, hardware::specs::Registers::outcome))]
 pub fn open(port: Port, mask: u32) -> ReleaseNext
     ensures yields { release_next port (hw_of mask) result ≡ erase (release port mask) }
     ensures limits { valid_release_next port result ≡ true }
 {
     let bits = hw(mask);
     if hardware::none_of(mask, TOKEN) {
-        return open_bits(port, bits, Outcome::Ok);
+        return open_bits(port, bits, Ok(()));
     }
     token(port, bits, hostif::token::open(port, false))
 }
 
-#[tactic(auto, unfolding(crate::specs::Acquire::rest_acquire, crate::specs::Acquire::rest_acquire_at, crate::specs::Acquire::access_acquire, crate::specs::Acquire::access_acquire_at, crate::specs::Acquire::rest_release, crate::specs::Acquire::access_release, hostif::specs::Acquire::try_token, crate::specs::Acquire::valid_acquire_at, crate::specs::Acquire::valid_release, crate::specs::Calls::step_acquire, crate::specs::Calls::step_release, crate::specs::Calls::open_acquire, crate::specs::Calls::open_release, hardware::specs::Asked::question, hardware::specs::Asked::and_then, hardware::specs::Asked::port_opened, sync::specs::Resource::acquire_bits, hostif::specs::Acquire::token_given, hostif::specs::Acquire::gave))]
 pub fn access(port: Port, hw: u32, s: Release) -> Access
     ensures { result ≡ access_release port hw s }
 {
@@ -96,7 +88,6 @@ pub fn access(port: Port, hw: u32, s: Release) -> Access
     }
 }
 
-#[tactic(auto, using(hardware::proofs::Prog::over), unfolding(crate::specs::Acquire::rest_acquire, crate::specs::Acquire::rest_acquire_at, crate::specs::Acquire::access_acquire, crate::specs::Acquire::access_acquire_at, crate::specs::Acquire::rest_release, crate::specs::Acquire::access_release, hostif::specs::Acquire::try_token, crate::specs::Acquire::valid_acquire_at, crate::specs::Acquire::valid_release, crate::specs::Calls::step_acquire, crate::specs::Calls::step_release, crate::specs::Calls::open_acquire, crate::specs::Calls::open_release, hardware::specs::Asked::question, hardware::specs::Asked::and_then, hardware::specs::Asked::port_opened, sync::specs::Resource::acquire_bits, hostif::specs::Acquire::token_given, hostif::specs::Acquire::gave))]
 pub fn step(port: Port, hw: u32, s: Release, a: Answer) -> ReleaseNext
     ensures yields { release_next port hw result ≡ erase (rest_release port hw s a) }
     ensures limits { valid_release port s ≡ true → valid_release_next port result ≡ true }
@@ -107,7 +98,6 @@ pub fn step(port: Port, hw: u32, s: Release, a: Answer) -> ReleaseNext
     }
 }
 
-#[tactic(auto, unfolding(crate::specs::Acquire::rest_acquire, crate::specs::Acquire::rest_acquire_at, crate::specs::Acquire::access_acquire, crate::specs::Acquire::access_acquire_at, crate::specs::Acquire::rest_release, crate::specs::Acquire::access_release, hostif::specs::Acquire::try_token, crate::specs::Acquire::valid_acquire_at, crate::specs::Acquire::valid_release, crate::specs::Calls::step_acquire, crate::specs::Calls::step_release, crate::specs::Calls::open_acquire, crate::specs::Calls::open_release, hardware::specs::Asked::question, hardware::specs::Asked::and_then, hardware::specs::Asked::port_opened, sync::specs::Resource::acquire_bits, hostif::specs::Acquire::token_given, hostif::specs::Acquire::gave))]
 pub fn valid(port: Port, s: Release) -> bool
     ensures { result ≡ valid_release port s }
 {

@@ -1,11 +1,14 @@
 -- Laws that the proofs of the bench module cite.
-use Rattle.std.proofs.Common.{◌≡◌, ℕ, ◌+◌, ◌-◌, ◌/◌, ◌%◌, ◌≤◌, Bool, true, false, ◌||◌, eqb, leb, ◌⊎◌, List, length, sym, refl, ap, inl, inr, ⊎_elim, arith, ne_eqb, eqb-true, le-leb, leb-false, leb-true}
+use Rattle.std.proofs.Common.{◌≡◌, ℕ, ◌+◌, ◌-◌, ◌/◌, ◌%◌, ◌≤◌, Bool, true, false, ◌||◌, eqb, leb, List, length, sym, refl, ap, arith, le-leb, leb-false, leb-true}
 use borrow.Author.Tests.{lt-leb}
 use Rattle.hardware.specs.Prog.{pick}
 use Rattle.bus.specs.Bus.{bit_of}
 use Rattle.bench.specs.declared.receiver.Receiver.{Receiver}
 use Rattle.bench.specs.declared.receiver.Stage.{Stage}
-use Rattle.bench.specs.View.{viewed, page_at, within}
+use Rattle.bench.specs.View.{within}
+use Rattle.hardware.specs.Numbers.{refusal_number}
+use Rattle.hardware.specs.declared.Refusal.{Refusal}
+use Rattle.hardware.specs.declared.Refusal.TheVariants.{Family, Lan, Device, Attempts, ScriptLength, Command, Script, Block, Buffer, State, Finished, Kind}
 use Rattle.bench.specs.Receiver.{rise, rise_at, fall, fall_at, asks, asks_at}
 
 pub or_false : (b : Bool) → (b || false) ≡ b
@@ -56,32 +59,21 @@ left_fits first n size h = go (leb n (size - first)) refl
     go true e = sym (le-leb (first + n) size (omega (arith, leb-true n (size - first) e)))
     go false e = sym (lt-leb (first + n) size (omega (arith, leb-false n (size - first) e)))
 
--- where no refusal is numbered 0, number 0 says that the device is known and the part fits
-handed : (p q s t : Bool) → ◌≡◌ {A = ℕ} (pick p (pick s 0 9) (pick q (pick t 0 9) 3)) 0
-    → ((p ≡ true) × (s ≡ true)) ⊎ ((q ≡ true) × (t ≡ true))
-unfolding pick
-handed true q true t h = inl (refl, refl)
-handed true q false t h = absurd (omega (arith, h))
-handed false true s true h = inr (refl, refl)
-handed false true s false h = absurd (omega (arith, h))
-handed false false s t h = absurd (omega (arith, h))
+-- a part that is handed back ends within its page
+pub within_fits : (page : List ℕ) (first n : ℕ) → within page first n ≡ true → first + n ≤ length page
+unfolding within
+within_fits page first n h = leb-true (first + n) (length page) h
 
--- a part that is handed back lies in its page
-pub viewed_fits : (a0 a2 : List ℕ) (device first n : ℕ) → viewed a0 a2 device first n ≡ 0 → first + n ≤ length (page_at a0 a2 device)
-unfolding viewed page_at within pick
-viewed_fits a0 a2 device first n h =
-    ⊎_elim
-    (λ e. rw (eqb-true device 0xa0 e.0) (leb-true (first + n) (length a0) e.1))
-    (λ e. rw e.0 (leb-true (first + n) (length a2) e.1))
-    (handed (eqb device 0xa0) (eqb device 0xa2) (within a0 first n) (within a2 first n) h)
-
-pub page_a2 : (a0 a2 : List ℕ) (device : ℕ) → device ≡ 0xa2 → page_at a0 a2 device ≡ a2
-unfolding page_at pick
-page_a2 a0 a2 device e = rw e
-
-pub page_a0 : (a0 a2 : List ℕ) (device : ℕ) → (device ≡ 0xa2 → ⊥) → page_at a0 a2 device ≡ a0
-unfolding page_at pick
-page_a0 a0 a2 device e = rw (ne_eqb device 0xa2 e)
-
-pub part_size : (first n : ℕ) → first + n - first ≡ n
-part_size first n = omega arith
+pub no_refusal_is_0 : (q : Refusal) → eqb (refusal_number q) 0 ≡ false
+no_refusal_is_0 Family = refl
+no_refusal_is_0 Lan = refl
+no_refusal_is_0 Device = refl
+no_refusal_is_0 Attempts = refl
+no_refusal_is_0 ScriptLength = refl
+no_refusal_is_0 Command = refl
+no_refusal_is_0 Script = refl
+no_refusal_is_0 Block = refl
+no_refusal_is_0 Buffer = refl
+no_refusal_is_0 State = refl
+no_refusal_is_0 Finished = refl
+no_refusal_is_0 Kind = refl

@@ -1,5 +1,5 @@
 -- How each bit of I2CCTL reads with the bench module at the lines.
-use Rattle.std.proofs.Common.{◌≡◌, ℕ, ◌-◌, ◌^◌, ◌<◌, min, max, Bool, true, false, not, ◌||◌, ◌⊎◌, refl, ◌∙◌, inl, inr, lit<}
+use Rattle.std.proofs.Common.{◌≡◌, ℕ, ◌^◌, ◌<◌, min, max, Bool, true, false, not, ◌||◌, ◌⊎◌, refl, ◌∙◌, inl, inr, lit<}
 use Rattle.hardware.specs.Prog.{pick}
 use lib.Pow.{pow-lt}
 use Rattle.hardware.specs.declared.Family.{Family}

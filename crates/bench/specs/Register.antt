@@ -1,5 +1,5 @@
 -- I2CCTL with the bench module at the lines, and ESDP where the port has a mux.
-use Rattle.std.specs.Prelude.{ℕ, Bool, true, false, ◌&&◌}
+use Rattle.std.specs.Prelude.{ℕ, Bool, true, false, ◌&&◌, Some, None}
 use Rattle.hardware.specs.declared.Access.{Access}
 use Rattle.hardware.specs.declared.Answer.{Answer}
 use Rattle.hardware.specs.declared.Answer.TheVariants.{Done}
@@ -41,10 +41,10 @@ bench_state w = record { word = w.word; esdp = w.other.esdp; bench = w.other.ben
 
 -- answered here, or left to the caller
 abbrev pub here : Answer → BenchState → Reply
-here a d = record { here = true; answer = a; state = d }
+here a d = record { answer = Some a; state = d }
 
 abbrev pub elsewhere : BenchState → Reply
-elsewhere d = record { here = false; answer = Done; state = d }
+elsewhere d = record { answer = None; state = d }
 
 -- the machine answers its own accesses; any other is the caller's
 unfoldable pub accessed : Layout → Bool → Access → BenchState → Reply

@@ -1,7 +1,8 @@
 -- The viewer: a part of page A0 or A2, by its first byte and its length.
-use Rattle.std.specs.Prelude.{ℕ, ◌+◌, Bool, List, [], length, take, drop, ◌==◌, nat_le}
+use Rattle.std.specs.Prelude.{ℕ, ◌+◌, Bool, List, [], length, take, drop, ◌==◌, nat_le, Ok, Err, Result}
 use Rattle.hardware.specs.Prog.{pick}
 use Rattle.hardware.specs.Numbers.{refusal_number}
+use Rattle.hardware.specs.declared.Refusal.{Refusal}
 use Rattle.hardware.specs.declared.Refusal.TheVariants.{Device, Buffer}
 
 -- the part ends within the bytes lent
@@ -10,6 +11,11 @@ within page first n = nat_le (first + n) (length page)
 
 abbrev pub part : List ℕ → ℕ → ℕ → List ℕ
 part page first n = take n (drop first page)
+
+-- the number of what is told of a part, 0 where it is handed back
+abbrev pub number_of : {A : Type 0} → Result A Refusal → ℕ
+number_of (Ok part) = 0
+number_of (Err q) = refusal_number q
 
 -- question 3, and then question 9; 0: the part is handed back
 unfoldable pub viewed : List ℕ → List ℕ → ℕ → ℕ → ℕ → ℕ

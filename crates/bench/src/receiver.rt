@@ -1,11 +1,13 @@
 // The receiver by value: what START, STOP, the rise and the fall of SCL make of it.
+#![tactic(auto, using(crate::proofs::Laws::rise_at_lem, crate::proofs::Laws::asks_at_lem, crate::proofs::Laws::fall_at_lem, crate::proofs::Laws::pick_false, crate::proofs::Laws::pick_true, crate::proofs::Laws::lowest), unfolding(crate::specs::Receiver::started, crate::specs::Receiver::stopped, crate::specs::Receiver::taken, hardware::specs::Prog::pick, crate::specs::Receiver::rise_at, crate::specs::Receiver::addressed, crate::specs::Receiver::fall_at, crate::specs::Receiver::asks_at, crate::specs::Receiver::edged, crate::specs::Receiver::asks_on, crate::specs::Edges::edge_of, bus::specs::Bus::bit_of, crate::specs::Receiver::pulls, crate::specs::Receiver::pulls_at))]
+
 ghost use Rattle.std.specs.Prelude.{◌≡◌, ◌-◌};
 ghost use Rattle.hardware.specs.Prog.{pick};
 ghost use Rattle.bus.specs.Bus.{bit_of};
 ghost use Rattle.bench.specs.Receiver.{at, fresh, started, stopped, taken, takes, notes, rise, chose, addressed, byte_taken, fall, asks, edged, asks_on, pulls};
 ghost use Rattle.bench.specs.Edges.{edge_of};
 
-#[derive(Clone, Copy)]
+#[derive(Clone, Copy, PartialEq, Eq)]
 pub enum Chosen {
     A0,
     A2,
@@ -13,7 +15,7 @@ pub enum Chosen {
 
 // Address and Receive with so many bits taken, 8 and above being all of them; Send with the place of the bit that is
 // on SDA, the highest bit at 0, 7 and above being the lowest.
-#[derive(Clone, Copy)]
+#[derive(Clone, Copy, PartialEq, Eq)]
 pub enum Stage {
     Idle,
     Address(u8),
@@ -36,7 +38,7 @@ pub struct Receiver {
 
 // What the fall of SCL asks of the page chosen: an offset to be set, a byte to be stored at the offset, which moves on,
 // or the offset to move on.
-#[derive(Clone, Copy)]
+#[derive(Clone, Copy, PartialEq, Eq)]
 pub enum Act {
     Nothing,
     Offset(u8),
@@ -45,7 +47,7 @@ pub enum Act {
 }
 
 // A change of the lines: START, STOP, SCL rises with SDA high or not, SCL falls.
-#[derive(Clone, Copy)]
+#[derive(Clone, Copy, PartialEq, Eq)]
 pub enum Edge {
     Start,
     Stop,
@@ -63,37 +65,25 @@ pub struct Moved {
 fn at(r: Receiver, stage: Stage) -> Receiver
     ensures { result ≡ at stage r }
 {
-    let page = r.page;
-    Receiver {
-        stage,
-        bits: r.bits,
-        page,
-        first: r.first,
-        noted: r.noted,
-    }
+    Receiver { stage, ..r }
 }
 
 fn fresh(r: Receiver, stage: Stage) -> Receiver
     ensures { result ≡ fresh stage r }
 {
-    let page = r.page;
     Receiver {
         stage,
         bits: 0,
-        page,
-        first: r.first,
-        noted: r.noted,
+        ..r
     }
 }
 
-#[tactic(auto, unfolding(crate::specs::Receiver::started))]
 pub fn start(r: Receiver) -> Receiver
     ensures { result ≡ started r }
 {
     fresh(r, Stage::Address(0))
 }
 
-#[tactic(auto, unfolding(crate::specs::Receiver::stopped))]
 pub fn stop(r: Receiver) -> Receiver
     ensures { result ≡ stopped r }
 {
@@ -101,7 +91,6 @@ pub fn stop(r: Receiver) -> Receiver
 }
 
 // One more bit, of eight.
-#[tactic(auto, unfolding(crate::specs::Receiver::taken, hardware::specs::Prog::pick))]
 fn taken(bits: u8, sda: bool) -> u8
     ensures { result ≡ taken bits sda }
 {
@@ -115,37 +104,24 @@ fn taken(bits: u8, sda: bool) -> u8
 fn takes(r: Receiver, stage: Stage, sda: bool) -> Receiver
     ensures { result ≡ takes stage sda r }
 {
-    let page = r.page;
     Receiver {
         stage,
         bits: taken(r.bits, sda),
-        page,
-        first: r.first,
-        noted: r.noted,
+        ..r
     }
 }
 
 fn notes(r: Receiver, sda: bool) -> Receiver
     ensures { result ≡ notes sda r }
 {
-    let stage = r.stage;
-    let page = r.page;
-    Receiver {
-        stage,
-        bits: r.bits,
-        page,
-        first: r.first,
-        noted: sda,
-    }
+    Receiver { noted: sda, ..r }
 }
 
 // SCL rises.
-#[tactic(auto, using(crate::proofs::Laws::rise_at_lem), unfolding(crate::specs::Receiver::rise_at, hardware::specs::Prog::pick))]
 pub fn rise(r: Receiver, sda: bool) -> Receiver
     ensures { result ≡ rise sda r }
 {
-    let stage = r.stage;
-    match stage {
+    match r.stage {
         Stage::Idle => r,
         Stage::Address(n) => {
             if n < 8 {
@@ -171,20 +147,17 @@ fn chose(r: Receiver, stage: Stage, page: Chosen) -> Receiver
 {
     Receiver {
         stage,
-        bits: r.bits,
         page,
         first: true,
-        noted: r.noted,
+        ..r
     }
 }
 
 // The address is taken.
-#[tactic(auto, unfolding(crate::specs::Receiver::addressed, hardware::specs::Prog::pick))]
 fn addressed(r: Receiver) -> Receiver
     ensures { result ≡ addressed r }
 {
-    let bits = r.bits;
-    match bits {
+    match r.bits {
         0xa0 => chose(r, Stage::AckWrite, Chosen::A0),
         0xa2 => chose(r, Stage::AckWrite, Chosen::A2),
         0xa1 => chose(r, Stage::AckRead, Chosen::A0),
@@ -197,17 +170,13 @@ fn addressed(r: Receiver) -> Receiver
 fn byte_taken(r: Receiver) -> Receiver
     ensures { result ≡ byte_taken r }
 {
-    let page = r.page;
     Receiver {
         stage: Stage::AckWrite,
-        bits: r.bits,
-        page,
         first: false,
-        noted: r.noted,
+        ..r
     }
 }
 
-#[tactic(auto, unfolding(hardware::specs::Prog::pick))]
 fn byte_asks(r: Receiver) -> Act
     ensures { result ≡ pick r.first (Act.Offset r.bits) (Act.Store r.bits) }
 {
@@ -228,12 +197,10 @@ fn quiet(r: Receiver) -> Moved
 }
 
 // SCL falls.
-#[tactic(auto, using(crate::proofs::Laws::asks_at_lem, crate::proofs::Laws::fall_at_lem, crate::proofs::Laws::pick_false, crate::proofs::Laws::pick_true), unfolding(crate::specs::Receiver::fall_at, crate::specs::Receiver::asks_at, hardware::specs::Prog::pick))]
 pub fn fall(r: Receiver) -> Moved
     ensures { (result.receiver ≡ fall r) × (result.act ≡ asks r) }
 {
-    let stage = r.stage;
-    match stage {
+    match r.stage {
         Stage::Idle => quiet(r),
         Stage::Address(n) => {
             if n < 8 {
@@ -268,7 +235,6 @@ pub fn fall(r: Receiver) -> Moved
     }
 }
 
-#[tactic(auto, unfolding(crate::specs::Receiver::edged, crate::specs::Receiver::asks_on, crate::specs::Edges::edge_of))]
 pub fn edged(r: Receiver, e: Edge) -> Moved
     ensures { (result.receiver ≡ edged (edge_of e) r) × (result.act ≡ asks_on (edge_of e) r) }
 {
@@ -281,7 +247,6 @@ pub fn edged(r: Receiver, e: Edge) -> Moved
 }
 
 // The bit of a byte at a place, the highest at 0, 7 and above being the lowest.
-#[tactic(auto, using(crate::proofs::Laws::lowest), unfolding(bus::specs::Bus::bit_of))]
 fn bit(byte: u8, place: u8) -> bool
     ensures { result ≡ bit_of byte (7 - place) }
 {
@@ -292,12 +257,10 @@ fn bit(byte: u8, place: u8) -> bool
 }
 
 // Whether SDA is pulled low, by the byte at the offset of the page chosen.
-#[tactic(auto, unfolding(crate::specs::Receiver::pulls, crate::specs::Receiver::pulls_at))]
 pub fn pulls(r: Receiver, byte: u8) -> bool
     ensures { result ≡ pulls r byte }
 {
-    let stage = r.stage;
-    match stage {
+    match r.stage {
         Stage::Idle => false,
         Stage::Address(_) => false,
         Stage::Receive(_) => false,

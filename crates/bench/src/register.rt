@@ -1,4 +1,6 @@
 // I2CCTL with the bench module at the two lines, and ESDP where the port reaches it through a mux.
+#![tactic(auto, using(crate::proofs::Laws::or_false, crate::proofs::Laws::or_true, crate::proofs::Mux::edges_append, crate::proofs::Mux::turn_moves), unfolding(wire::specs::Lines::banging, wire::specs::Lines::pulling, wire::specs::Lines::pulls_sda, wire::specs::Lines::pulls_scl, crate::specs::Mux::across, hardware::specs::Prog::pick, wire::specs::Lines::levels, wire::specs::Lines::master, crate::specs::Mux::takes_edges, wire::specs::Lines::scl_edge, crate::specs::Edges::edge_of, wire::specs::Lines::sda_edge, crate::specs::Mux::moved, crate::specs::Mux::sees, wire::specs::Lines::edge, wire::specs::Lines::input, crate::specs::Mux::has_mux, crate::specs::Mux::joins, wire::specs::Machine::reading, wire::specs::Lines::inputs, wire::specs::Machine::wrote, wire::specs::Machine::switched, crate::specs::Mux::switched_to, crate::specs::Register::accessed, wire::specs::Machine::modelled, wire::specs::Machine::models, wire::specs::Machine::at_lines, wire::specs::Machine::reply, wire::specs::Machine::after, wire::specs::Lines::ready, crate::specs::Register::released))]
+
 ghost use Rattle.std.specs.Prelude.{◌≡◌, false, not, ◌&&◌, ◌||◌, ◌==◌};
 ghost use Rattle.hardware.specs.Registers.{ESDP};
 ghost use Rattle.bus.specs.Layout.{layout_of};
@@ -21,16 +23,13 @@ pub struct BenchState {
     pub bench: Bench,
 }
 
-// here: the access was to I2CCTL, or to ESDP with a mux, and is answered. Else it is left to the caller, the state is as it was
-// and the answer means nothing.
+// answer: of an access to I2CCTL, or to ESDP with a mux. None: the access is left to the caller, and the state is as it was.
 #[derive(Clone, Copy)]
 pub struct Reply {
-    pub here: bool,
-    pub answer: Answer,
+    pub answer: Option<Answer>,
     pub state: BenchState,
 }
 
-#[tactic(auto, unfolding(wire::specs::Lines::banging))]
 fn banging(l: Layout, w: u32) -> bool
     ensures { result ≡ banging l w }
 {
@@ -40,7 +39,6 @@ fn banging(l: Layout, w: u32) -> bool
     !hardware::none_of(w, l.bben)
 }
 
-#[tactic(auto, unfolding(wire::specs::Lines::pulling))]
 fn pulling(l: Layout, oen: u32, out: u32, w: u32) -> bool
     ensures { result ≡ pulling l oen out w }
 {
@@ -53,7 +51,6 @@ fn pulling(l: Layout, oen: u32, out: u32, w: u32) -> bool
 }
 
 // Whether SDA is high with this word, where the module pulls it or not.
-#[tactic(auto, using(crate::proofs::Laws::or_false, crate::proofs::Laws::or_true), unfolding(wire::specs::Lines::pulls_sda))]
 fn sda_high(l: Layout, w: u32, pulled: bool) -> bool
     ensures { result ≡ not (pulls_sda l w || pulled) }
 {
@@ -64,7 +61,6 @@ fn sda_high(l: Layout, w: u32, pulled: bool) -> bool
 }
 
 // Whether SCL is high with this word; the module never pulls it.
-#[tactic(auto, using(crate::proofs::Laws::or_false), unfolding(wire::specs::Lines::pulls_scl))]
 fn scl_high(l: Layout, w: u32) -> bool
     ensures { result ≡ not (pulls_scl l w || false) }
 {
@@ -72,7 +68,6 @@ fn scl_high(l: Layout, w: u32) -> bool
 }
 
 // The same as the module sees them, the master felt or not.
-#[tactic(auto, unfolding(crate::specs::Mux::across, hardware::specs::Prog::pick, wire::specs::Lines::levels, wire::specs::Lines::master))]
 fn sees_sda(l: Layout, joined: bool, w: u32, pulled: bool) -> bool
     ensures { result ≡ not ((across joined (master l w)).sda || pulled) }
 {
@@ -82,7 +77,6 @@ fn sees_sda(l: Layout, joined: bool, w: u32, pulled: bool) -> bool
     !pulled
 }
 
-#[tactic(auto, unfolding(crate::specs::Mux::across, hardware::specs::Prog::pick, wire::specs::Lines::levels, wire::specs::Lines::master))]
 fn sees_scl(l: Layout, joined: bool, w: u32) -> bool
     ensures { result ≡ not ((across joined (master l w)).scl || false) }
 {
@@ -92,7 +86,6 @@ fn sees_scl(l: Layout, joined: bool, w: u32) -> bool
     true
 }
 
-#[tactic(auto, unfolding(crate::specs::Mux::takes_edges, wire::specs::Lines::scl_edge, crate::specs::Edges::edge_of))]
 fn scl_moves(before: bool, after: bool, sda: bool, b: Bench) -> Bench
     ensures { result ≡ takes_edges (scl_edge before after sda) b }
 {
@@ -108,7 +101,6 @@ fn scl_moves(before: bool, after: bool, sda: bool, b: Bench) -> Bench
     b
 }
 
-#[tactic(auto, unfolding(crate::specs::Mux::takes_edges, wire::specs::Lines::sda_edge, crate::specs::Edges::edge_of))]
 fn sda_moves(scl: bool, before: bool, after: bool, b: Bench) -> Bench
     ensures { result ≡ takes_edges (sda_edge scl before after) b }
 {
@@ -129,7 +121,6 @@ fn sda_moves(scl: bool, before: bool, after: bool, b: Bench) -> Bench
 
 // What the module makes of a write: the word and whether the master is felt, before and after it. It sees SCL move first, at
 // the old SDA.
-#[tactic(auto, using(crate::proofs::Mux::edges_append), unfolding(crate::specs::Mux::moved, crate::specs::Mux::sees, wire::specs::Lines::edge, wire::specs::Lines::levels))]
 fn moves(l: Layout, old: u32, felt: bool, new: u32, feels: bool, b: Bench) -> Bench
     ensures { result ≡ moved (sees felt (master l old) b) (sees feels (master l new) b) b }
 {
@@ -140,7 +131,6 @@ fn moves(l: Layout, old: u32, felt: bool, new: u32, feels: bool, b: Bench) -> Be
     sda_moves(scl, sda, sees_sda(l, feels, new, pulled), between)
 }
 
-#[tactic(auto, unfolding(wire::specs::Lines::input))]
 fn input(mask: u32, high: bool, w: u32) -> u32
     ensures { result ≡ input mask high w }
 {
@@ -151,19 +141,17 @@ fn input(mask: u32, high: bool, w: u32) -> u32
 }
 
 // Whether the port reaches its module through a mux: the X552's port 1.
-#[tactic(auto, unfolding(crate::specs::Mux::has_mux))]
 pub fn has_mux(port: Port) -> bool
     ensures { result ≡ has_mux port }
 {
     let family = port.family;
-    if hardware::same(family, Family::X552) {
+    if family.is(Family::X552) {
         return port.lan == 1;
     }
     false
 }
 
 // The mux is on while bit 1 of ESDP is set.
-#[tactic(auto, unfolding(crate::specs::Mux::joins))]
 fn joins(mux: bool, esdp: u32) -> bool
     ensures { result ≡ joins mux esdp }
 {
@@ -174,7 +162,6 @@ fn joins(mux: bool, esdp: u32) -> bool
 }
 
 // Whether the master feels SDA pulled.
-#[tactic(auto, unfolding(crate::specs::Mux::across, hardware::specs::Prog::pick))]
 fn pull_felt(joined: bool, b: Bench) -> bool
     ensures { drawn result false ≡ across joined (drawn (pulls_low b) false) }
 {
@@ -184,40 +171,34 @@ fn pull_felt(joined: bool, b: Bench) -> bool
     false
 }
 
-#[tactic(auto, unfolding(wire::specs::Machine::reading, wire::specs::Lines::inputs, wire::specs::Lines::levels, wire::specs::Lines::master))]
 fn reading(l: Layout, mux: bool, d: BenchState) -> u32
     ensures { result ≡ reading l (side mux) (world d) }
 {
-    let bench = d.bench;
-    let pulled = pull_felt(joins(mux, d.esdp), bench);
+    let pulled = pull_felt(joins(mux, d.esdp), d.bench);
     let with_scl = input(l.sclin, scl_high(l, d.word), d.word);
     input(l.sdain, sda_high(l, d.word, pulled), with_scl)
 }
 
-#[tactic(auto, using(crate::proofs::Mux::turn_moves), unfolding(wire::specs::Machine::wrote))]
 fn write(l: Layout, mux: bool, d: BenchState, v: u32) -> BenchState
     ensures { result ≡ bench_state (wrote l (side mux) v (world d)) }
 {
-    let before = d.bench;
     let joined = joins(mux, d.esdp);
-    let bench = moves(l, d.word, joined, v, joined, before);
     BenchState {
         word: v,
-        esdp: d.esdp,
-        bench,
+        bench: moves(l, d.word, joined, v, joined, d.bench),
+        ..d
     }
 }
 
-#[tactic(auto, unfolding(wire::specs::Machine::switched, crate::specs::Mux::switched_to))]
 fn switch(l: Layout, mux: bool, d: BenchState, v: u32) -> BenchState
     ensures { result ≡ bench_state (switched l (side mux) v (world d)) }
 {
-    let before = d.bench;
-    let bench = moves(l, d.word, joins(mux, d.esdp), d.word, joins(mux, v), before);
+    let felt = joins(mux, d.esdp);
+    let feels = joins(mux, v);
     BenchState {
-        word: d.word,
         esdp: v,
-        bench,
+        bench: moves(l, d.word, felt, d.word, feels, d.bench),
+        ..d
     }
 }
 
@@ -225,8 +206,7 @@ fn value(v: u32, d: BenchState) -> Reply
     ensures { result ≡ here (Answer.Value v) d }
 {
     Reply {
-        here: true,
-        answer: Answer::Value(v),
+        answer: Some(Answer::Value(v)),
         state: d,
     }
 }
@@ -235,8 +215,7 @@ fn done(d: BenchState) -> Reply
     ensures { result ≡ here Answer.Done d }
 {
     Reply {
-        here: true,
-        answer: Answer::Done,
+        answer: Some(Answer::Done),
         state: d,
     }
 }
@@ -251,7 +230,6 @@ fn at_mux(mux: bool, register: u32) -> bool
     false
 }
 
-#[tactic(auto, unfolding(crate::specs::Register::accessed, wire::specs::Machine::modelled, wire::specs::Machine::models, wire::specs::Machine::at_lines, wire::specs::Machine::reply, wire::specs::Machine::after, hardware::specs::Prog::pick))]
 fn read_at(l: Layout, mux: bool, register: u32, d: BenchState) -> Reply
     ensures { result ≡ accessed l mux (Access.Read register) d }
 {
@@ -264,7 +242,6 @@ fn read_at(l: Layout, mux: bool, register: u32, d: BenchState) -> Reply
     elsewhere(d)
 }
 
-#[tactic(auto, unfolding(crate::specs::Register::accessed, wire::specs::Machine::modelled, wire::specs::Machine::models, wire::specs::Machine::at_lines, wire::specs::Machine::reply, wire::specs::Machine::after, hardware::specs::Prog::pick))]
 fn write_at(l: Layout, mux: bool, register: u32, v: u32, d: BenchState) -> Reply
     ensures { result ≡ accessed l mux (Access.Write register v) d }
 {
@@ -281,15 +258,13 @@ fn elsewhere(d: BenchState) -> Reply
     ensures { result ≡ elsewhere d }
 {
     Reply {
-        here: false,
-        answer: Answer::Done,
+        answer: None,
         state: d,
     }
 }
 
 // A step of the bench: an access to I2CCTL, or to ESDP where the port has a mux, is answered and the module moved, any other
 // is left to the caller.
-#[tactic(auto, unfolding(crate::specs::Register::accessed, wire::specs::Machine::modelled, hardware::specs::Prog::pick))]
 pub fn access(port: Port, d: BenchState, x: Access) -> Reply
     ensures { result ≡ accessed (layout_of port.family) (has_mux port) x d }
 {
@@ -304,7 +279,6 @@ pub fn access(port: Port, d: BenchState, x: Access) -> Reply
 }
 
 // Whether I2CCTL is one that the driver may begin with: on the X552 layout BB_EN is set or both enables are off.
-#[tactic(auto, unfolding(wire::specs::Lines::ready))]
 pub fn ready(family: Family, word: u32) -> bool
     ensures { result ≡ ready (layout_of family) word }
 {
@@ -319,14 +293,12 @@ pub fn ready(family: Family, word: u32) -> bool
 }
 
 // Whether both lines are released.
-#[tactic(auto, unfolding(crate::specs::Register::released, wire::specs::Lines::levels, wire::specs::Lines::master))]
 pub fn released(family: Family, d: BenchState) -> bool
     ensures { result ≡ released (layout_of family) d }
 {
     let l = bus::layout_of(family);
-    let bench = d.bench;
     if scl_high(l, d.word) {
-        return sda_high(l, d.word, crate::pulls_low(bench));
+        return sda_high(l, d.word, crate::pulls_low(d.bench));
     }
     false
 }

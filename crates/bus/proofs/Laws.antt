@@ -12,7 +12,6 @@ use Rattle.hardware.specs.Prog.{Prog, erase, R, pick}
 use Rattle.bus.specs.declared.Layout.{Layout}
 use Rattle.bus.specs.declared.line.Goal.TheVariants.{Up}
 use Rattle.bus.specs.declared.line.Line.TheVariants.{Ack, Write}
-use Rattle.bus.specs.declared.line.LineNext.TheVariants.{Going}
 use Rattle.bus.specs.Bus.{Held, Bus, or_held, put, get, scl_tries, scl_high, ack_tries}
 use Rattle.bus.specs.declared.line.Call.{Call}
 use Rattle.bus.specs.declared.line.Call.TheVariants.{Look, Sda, Release, Up as UpCall}
@@ -23,10 +22,10 @@ use Rattle.bus.specs.declared.command.Piece.TheVariants.{Pulses, Probe, Lower, P
 use Rattle.bus.specs.Command.{pulse_call, out_bit_call, sense_call, ack_call, start_call, stop_call, end_call, send_call, read_call, pulses_call, probe_call, free_call, call_at, stop_count, free_count, call_count, calls_left}
 use Rattle.hardware.specs.declared.Access.{Access}
 use Rattle.bus.specs.declared.job.Job.{Job}
-use Rattle.bus.specs.declared.quick.Moved.{Moved}
-use Rattle.bus.specs.declared.quick.Moved.TheVariants.{On, Slow}
 use Rattle.bus.specs.Quick.{MovedBy}
 use Rattle.bus.specs.Line.{valid_call, called, ack_down, settled, access_line, access_at, rest_line, rest_at, line_next, heard_at, heard_goal}
+use Rattle.hardware.specs.declared.Next.TheVariants.{Going}
+use Rattle.std.specs.Prelude.{Some, None, Option}
 
 -- what an answer was taken for is the Rust's reading of it
 pub fed_held : {A : Type 0} {q : Prog Held} {x y : R A} (k : A → Bus) (ctl : ℕ) → q ≡ erase (or_held k ctl x) → x ≡ y → q ≡ erase (or_held k ctl y)
@@ -250,7 +249,7 @@ pub itself : (n : ℕ) → leb n n ≡ true
 itself n = le-leb n n (omega arith)
 
 -- what the direct way promises may be weakened
-pub moved_map : (P Q : Access → Job → Type 0) → ((x : Access) (j : Job) → P x j → Q x j) → (m : Moved) → MovedBy P m → MovedBy Q m
+pub moved_map : (P Q : Access → Job → Type 0) → ((x : Access) (j : Job) → P x j → Q x j) → (m : (Option (Access × Job))) → MovedBy P m → MovedBy Q m
 unfolding MovedBy
-moved_map P Q f (On x j) h = f x j h
-moved_map P Q f Slow h = tt
+moved_map P Q f (Some (x, j)) h = f x j h
+moved_map P Q f None h = tt

@@ -17,12 +17,8 @@ use Rattle.bus.specs.declared.command.Piece.{Piece}
 use Rattle.bus.specs.declared.command.Piece.TheVariants.{Pulses, Probe, Lower, Pull}
 use Rattle.bus.specs.declared.line.Call.{Call}
 use Rattle.bus.specs.declared.line.LineState.{LineState}
-use Rattle.bus.specs.declared.line.LineNext.{LineNext}
-use Rattle.bus.specs.declared.line.LineNext.TheVariants.{Going}
 use Rattle.bus.specs.declared.job.Job.{Job}
 use Rattle.bus.specs.declared.clear.Clear.{Clear}
-use Rattle.bus.specs.declared.clear.ClearNext.{ClearNext}
-use Rattle.bus.specs.declared.clear.ClearNext.TheVariants.{Going as ClearGoing}
 use Rattle.bus.specs.Clear.{access_clear, heard_clear, rest_clear, clear_next}
 use Rattle.bus.specs.Bus.{Bus, done, none}
 use Rattle.bus.specs.Line.{called, access_line, heard_line, rest_line, line_next}
@@ -31,6 +27,8 @@ use Rattle.bus.specs.Steps.{CALL_STEPS, JOB_STEPS}
 use Rattle.bus.specs.Left.{line_left, job_left}
 use Rattle.bus.proofs.Laws.{some_call}
 use Rattle.bus.proofs.Ends.{done_ends, line_after, job_after, clear_after, at_rest_ends, called_ends, clear_rest_ends}
+use Rattle.bus.specs.Aliases.{ClearNext, LineNext}
+use Rattle.hardware.specs.declared.Next.TheVariants.{Going}
 
 -- an answer of the awaited kind takes one
 pub line_falls : (l : Layout) (s : LineState) (a : Answer) (r : LineNext) → fits (access_line l s) a ≡ true → InType a
@@ -39,7 +37,7 @@ unfolding line_left line_next
 line_falls l s a r f h e = subst⁻¹ (λ n. line_left l r < n) (longest_heard (heard_line s) _) (longest_next _ _ a (e (λ _. done none)) f h)
 
 pub clear_falls : (l : Layout) (s : Clear) (a : Answer) (r : ClearNext) → fits (access_clear l s) a ≡ true → InType a → clear_next l r ≡ erase (rest_clear l s a)
-    → longest (clear_next l r) < longest (clear_next l (ClearGoing s))
+    → longest (clear_next l r) < longest (clear_next l (Going s))
 unfolding clear_next
 clear_falls l s a r f h e = subst⁻¹ (λ n. longest (clear_next l r) < n) (longest_heard (heard_clear s) _) (longest_next _ _ a e f h)
 
@@ -48,7 +46,7 @@ pub job_some : (l : Layout) (j : Job) → 0 < job_left l j
 unfolding job_left line_left line_next longest
 job_some l j = rw (longest_heard (heard_job j) (ask (access_line l j.state) (λ a. erase (rest_line l j.state a (λ _. done none))))) (omega arith)
 
-pub clear_some : (l : Layout) (s : Clear) → 0 < longest (clear_next l (ClearGoing s))
+pub clear_some : (l : Layout) (s : Clear) → 0 < longest (clear_next l (Going s))
 unfolding clear_next longest
 clear_some l s = rw (longest_heard (heard_clear s) (ask (access_clear l s) (λ a. erase (rest_clear l s a)))) (omega arith)
 
@@ -96,6 +94,6 @@ pub job_left_lem : (l : Layout) (j : Job) → job_left l j ≤ suc (job_after j)
 unfolding job_left
 job_left_lem l j = omega (arith, line_left_lem l j.state)
 
-pub clear_left : (l : Layout) (s : Clear) → longest (clear_next l (ClearGoing s)) ≤ suc (clear_after s)
+pub clear_left : (l : Layout) (s : Clear) → longest (clear_next l (Going s)) ≤ suc (clear_after s)
 unfolding clear_next
 clear_left l s = longest_few _ (suc (clear_after s)) (ends_heard (heard_clear s) _ _ (ask_ends _ _ (clear_after s) (λ a. ends_erase _ (clear_after s) (clear_rest_ends l s a))))

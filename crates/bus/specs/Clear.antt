@@ -1,8 +1,7 @@
 -- The clearing sequences one access at a time.
-use Rattle.std.specs.Prelude.{ℕ, Bool, true, false, eqb, ltb}
+use Rattle.std.specs.Prelude.{ℕ, Bool, true, false, eqb, ltb, Ok, Err}
 use Rattle.hardware.specs.declared.Access.{Access}
 use Rattle.hardware.specs.declared.Answer.{Answer}
-use Rattle.hardware.specs.declared.Outcome.TheVariants.{Ok as OutcomeOk, Err as OutcomeErr}
 use Rattle.hardware.specs.Failures.{failure_of}
 use Rattle.hardware.specs.Marks.{acknowledged}
 use Rattle.hardware.specs.Prog.{Prog, ask, erase, pick, ◌>>=◌}
@@ -14,10 +13,10 @@ use Rattle.bus.specs.declared.job.Job.{Job}
 use Rattle.bus.specs.declared.clear.Part.{Part}
 use Rattle.bus.specs.declared.clear.Part.TheVariants.{First, Free as Freeing, Again, Stop as Stopping, Probe as Probing, Lower as Lowering, Pull as Pulling}
 use Rattle.bus.specs.declared.clear.Clear.{Clear}
-use Rattle.bus.specs.declared.clear.ClearNext.{ClearNext}
-use Rattle.bus.specs.declared.clear.ClearNext.TheVariants.{Going, End}
 use Rattle.bus.specs.Bus.{Held, Bus, done, fail, none, wait, scl_low, quieted, clear_stop, clear_again, clear_free, pulled, rounds}
 use Rattle.bus.specs.Command.{access_job, heard_job, rest_job, valid_job}
+use Rattle.bus.specs.Aliases.{ClearNext}
+use Rattle.hardware.specs.declared.Next.TheVariants.{Going, End}
 
 unfoldable pub command_of : Part → Command
 command_of First = Start
@@ -53,8 +52,8 @@ rest_clear l s a = rest_part l s.part s.job a
 
 unfoldable pub clear_next : Layout → ClearNext → Prog Held
 clear_next l (Going s) = acknowledged (heard_clear s) (ask (access_clear l s) (λ a. erase (rest_clear l s a)))
-clear_next l (End ctl OutcomeOk) = done none ctl
-clear_next l (End ctl (OutcomeErr e)) = fail (failure_of e) ctl
+clear_next l (End (ctl, (Ok tt))) = done none ctl
+clear_next l (End (ctl, (Err e))) = fail (failure_of e) ctl
 
 -- fewer than ten rounds are left behind this one
 unfoldable pub valid_part : Part → Bool
@@ -71,4 +70,4 @@ valid_clear l s = pick (valid_part s.part) (valid_job l (command_of s.part) s.jo
 
 unfoldable pub valid_clear_next : Layout → ClearNext → Bool
 valid_clear_next l (Going s) = valid_clear l s
-valid_clear_next l (End ctl o) = true
+valid_clear_next l (End (ctl, o)) = true

@@ -6,7 +6,7 @@ use Rattle.hardware.specs.declared.Answer.{Answer}
 use Rattle.hardware.specs.Failures.{I2c}
 use Rattle.hardware.specs.Marks.{acknowledged}
 use Rattle.hardware.specs.Prog.{Prog, ask, erase, pick}
-use Rattle.hardware.specs.Registers.{byte}
+use Rattle.hardware.specs.Registers.{reply}
 use Rattle.bus.specs.declared.Layout.{Layout}
 use Rattle.bus.specs.declared.line.Call.{Call}
 use Rattle.bus.specs.declared.line.Call.TheVariants.{Look, Sda, Release, Up, Down, Wait, Sample, Ack, Close}
@@ -15,10 +15,10 @@ use Rattle.bus.specs.declared.command.Command.TheVariants.{Start, Send, Read, St
 use Rattle.bus.specs.declared.command.Piece.{Piece}
 use Rattle.bus.specs.declared.command.Piece.TheVariants.{Pulses, Probe, Lower, Pull}
 use Rattle.bus.specs.declared.job.Job.{Job}
-use Rattle.bus.specs.declared.job.JobNext.{JobNext}
-use Rattle.bus.specs.declared.job.JobNext.TheVariants.{Going, End}
 use Rattle.bus.specs.Bus.{Held, Bus, or_held, fail, bit_of, shifted, wait, sample, scl_high, scl_low, sda, release_sda, pulses}
 use Rattle.bus.specs.Line.{called, access_line, heard_line, rest_line, valid_line}
+use Rattle.bus.specs.Aliases.{JobNext}
+use Rattle.hardware.specs.declared.Next.TheVariants.{Going, End}
 
 -- how every bit ends: Up, a wait, Down, a wait
 unfoldable pub pulse_call : ℕ → Call
@@ -151,11 +151,11 @@ rest_job l device c s a k = rest_line l s.state a (calls_left l device c s.left 
 
 unfoldable pub job_next : Layout → ℕ → Command → JobNext → (ℕ → Bus) → Prog Held
 job_next l device c (Going s) k = acknowledged (heard_job s) (ask (access_job l s) (λ a. erase (rest_job l device c s a k)))
-job_next l device c (End ctl b) k = erase (or_held k ctl (byte b))
+job_next l device c (End (ctl, b)) k = erase (or_held k ctl (reply b))
 
 unfoldable pub valid_job : Layout → Command → Job → Bool
 valid_job l c s = pick (ltb s.left (call_count l c)) (valid_line s.state.line) false
 
 unfoldable pub valid_job_next : Layout → Command → JobNext → Bool
 valid_job_next l c (Going s) = valid_job l c s
-valid_job_next l c (End ctl b) = true
+valid_job_next l c (End (ctl, b)) = true

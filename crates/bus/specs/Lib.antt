@@ -6,3 +6,4 @@ pub mod Clear
 pub mod Steps
 pub mod Left
 pub mod Quick
+pub mod Aliases

@@ -5,7 +5,7 @@ use Rattle.hardware.specs.declared.Access.TheVariants.{Read, Write, Wait}
 use Rattle.hardware.specs.declared.Answer.{Answer}
 use Rattle.hardware.specs.Marks.{acknowledged}
 use Rattle.hardware.specs.Prog.{Prog, ask, erase}
-use Rattle.hardware.specs.Registers.{STATUS, raw, written, flushed, micros, outcome}
+use Rattle.hardware.specs.Registers.{STATUS, raw, written, flushed, micros, reply}
 use Rattle.bus.specs.declared.Layout.{Layout}
 use Rattle.bus.specs.declared.line.Call.{Call}
 use Rattle.bus.specs.declared.line.Call.TheVariants.{Look, Sda, Release, Up, Down, Wait as Pausing, Sample, Ack, Close}
@@ -14,9 +14,9 @@ use Rattle.bus.specs.declared.line.Goal.TheVariants.{High, Free, Low, Release as
 use Rattle.bus.specs.declared.line.Line.{Line}
 use Rattle.bus.specs.declared.line.Line.TheVariants.{Look as Looking, Pause, Sample as Sampling, Ack as Listening, Rest, Write as Writing, Flush, Settle, Check, Rise}
 use Rattle.bus.specs.declared.line.LineState.{LineState}
-use Rattle.bus.specs.declared.line.LineNext.{LineNext}
-use Rattle.bus.specs.declared.line.LineNext.TheVariants.{Going, End}
 use Rattle.bus.specs.Bus.{Held, Bus, or_held, flushing, get, wait, shifted, scl_seen, scl_tries, scl_high, scl_low, sda_seen, sda_free, sda, release_sda, look, look_seen, close, sample, sample_seen, ack_seen, ack_tries}
+use Rattle.bus.specs.Aliases.{LineNext}
+use Rattle.hardware.specs.declared.Next.TheVariants.{Going, End}
 
 -- a bit was heard
 unfoldable pub sensed : ℕ → (ℕ → Bus) → Bool → Bus
@@ -126,7 +126,7 @@ rest_line l s a k = rest_at l s.ctl s.bits s.line a k
 
 unfoldable pub line_next : Layout → LineNext → (ℕ → Bus) → Prog Held
 line_next l (Going s) k = acknowledged (heard_line s) (ask (access_line l s) (λ a. erase (rest_line l s a k)))
-line_next l (End ctl bits o) k = erase (or_held (λ _. k bits) ctl (outcome o))
+line_next l (End (ctl, bits, o)) k = erase (or_held (λ _. k bits) ctl (reply o))
 
 -- the counters' limits: 500 tries, 10 samples, and no wait of a command is above 5 µs
 unfoldable pub valid_goal : Goal → Bool
@@ -152,7 +152,7 @@ valid_line (Rise left) = ltb left 500
 
 unfoldable pub valid_line_next : LineNext → Bool
 valid_line_next (Going s) = valid_line s.line
-valid_line_next (End ctl bits o) = true
+valid_line_next (End (ctl, bits, o)) = true
 
 unfoldable pub valid_call : Call → Bool
 valid_call (Pausing us) = ltb us 6

@@ -1,5 +1,7 @@
 // The clearing sequences after a failed transfer. That of the Rust: a start, SDA released, nine pulses of SCL, a start and a
 // stop. The other is in `rounds.rt`.
+#![tactic(auto, using(hardware::proofs::Prog::heard_on, crate::proofs::Commands::job_stop, hardware::proofs::Prog::over, crate::proofs::Commands::job_start, crate::proofs::Commands::job_free, crate::proofs::Laws::picked_first, crate::proofs::Laws::picked_second), unfolding(hardware::specs::Prog::followed, crate::specs::Command::job_next, crate::specs::Bus::or_held, hardware::specs::Registers::reply, crate::specs::Bus::quieted, crate::specs::Bus::or_quiet, hardware::specs::Prog::erase, hardware::specs::Prog::pick, crate::specs::Clear::clear_next, crate::specs::Clear::valid_clear_next, crate::specs::Clear::access_clear, crate::specs::Clear::rest_clear, crate::specs::Clear::rest_part, crate::specs::Clear::valid_clear, crate::specs::Clear::valid_part, crate::specs::Clear::command_of, crate::specs::Command::valid_job_next, crate::specs::Bus::clear_stop, crate::specs::Bus::quiet, crate::specs::Bus::clear_again, crate::specs::Bus::clear_free, crate::specs::Command::freed, crate::specs::Bus::clear))]
+
 ghost use Rattle.std.specs.Prelude.{◌≡◌, true};
 ghost use Rattle.hardware.specs.Prog.{erase, followed};
 ghost use Rattle.bus.specs.declared.command.Command.TheVariants.{Start as StartCommand, Stop as StopCommand, Free as FreeCommand};
@@ -11,7 +13,7 @@ ghost use Rattle.bus.specs.Clear.{command_of, access_clear, heard_clear, rest_cl
 use crate::Layout;
 use crate::command::{Command, Piece};
 use crate::job::{Job, JobNext};
-use hardware::{Access, Answer, Byte, Outcome};
+use hardware::{Access, Answer, Next, R};
 
 // A sequence's parts: the first three are the Rust's, the last three the other's, and Stop is of both. Probe and Lower hold
 // the rounds after this one.
@@ -32,131 +34,118 @@ pub struct Clear {
     pub job: Job,
 }
 
-#[derive(Clone, Copy)]
-pub enum ClearNext {
-    Going(Clear),
-    End(u32, Outcome),
-}
+pub type ClearNext = Next<Clear, (u32, R<()>)>;
 
-#[tactic(auto, using(hardware::proofs::Prog::heard_on), unfolding(hardware::specs::Prog::followed, crate::specs::Command::job_next, crate::specs::Bus::or_held, hardware::specs::Registers::byte, crate::specs::Bus::quieted, crate::specs::Bus::or_quiet, hardware::specs::Prog::erase, hardware::specs::Prog::pick, crate::specs::Clear::clear_next, crate::specs::Clear::valid_clear_next, crate::specs::Clear::access_clear, crate::specs::Clear::rest_clear, crate::specs::Clear::rest_part, crate::specs::Clear::valid_clear, crate::specs::Clear::valid_part, crate::specs::Clear::command_of, crate::specs::Command::valid_job_next))]
 fn stopped(l: Layout, n: JobNext) -> ClearNext
     ensures yields { clear_next l result ≡ followed (job_next l 0 StopCommand n (λ _. done none)) (quieted (done none)) }
     ensures limits { valid_job_next l StopCommand n ≡ true → valid_clear_next l result ≡ true }
 {
     match n {
-        JobNext::Going(j) => ClearNext::Going(Clear {
+        Next::Going(j) => Next::Going(Clear {
             part: Part::Stop,
             job: j,
         }),
-        JobNext::End(ctl, b) => match b {
-            Byte::Ok(_) => ClearNext::End(ctl, Outcome::Ok),
-            Byte::Err(e) => {
+        Next::End((ctl, b)) => match b {
+            Ok(_) => Next::End((ctl, Ok(()))),
+            Err(e) => {
                 if crate::is_i2c(e) {
-                    return ClearNext::End(ctl, Outcome::Ok);
+                    return Next::End((ctl, Ok(())));
                 }
-                ClearNext::End(ctl, Outcome::Err(e))
+                Next::End((ctl, Err(e)))
             }
         },
     }
 }
 
-#[tactic(auto, using(crate::proofs::Commands::job_stop, hardware::proofs::Prog::over), unfolding(crate::specs::Bus::clear_stop, crate::specs::Bus::quiet, crate::specs::Command::valid_job_next))]
 pub fn stop(l: Layout, ctl: u32) -> ClearNext
     ensures yields { clear_next l result ≡ erase (clear_stop l ctl) }
     ensures limits { valid_clear_next l result ≡ true }
 {
-    stopped(l, JobNext::Going(crate::job::open(l, Command::Stop, ctl)))
+    stopped(l, Next::Going(crate::job::open(l, Command::Stop, ctl)))
 }
 
-#[tactic(auto, using(hardware::proofs::Prog::heard_on), unfolding(hardware::specs::Prog::followed, crate::specs::Command::job_next, crate::specs::Bus::or_held, hardware::specs::Registers::byte, crate::specs::Bus::quieted, crate::specs::Bus::or_quiet, hardware::specs::Prog::erase, hardware::specs::Prog::pick, crate::specs::Clear::valid_clear_next, crate::specs::Clear::clear_next, crate::specs::Clear::access_clear, crate::specs::Clear::rest_clear, crate::specs::Clear::rest_part, crate::specs::Clear::valid_clear, crate::specs::Clear::valid_part, crate::specs::Clear::command_of, crate::specs::Command::valid_job_next))]
 fn started(l: Layout, n: JobNext) -> ClearNext
     ensures yields { clear_next l result ≡ followed (job_next l 0 StartCommand n (λ _. done none)) (quieted (clear_stop l)) }
     ensures limits { valid_job_next l StartCommand n ≡ true → valid_clear_next l result ≡ true }
 {
     match n {
-        JobNext::Going(j) => ClearNext::Going(Clear {
+        Next::Going(j) => Next::Going(Clear {
             part: Part::Again,
             job: j,
         }),
-        JobNext::End(ctl, b) => match b {
-            Byte::Ok(_) => stop(l, ctl),
-            Byte::Err(e) => {
+        Next::End((ctl, b)) => match b {
+            Ok(_) => stop(l, ctl),
+            Err(e) => {
                 if crate::is_i2c(e) {
                     return stop(l, ctl);
                 }
-                ClearNext::End(ctl, Outcome::Err(e))
+                Next::End((ctl, Err(e)))
             }
         },
     }
 }
 
-#[tactic(auto, using(crate::proofs::Commands::job_start, hardware::proofs::Prog::over), unfolding(crate::specs::Bus::clear_again, crate::specs::Bus::quiet, crate::specs::Command::valid_job_next))]
 fn again(l: Layout, ctl: u32) -> ClearNext
     ensures yields { clear_next l result ≡ erase (clear_again l ctl) }
     ensures limits { valid_clear_next l result ≡ true }
 {
-    started(l, JobNext::Going(crate::job::open(l, Command::Start, ctl)))
+    started(l, Next::Going(crate::job::open(l, Command::Start, ctl)))
 }
 
-#[tactic(auto, unfolding(crate::specs::Clear::clear_next, crate::specs::Clear::access_clear, crate::specs::Clear::rest_clear, crate::specs::Clear::rest_part, crate::specs::Command::job_next, crate::specs::Clear::valid_clear_next, crate::specs::Clear::valid_clear, crate::specs::Clear::valid_part, crate::specs::Clear::command_of, crate::specs::Command::valid_job_next, hardware::specs::Prog::pick, crate::specs::Bus::or_held, hardware::specs::Registers::byte, hardware::specs::Prog::erase))]
 fn freed(l: Layout, n: JobNext) -> ClearNext
     ensures yields { clear_next l result ≡ job_next l 0 (FreeCommand Pulses) n (λ _. clear_again l) }
     ensures limits { valid_job_next l (FreeCommand Pulses) n ≡ true → valid_clear_next l result ≡ true }
 {
     match n {
-        JobNext::Going(j) => ClearNext::Going(Clear {
+        Next::Going(j) => Next::Going(Clear {
             part: Part::Free,
             job: j,
         }),
-        JobNext::End(ctl, b) => match b {
-            Byte::Ok(_) => again(l, ctl),
-            Byte::Err(e) => ClearNext::End(ctl, Outcome::Err(e)),
+        Next::End((ctl, b)) => match b {
+            Ok(_) => again(l, ctl),
+            Err(e) => Next::End((ctl, Err(e))),
         },
     }
 }
 
-#[tactic(auto, using(crate::proofs::Commands::job_free), unfolding(crate::specs::Bus::clear_free, crate::specs::Command::freed, crate::specs::Command::valid_job_next))]
 fn free(l: Layout, ctl: u32) -> ClearNext
     ensures yields { clear_next l result ≡ erase (clear_free l ctl) }
     ensures limits { valid_clear_next l result ≡ true }
 {
     freed(
         l,
-        JobNext::Going(crate::job::open(l, Command::Free(Piece::Pulses), ctl)),
+        Next::Going(crate::job::open(l, Command::Free(Piece::Pulses), ctl)),
     )
 }
 
-#[tactic(auto, using(hardware::proofs::Prog::heard_on), unfolding(hardware::specs::Prog::followed, crate::specs::Command::job_next, crate::specs::Bus::or_held, hardware::specs::Registers::byte, crate::specs::Bus::quieted, crate::specs::Bus::or_quiet, hardware::specs::Prog::erase, hardware::specs::Prog::pick, crate::specs::Clear::valid_clear_next, crate::specs::Clear::clear_next, crate::specs::Clear::access_clear, crate::specs::Clear::rest_clear, crate::specs::Clear::rest_part, crate::specs::Clear::valid_clear, crate::specs::Clear::valid_part, crate::specs::Clear::command_of, crate::specs::Command::valid_job_next))]
 fn first(l: Layout, n: JobNext) -> ClearNext
     ensures yields { clear_next l result ≡ followed (job_next l 0 StartCommand n (λ _. done none)) (quieted (clear_free l)) }
     ensures limits { valid_job_next l StartCommand n ≡ true → valid_clear_next l result ≡ true }
 {
     match n {
-        JobNext::Going(j) => ClearNext::Going(Clear {
+        Next::Going(j) => Next::Going(Clear {
             part: Part::First,
             job: j,
         }),
-        JobNext::End(ctl, b) => match b {
-            Byte::Ok(_) => free(l, ctl),
-            Byte::Err(e) => {
+        Next::End((ctl, b)) => match b {
+            Ok(_) => free(l, ctl),
+            Err(e) => {
                 if crate::is_i2c(e) {
                     return free(l, ctl);
                 }
-                ClearNext::End(ctl, Outcome::Err(e))
+                Next::End((ctl, Err(e)))
             }
         },
     }
 }
 
-#[tactic(auto, using(crate::proofs::Commands::job_start, hardware::proofs::Prog::over), unfolding(crate::specs::Bus::clear, crate::specs::Bus::quiet, crate::specs::Command::valid_job_next))]
 pub fn open(l: Layout, ctl: u32) -> ClearNext
     ensures yields { clear_next l result ≡ erase (clear l ctl) }
     ensures limits { valid_clear_next l result ≡ true }
 {
-    first(l, JobNext::Going(crate::job::open(l, Command::Start, ctl)))
+    first(l, Next::Going(crate::job::open(l, Command::Start, ctl)))
 }
 
-#[tactic(auto, unfolding(crate::specs::Clear::access_clear))]
 pub fn access(l: Layout, s: Clear) -> Access
     ensures { result ≡ access_clear l s }
 {
@@ -171,7 +160,6 @@ pub fn heard(s: Clear) -> u8
     crate::job::heard(j)
 }
 
-#[tactic(auto, using(crate::proofs::Laws::picked_first, crate::proofs::Laws::picked_second, hardware::proofs::Prog::over), unfolding(crate::specs::Clear::rest_clear, crate::specs::Clear::rest_part, crate::specs::Clear::valid_clear, crate::specs::Clear::valid_part, crate::specs::Clear::command_of, hardware::specs::Prog::pick))]
 pub fn step(l: Layout, s: Clear, a: Answer) -> ClearNext
     ensures yields { clear_next l result ≡ erase (rest_clear l s a) }
     ensures limits { valid_clear l s ≡ true → valid_clear_next l result ≡ true }
@@ -207,7 +195,6 @@ pub fn step(l: Layout, s: Clear, a: Answer) -> ClearNext
     }
 }
 
-#[tactic(auto, unfolding(crate::specs::Clear::command_of))]
 fn command(p: Part) -> Command
     ensures { result ≡ command_of p }
 {
@@ -222,7 +209,6 @@ fn command(p: Part) -> Command
     }
 }
 
-#[tactic(auto, unfolding(crate::specs::Clear::valid_part))]
 fn valid_part(p: Part) -> bool
     ensures { result ≡ valid_part p }
 {
@@ -237,7 +223,6 @@ fn valid_part(p: Part) -> bool
     }
 }
 
-#[tactic(auto, unfolding(crate::specs::Clear::valid_clear, hardware::specs::Prog::pick))]
 pub fn valid(l: Layout, s: Clear) -> bool
     ensures { result ≡ valid_clear l s }
 {

@@ -1,4 +1,6 @@
 // A command of a transfer as a list of line calls, indexed by the number of calls after the one that is given.
+#![tactic(auto, using(crate::proofs::Laws::pulse_first, crate::proofs::Laws::sense_first, crate::proofs::Laws::ack_first, crate::proofs::Laws::start_first, crate::proofs::Laws::stop_first, crate::proofs::Laws::probe_first), unfolding(crate::specs::Bus::bit_of, crate::specs::Command::pulse_call, crate::specs::Command::out_bit_call, hardware::specs::Prog::pick, crate::specs::Command::sense_call, crate::specs::Command::ack_call, crate::specs::Command::start_call, crate::specs::Command::stop_call, crate::specs::Command::send_call, crate::specs::Command::read_call, crate::specs::Command::pulses_call, crate::specs::Command::probe_call, crate::specs::Command::free_call, crate::specs::Command::end_call, crate::specs::Command::call_at, crate::specs::Command::stop_count, crate::specs::Command::free_count, crate::specs::Command::call_count))]
+
 ghost use Rattle.std.specs.Prelude.{◌<◌, ◌≡◌};
 ghost use Rattle.bus.specs.Bus.{bit_of};
 ghost use Rattle.bus.specs.Command.{pulse_call, out_bit_call, sense_call, ack_call, start_call, stop_call, send_call, read_call, pulses_call, probe_call, free_call, end_call, call_at, stop_count, free_count, call_count};
@@ -26,7 +28,6 @@ pub enum Command {
     Free(Piece),
 }
 
-#[tactic(auto, unfolding(crate::specs::Bus::bit_of))]
 fn bit(byte: u8, n: u8) -> bool
     requires { n < 64 }
     ensures { result ≡ bit_of byte n }
@@ -34,7 +35,6 @@ fn bit(byte: u8, n: u8) -> bool
     (byte as u64 >> n) % 2 == 1
 }
 
-#[tactic(auto, using(crate::proofs::Laws::pulse_first), unfolding(crate::specs::Command::pulse_call))]
 fn pulse(n: u8) -> Call
     ensures { result ≡ pulse_call n }
 {
@@ -46,7 +46,6 @@ fn pulse(n: u8) -> Call
     }
 }
 
-#[tactic(auto, unfolding(crate::specs::Command::out_bit_call, hardware::specs::Prog::pick))]
 fn out_bit(high: bool, n: u8) -> Call
     ensures { result ≡ out_bit_call high n }
 {
@@ -56,7 +55,6 @@ fn out_bit(high: bool, n: u8) -> Call
     Call::Sda(high)
 }
 
-#[tactic(auto, using(crate::proofs::Laws::sense_first), unfolding(crate::specs::Command::sense_call))]
 fn sense(n: u8) -> Call
     ensures { result ≡ sense_call n }
 {
@@ -70,7 +68,6 @@ fn sense(n: u8) -> Call
     }
 }
 
-#[tactic(auto, using(crate::proofs::Laws::ack_first), unfolding(crate::specs::Command::ack_call))]
 fn ack(n: u8) -> Call
     ensures { result ≡ ack_call n }
 {
@@ -83,7 +80,6 @@ fn ack(n: u8) -> Call
     }
 }
 
-#[tactic(auto, using(crate::proofs::Laws::start_first), unfolding(crate::specs::Command::start_call))]
 fn start(n: u8) -> Call
     ensures { result ≡ start_call n }
 {
@@ -99,7 +95,6 @@ fn start(n: u8) -> Call
     }
 }
 
-#[tactic(auto, using(crate::proofs::Laws::stop_first), unfolding(crate::specs::Command::stop_call))]
 fn stop(n: u8) -> Call
     ensures { result ≡ stop_call n }
 {
@@ -112,7 +107,6 @@ fn stop(n: u8) -> Call
     }
 }
 
-#[tactic(auto, unfolding(crate::specs::Command::send_call, hardware::specs::Prog::pick))]
 fn send(byte: u8, n: u8) -> Call
     ensures { result ≡ send_call byte n }
 {
@@ -123,7 +117,6 @@ fn send(byte: u8, n: u8) -> Call
     out_bit(bit(byte, m / 5), m % 5)
 }
 
-#[tactic(auto, unfolding(crate::specs::Command::read_call, hardware::specs::Prog::pick))]
 fn read(high: bool, n: u8) -> Call
     ensures { result ≡ read_call high n }
 {
@@ -133,7 +126,6 @@ fn read(high: bool, n: u8) -> Call
     sense((n - 5) % 6)
 }
 
-#[tactic(auto, unfolding(crate::specs::Command::pulses_call, hardware::specs::Prog::pick))]
 fn pulses(n: u8) -> Call
     ensures { result ≡ pulses_call n }
 {
@@ -143,7 +135,6 @@ fn pulses(n: u8) -> Call
     Call::Release
 }
 
-#[tactic(auto, using(crate::proofs::Laws::probe_first), unfolding(crate::specs::Command::probe_call))]
 fn probe(n: u8) -> Call
     ensures { result ≡ probe_call n }
 {
@@ -155,7 +146,6 @@ fn probe(n: u8) -> Call
     }
 }
 
-#[tactic(auto, unfolding(crate::specs::Command::free_call))]
 fn free(p: Piece, n: u8) -> Call
     ensures { result ≡ free_call p n }
 {
@@ -168,7 +158,6 @@ fn free(p: Piece, n: u8) -> Call
 }
 
 // On the X552 and X553 a stop has one call more, the word that ends bit-banging.
-#[tactic(auto, unfolding(crate::specs::Command::end_call, hardware::specs::Prog::pick))]
 fn end(l: Layout, n: u8) -> Call
     ensures { result ≡ end_call l n }
 {
@@ -181,7 +170,6 @@ fn end(l: Layout, n: u8) -> Call
     stop(n - 1)
 }
 
-#[tactic(auto, unfolding(crate::specs::Command::call_at))]
 pub fn call(l: Layout, c: Command, n: u8) -> Call
     ensures { result ≡ call_at l c n }
 {
@@ -194,7 +182,6 @@ pub fn call(l: Layout, c: Command, n: u8) -> Call
     }
 }
 
-#[tactic(auto, unfolding(crate::specs::Command::stop_count, hardware::specs::Prog::pick))]
 fn stop_count(l: Layout) -> u8
     ensures { result ≡ stop_count l }
 {
@@ -204,7 +191,6 @@ fn stop_count(l: Layout) -> u8
     6
 }
 
-#[tactic(auto, unfolding(crate::specs::Command::free_count))]
 fn free_count(p: Piece) -> u8
     ensures { result ≡ free_count p }
 {
@@ -216,7 +202,6 @@ fn free_count(p: Piece) -> u8
     }
 }
 
-#[tactic(auto, unfolding(crate::specs::Command::call_count))]
 pub fn count(l: Layout, c: Command) -> u8
     ensures { result ≡ call_count l c }
 {

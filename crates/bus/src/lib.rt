@@ -1,5 +1,5 @@
 // The module bus through I2CCTL: its two layouts, the line calls of `Bus`, and the commands as lists of line calls.
-#![tactic(auto)]
+#![tactic(auto, unfolding(crate::specs::Layout::x550em, crate::specs::Layout::layout_of, hardware::specs::Prog::pick, crate::specs::Bus::is_i2c, hardware::specs::Failures::failure_of))]
 
 ghost use Rattle.std.specs.Prelude.{◌≡◌};
 ghost use Rattle.hardware.specs.Failures.{failure_of};
@@ -38,7 +38,6 @@ pub struct Taken {
 }
 
 // The X552 and X553.
-#[tactic(auto, unfolding(crate::specs::Layout::x550em))]
 pub fn x550em(family: Family) -> bool
     ensures { result ≡ x550em family }
 {
@@ -51,7 +50,6 @@ pub fn x550em(family: Family) -> bool
     }
 }
 
-#[tactic(auto, unfolding(crate::specs::Layout::layout_of, hardware::specs::Prog::pick))]
 pub fn layout_of(family: Family) -> Layout
     ensures { result ≡ layout_of family }
 {
@@ -79,7 +77,6 @@ pub fn layout_of(family: Family) -> Layout
     }
 }
 
-#[tactic(auto, unfolding(crate::specs::Bus::is_i2c, hardware::specs::Failures::failure_of))]
 pub fn is_i2c(e: Error) -> bool
     ensures { result ≡ is_i2c (failure_of e) }
 {

@@ -1,12 +1,15 @@
 // The line calls of `Bus`, one access at a time.
+#![tactic(auto, using(hardware::proofs::Prog::erase_heard, crate::proofs::Laws::ack_more, crate::proofs::Laws::fewer, crate::proofs::Laws::ltb_leb, crate::proofs::Laws::scl_more, crate::proofs::Laws::fed_held), unfolding(crate::specs::Line::settle_us, crate::specs::Line::access_line, crate::specs::Line::access_at, crate::specs::Line::heard_goal, crate::specs::Line::heard_at, crate::specs::Bus::sda_level, hardware::specs::Prog::pick, crate::specs::Bus::shifted, crate::specs::Line::line_next, crate::specs::Bus::or_held, hardware::specs::Prog::erase, hardware::specs::Registers::reply, crate::specs::Bus::look_seen, crate::specs::Line::valid_line_next, crate::specs::Bus::sample_seen, crate::specs::Line::sensed, crate::specs::Line::rest_line, crate::specs::Line::rest_at, crate::specs::Bus::scl_low, crate::specs::Bus::put, crate::specs::Line::settled, crate::specs::Line::valid_line, crate::specs::Line::valid_goal, hardware::specs::Marks::acknowledged, crate::specs::Bus::ack_tries, crate::specs::Bus::ack_seen, crate::specs::Bus::wait, crate::specs::Bus::sda_seen, hardware::specs::Failures::failure_of, crate::specs::Bus::scl_tries, crate::specs::Bus::scl_seen, crate::specs::Bus::sda_free, crate::specs::Bus::get, crate::specs::Line::reached, crate::specs::Bus::flushing, crate::specs::Bus::sda))]
+
 ghost use Rattle.std.specs.Prelude.{ℕ, ◌≡◌, true, leb, ltb};
 ghost use Rattle.hardware.specs.Prog.{erase};
-ghost use Rattle.hardware.specs.Registers.{word, outcome};
+ghost use Rattle.hardware.specs.Registers.{reply};
 ghost use Rattle.bus.specs.Bus.{Bus, or_held, look_seen, sample_seen, sda_level, shifted, scl_seen, scl_tries, sda_seen, sda_free, sda, scl_low, heard, ack_seen, ack_tries, flushing};
 ghost use Rattle.bus.specs.Line.{settle_us, settled, reached, sensed, ack_down, called, heard_goal, heard_at, access_line, rest_line, line_next, valid_goal, valid_line, valid_line_next, valid_call};
+ghost use Rattle.hardware.specs.declared.Next.TheVariants.{Going};
 
 use crate::Layout;
-use hardware::{Access, Answer, Error, Micros, Outcome, Word};
+use hardware::{Access, Answer, Error, Micros, Next, R};
 
 #[derive(Clone, Copy)]
 pub enum Call {
@@ -58,13 +61,8 @@ pub struct LineState {
     pub line: Line,
 }
 
-#[derive(Clone, Copy)]
-pub enum LineNext {
-    Going(LineState),
-    End(u32, u8, Outcome),
-}
+pub type LineNext = Next<LineState, (u32, u8, R<()>)>;
 
-#[tactic(auto, unfolding(crate::specs::Line::settle_us))]
 pub(crate) fn settle_us(g: Goal) -> u32
     ensures { result ≡ settle_us g }
 {
@@ -79,7 +77,6 @@ pub(crate) fn settle_us(g: Goal) -> u32
     }
 }
 
-#[tactic(auto, unfolding(crate::specs::Line::access_line, crate::specs::Line::access_at))]
 pub fn access(l: Layout, s: LineState) -> Access
     ensures { result ≡ access_line l s }
 {
@@ -98,7 +95,6 @@ pub fn access(l: Layout, s: LineState) -> Access
     }
 }
 
-#[tactic(auto, unfolding(crate::specs::Line::heard_goal))]
 fn heard_goal(g: Goal) -> u8
     ensures { result ≡ heard_goal g }
 {
@@ -114,7 +110,6 @@ fn heard_goal(g: Goal) -> u8
 }
 
 // The samples that were left when a byte was acknowledged just before the access; 10 where none was.
-#[tactic(auto, unfolding(crate::specs::Line::heard_at))]
 pub fn heard(line: Line) -> u8
     ensures { result ≡ heard_at line }
 {
@@ -133,7 +128,6 @@ pub fn heard(line: Line) -> u8
 }
 
 // SDA reads high.
-#[tactic(auto, unfolding(crate::specs::Bus::sda_level, hardware::specs::Prog::pick))]
 pub(crate) fn sda_level(l: Layout, v: u32) -> bool
     ensures { result ≡ sda_level l v }
 {
@@ -144,7 +138,6 @@ pub(crate) fn sda_level(l: Layout, v: u32) -> bool
 }
 
 // One more bit, from the right.
-#[tactic(auto, unfolding(crate::specs::Bus::shifted, hardware::specs::Prog::pick))]
 pub(crate) fn shift(bits: u8, bit: bool) -> u8
     ensures { result ≡ shifted bits bit }
 {
@@ -161,32 +154,29 @@ pub(crate) fn at(ctl: u32, bits: u8, line: Line) -> LineState
     LineState { ctl, bits, line }
 }
 
-#[tactic(auto, unfolding(crate::specs::Line::line_next, crate::specs::Bus::or_held, hardware::specs::Prog::erase, hardware::specs::Registers::outcome, hardware::specs::Registers::word, crate::specs::Bus::look_seen, crate::specs::Line::valid_line_next))]
-fn look_seen(l: Layout, ctl: u32, bits: u8, w: Word) -> LineNext
-    ensures yields { (k : ℕ → Bus) → line_next l result k ≡ erase (or_held (look_seen l (k bits)) ctl (word w)) }
+fn look_seen(l: Layout, ctl: u32, bits: u8, w: R<u32>) -> LineNext
+    ensures yields { (k : ℕ → Bus) → line_next l result k ≡ erase (or_held (look_seen l (k bits)) ctl (reply w)) }
     ensures limits { valid_line_next result ≡ true }
 {
     match w {
-        Word::Ok(v) => LineNext::End(v | l.bben, bits, Outcome::Ok),
-        Word::Err(e) => LineNext::End(ctl, bits, Outcome::Err(e)),
+        Ok(v) => Next::End((v | l.bben, bits, Ok(()))),
+        Err(e) => Next::End((ctl, bits, Err(e))),
     }
 }
 
-#[tactic(auto, unfolding(crate::specs::Line::line_next, crate::specs::Bus::or_held, hardware::specs::Prog::erase, hardware::specs::Registers::outcome, hardware::specs::Registers::word, crate::specs::Bus::sample_seen, crate::specs::Line::sensed, crate::specs::Line::valid_line_next))]
-fn sample_seen(l: Layout, ctl: u32, bits: u8, w: Word) -> LineNext
-    ensures yields { (k : ℕ → Bus) → line_next l result k ≡ erase (or_held (sample_seen l (sensed bits k)) ctl (word w)) }
+fn sample_seen(l: Layout, ctl: u32, bits: u8, w: R<u32>) -> LineNext
+    ensures yields { (k : ℕ → Bus) → line_next l result k ≡ erase (or_held (sample_seen l (sensed bits k)) ctl (reply w)) }
     ensures limits { valid_line_next result ≡ true }
 {
     match w {
-        Word::Ok(v) => LineNext::End(ctl, shift(bits, sda_level(l, v)), Outcome::Ok),
-        Word::Err(e) => LineNext::End(ctl, bits, Outcome::Err(e)),
+        Ok(v) => Next::End((ctl, shift(bits, sda_level(l, v)), Ok(()))),
+        Err(e) => Next::End((ctl, bits, Err(e))),
     }
 }
 
 // SCL goes low, a byte having been acknowledged with so many samples left.
-#[tactic(auto, using(hardware::proofs::Prog::erase_heard), unfolding(crate::specs::Line::line_next, crate::specs::Line::heard_at, crate::specs::Line::heard_goal, crate::specs::Line::access_line, crate::specs::Line::access_at, crate::specs::Line::rest_line, crate::specs::Line::rest_at, hardware::specs::Prog::erase, crate::specs::Bus::scl_low, crate::specs::Bus::put, crate::specs::Line::settled, crate::specs::Line::valid_line, crate::specs::Line::valid_goal))]
 fn down(l: Layout, ctl: u32, bits: u8, left: u8) -> LineState
-    ensures yields { (k : ℕ → Bus) → line_next l (LineNext.Going result) k ≡ erase (heard left (scl_low l (k bits)) ctl) }
+    ensures yields { (k : ℕ → Bus) → line_next l (Going result) k ≡ erase (heard left (scl_low l (k bits)) ctl) }
     ensures limits { leb left 10 ≡ true → valid_line result.line ≡ true }
     ensures heard { heard_at result.line ≡ left }
 {
@@ -198,81 +188,75 @@ fn down(l: Layout, ctl: u32, bits: u8, left: u8) -> LineState
 }
 
 // The samples that are left; without one, SDA stayed high.
-#[tactic(auto, using(crate::proofs::Laws::ack_more, crate::proofs::Laws::fewer), unfolding(hardware::specs::Marks::acknowledged, crate::specs::Bus::ack_tries, crate::specs::Line::sensed, crate::specs::Line::valid_line_next, crate::specs::Line::valid_line))]
 fn ack_tries(l: Layout, ctl: u32, bits: u8, left: u8) -> LineNext
     ensures yields { (k : ℕ → Bus) → line_next l result k ≡ erase (ack_tries l left (ack_down l bits k) ctl) }
     ensures limits { ltb left 10 ≡ true → valid_line_next result ≡ true }
 {
     if left == 0 {
-        return LineNext::Going(down(l, ctl, shift(bits, true), 10));
+        return Next::Going(down(l, ctl, shift(bits, true), 10));
     }
-    LineNext::Going(at(ctl, bits, Line::Ack(left - 1)))
+    Next::Going(at(ctl, bits, Line::Ack(left - 1)))
 }
 
-#[tactic(auto, using(crate::proofs::Laws::ltb_leb), unfolding(crate::specs::Bus::or_held, hardware::specs::Registers::word, crate::specs::Bus::ack_seen, hardware::specs::Prog::pick, crate::specs::Line::sensed, crate::specs::Line::valid_line_next, crate::specs::Line::line_next, hardware::specs::Marks::acknowledged, crate::specs::Line::heard_at, crate::specs::Line::heard_goal, hardware::specs::Prog::erase, hardware::specs::Registers::outcome, crate::specs::Line::access_line, crate::specs::Line::access_at, crate::specs::Line::rest_line, crate::specs::Line::rest_at, crate::specs::Bus::wait, crate::specs::Line::valid_line))]
-fn ack_seen(l: Layout, ctl: u32, bits: u8, left: u8, w: Word) -> LineNext
-    ensures yields { (k : ℕ → Bus) → line_next l result k ≡ erase (or_held (ack_seen l left (ack_tries l left (ack_down l bits k)) (ack_down l bits k)) ctl (word w)) }
+fn ack_seen(l: Layout, ctl: u32, bits: u8, left: u8, w: R<u32>) -> LineNext
+    ensures yields { (k : ℕ → Bus) → line_next l result k ≡ erase (or_held (ack_seen l left (ack_tries l left (ack_down l bits k)) (ack_down l bits k)) ctl (reply w)) }
     ensures limits { ltb left 10 ≡ true → valid_line_next result ≡ true }
 {
     match w {
-        Word::Ok(v) => {
+        Ok(v) => {
             if hardware::none_of(v, l.sdain) {
-                return LineNext::Going(down(l, ctl, shift(bits, false), left));
+                return Next::Going(down(l, ctl, shift(bits, false), left));
             }
-            LineNext::Going(at(ctl, bits, Line::Rest(left)))
+            Next::Going(at(ctl, bits, Line::Rest(left)))
         }
-        Word::Err(e) => LineNext::End(ctl, bits, Outcome::Err(e)),
+        Err(e) => Next::End((ctl, bits, Err(e))),
     }
 }
 
-#[tactic(auto, unfolding(crate::specs::Line::line_next, crate::specs::Bus::or_held, hardware::specs::Prog::erase, hardware::specs::Registers::outcome, hardware::specs::Registers::word, crate::specs::Bus::sda_seen, hardware::specs::Prog::pick, crate::specs::Line::valid_line_next, hardware::specs::Failures::failure_of))]
-fn sda_seen(l: Layout, ctl: u32, bits: u8, w: Word) -> LineNext
-    ensures yields { (k : ℕ → Bus) → line_next l result k ≡ erase (or_held (sda_seen l (k bits)) ctl (word w)) }
+fn sda_seen(l: Layout, ctl: u32, bits: u8, w: R<u32>) -> LineNext
+    ensures yields { (k : ℕ → Bus) → line_next l result k ≡ erase (or_held (sda_seen l (k bits)) ctl (reply w)) }
     ensures limits { valid_line_next result ≡ true }
 {
     match w {
-        Word::Ok(v) => {
+        Ok(v) => {
             if hardware::none_of(v, l.sdain) {
-                return LineNext::End(ctl, bits, Outcome::Err(Error::I2c(0)));
+                return Next::End((ctl, bits, Err(Error::I2c(0))));
             }
-            LineNext::End(ctl, bits, Outcome::Ok)
+            Next::End((ctl, bits, Ok(())))
         }
-        Word::Err(e) => LineNext::End(ctl, bits, Outcome::Err(e)),
+        Err(e) => Next::End((ctl, bits, Err(e))),
     }
 }
 
 // The tries that are left; without one, it goes on with SCL low.
-#[tactic(auto, using(crate::proofs::Laws::fewer, crate::proofs::Laws::scl_more), unfolding(crate::specs::Line::line_next, crate::specs::Bus::or_held, hardware::specs::Prog::erase, hardware::specs::Registers::outcome, hardware::specs::Registers::word, crate::specs::Bus::scl_tries, crate::specs::Line::valid_line_next, crate::specs::Line::valid_line, crate::specs::Line::valid_goal))]
 fn scl_tries(l: Layout, ctl: u32, bits: u8, left: u16) -> LineNext
     ensures yields { (k : ℕ → Bus) → line_next l result k ≡ erase (scl_tries l left (k bits) ctl) }
     ensures limits { ltb left 500 ≡ true → valid_line_next result ≡ true }
 {
     if left == 0 {
-        return LineNext::End(ctl, bits, Outcome::Ok);
+        return Next::End((ctl, bits, Ok(())));
     }
-    LineNext::Going(at(ctl | l.sclout, bits, Line::Write(Goal::Up(left - 1))))
+    Next::Going(at(ctl | l.sclout, bits, Line::Write(Goal::Up(left - 1))))
 }
 
-#[tactic(auto, unfolding(crate::specs::Bus::or_held, hardware::specs::Registers::word, crate::specs::Bus::scl_seen, hardware::specs::Prog::pick, crate::specs::Line::line_next, hardware::specs::Prog::erase, hardware::specs::Registers::outcome, crate::specs::Line::valid_line_next))]
-fn scl_seen(l: Layout, ctl: u32, bits: u8, left: u16, w: Word) -> LineNext
-    ensures yields { (k : ℕ → Bus) → line_next l result k ≡ erase (or_held (scl_seen l (scl_tries l left (k bits)) (k bits)) ctl (word w)) }
+fn scl_seen(l: Layout, ctl: u32, bits: u8, left: u16, w: R<u32>) -> LineNext
+    ensures yields { (k : ℕ → Bus) → line_next l result k ≡ erase (or_held (scl_seen l (scl_tries l left (k bits)) (k bits)) ctl (reply w)) }
     ensures limits { ltb left 500 ≡ true → valid_line_next result ≡ true }
 {
     match w {
-        Word::Ok(v) => {
+        Ok(v) => {
             if hardware::none_of(v, l.sclin) {
                 return scl_tries(l, ctl, bits, left);
             }
-            LineNext::End(ctl, bits, Outcome::Ok)
+            Next::End((ctl, bits, Ok(())))
         }
-        Word::Err(e) => LineNext::End(ctl, bits, Outcome::Err(e)),
+        Err(e) => Next::End((ctl, bits, Err(e))),
     }
 }
 
 // SDA was raised: on the X552 and X553 its output enable goes off, then it is looked at.
-#[tactic(auto, unfolding(crate::specs::Line::line_next, hardware::specs::Marks::acknowledged, crate::specs::Line::heard_at, crate::specs::Line::heard_goal, crate::specs::Line::access_line, crate::specs::Line::access_at, crate::specs::Line::rest_line, crate::specs::Line::rest_at, hardware::specs::Prog::erase, crate::specs::Bus::sda_free, hardware::specs::Prog::pick, crate::specs::Bus::get, crate::specs::Line::valid_line, crate::specs::Bus::put, crate::specs::Line::settled, crate::specs::Line::valid_goal))]
 fn sda_free(l: Layout, ctl: u32, bits: u8) -> LineState
-    ensures yields { (k : ℕ → Bus) → line_next l (LineNext.Going result) k ≡ erase (sda_free l (k bits) ctl) }
+    ensures yields { (k : ℕ → Bus) → line_next l (Going result) k ≡ erase (sda_free l (k bits) ctl) }
     ensures limits { valid_line result.line ≡ true }
 {
     if l.sdaoen == 0 {
@@ -282,62 +266,58 @@ fn sda_free(l: Layout, ctl: u32, bits: u8) -> LineState
 }
 
 // The wait after a word was put is over.
-#[tactic(auto, unfolding(crate::specs::Line::reached, crate::specs::Line::valid_line_next, crate::specs::Line::line_next, hardware::specs::Marks::acknowledged, crate::specs::Line::heard_at, crate::specs::Line::heard_goal, crate::specs::Line::access_line, crate::specs::Line::access_at, crate::specs::Line::rest_line, crate::specs::Line::rest_at, hardware::specs::Prog::erase, crate::specs::Bus::get, crate::specs::Line::valid_line, crate::specs::Bus::or_held, hardware::specs::Registers::outcome, hardware::specs::Registers::word, crate::specs::Line::valid_goal))]
 fn reach(l: Layout, ctl: u32, bits: u8, g: Goal) -> LineNext
     ensures yields { (k : ℕ → Bus) → line_next l result k ≡ erase (reached l g (k bits) ctl) }
     ensures limits { valid_goal g ≡ true → valid_line_next result ≡ true }
 {
     match g {
-        Goal::High => LineNext::Going(sda_free(l, ctl, bits)),
-        Goal::Free => LineNext::Going(at(ctl, bits, Line::Check)),
-        Goal::Low => LineNext::End(ctl, bits, Outcome::Ok),
-        Goal::Release => LineNext::End(ctl, bits, Outcome::Ok),
-        Goal::Down(_) => LineNext::End(ctl, bits, Outcome::Ok),
-        Goal::Up(left) => LineNext::Going(at(ctl, bits, Line::Rise(left))),
-        Goal::Close => LineNext::End(ctl, bits, Outcome::Ok),
+        Goal::High => Next::Going(sda_free(l, ctl, bits)),
+        Goal::Free => Next::Going(at(ctl, bits, Line::Check)),
+        Goal::Low => Next::End((ctl, bits, Ok(()))),
+        Goal::Release => Next::End((ctl, bits, Ok(()))),
+        Goal::Down(_) => Next::End((ctl, bits, Ok(()))),
+        Goal::Up(left) => Next::Going(at(ctl, bits, Line::Rise(left))),
+        Goal::Close => Next::End((ctl, bits, Ok(()))),
     }
 }
 
 // The word is put: only two goals have no wait.
-#[tactic(auto, unfolding(crate::specs::Line::line_next, hardware::specs::Marks::acknowledged, crate::specs::Line::heard_at, crate::specs::Line::heard_goal, crate::specs::Line::access_line, crate::specs::Line::access_at, crate::specs::Line::rest_line, crate::specs::Line::rest_at, hardware::specs::Prog::erase, crate::specs::Line::settled, crate::specs::Bus::get, crate::specs::Line::valid_line_next, crate::specs::Line::valid_line, crate::specs::Bus::or_held, hardware::specs::Registers::outcome, hardware::specs::Registers::word, crate::specs::Line::settle_us, crate::specs::Bus::wait, crate::specs::Line::reached))]
+#[tactic(auto, unfolding(crate::specs::Line::line_next, hardware::specs::Marks::acknowledged, crate::specs::Line::heard_at, crate::specs::Line::heard_goal, crate::specs::Line::access_line, crate::specs::Line::access_at, crate::specs::Line::rest_line, crate::specs::Line::rest_at, hardware::specs::Prog::erase, crate::specs::Line::settled, crate::specs::Bus::get, crate::specs::Line::valid_line_next, crate::specs::Line::valid_line, crate::specs::Bus::or_held, hardware::specs::Registers::reply, crate::specs::Line::settle_us, crate::specs::Bus::wait, crate::specs::Line::reached))]
 fn settle(l: Layout, ctl: u32, bits: u8, g: Goal) -> LineNext
     ensures yields { (k : ℕ → Bus) → line_next l result k ≡ erase (settled l g (k bits) ctl) }
     ensures limits { valid_goal g ≡ true → valid_line_next result ≡ true }
 {
     match g {
-        Goal::Free => LineNext::Going(at(ctl, bits, Line::Check)),
-        Goal::Close => LineNext::End(ctl, bits, Outcome::Ok),
-        Goal::High => LineNext::Going(at(ctl, bits, Line::Settle(g))),
-        Goal::Low => LineNext::Going(at(ctl, bits, Line::Settle(g))),
-        Goal::Release => LineNext::Going(at(ctl, bits, Line::Settle(g))),
-        Goal::Down(_) => LineNext::Going(at(ctl, bits, Line::Settle(g))),
-        Goal::Up(_) => LineNext::Going(at(ctl, bits, Line::Settle(g))),
+        Goal::Free => Next::Going(at(ctl, bits, Line::Check)),
+        Goal::Close => Next::End((ctl, bits, Ok(()))),
+        Goal::High => Next::Going(at(ctl, bits, Line::Settle(g))),
+        Goal::Low => Next::Going(at(ctl, bits, Line::Settle(g))),
+        Goal::Release => Next::Going(at(ctl, bits, Line::Settle(g))),
+        Goal::Down(_) => Next::Going(at(ctl, bits, Line::Settle(g))),
+        Goal::Up(_) => Next::Going(at(ctl, bits, Line::Settle(g))),
     }
 }
 
-#[tactic(auto, unfolding(crate::specs::Bus::or_held, hardware::specs::Registers::outcome, crate::specs::Line::line_next, hardware::specs::Prog::erase, hardware::specs::Registers::word, crate::specs::Line::valid_line_next))]
-fn flush_seen(l: Layout, ctl: u32, bits: u8, g: Goal, o: Outcome) -> LineNext
-    ensures yields { (k : ℕ → Bus) → line_next l result k ≡ erase (or_held (λ _. settled l g (k bits)) ctl (outcome o)) }
+fn flush_seen(l: Layout, ctl: u32, bits: u8, g: Goal, o: R<()>) -> LineNext
+    ensures yields { (k : ℕ → Bus) → line_next l result k ≡ erase (or_held (λ _. settled l g (k bits)) ctl (reply o)) }
     ensures limits { valid_goal g ≡ true → valid_line_next result ≡ true }
 {
     match o {
-        Outcome::Ok => settle(l, ctl, bits, g),
-        Outcome::Err(e) => LineNext::End(ctl, bits, Outcome::Err(e)),
+        Ok(()) => settle(l, ctl, bits, g),
+        Err(e) => Next::End((ctl, bits, Err(e))),
     }
 }
 
-#[tactic(auto, unfolding(crate::specs::Line::line_next, hardware::specs::Marks::acknowledged, crate::specs::Line::heard_at, crate::specs::Line::heard_goal, crate::specs::Line::access_line, crate::specs::Line::access_at, crate::specs::Line::rest_line, crate::specs::Line::rest_at, hardware::specs::Prog::erase, crate::specs::Bus::or_held, hardware::specs::Registers::outcome, crate::specs::Bus::flushing, crate::specs::Line::valid_line_next, crate::specs::Line::valid_line, hardware::specs::Registers::word))]
-fn write_seen(l: Layout, ctl: u32, bits: u8, g: Goal, o: Outcome) -> LineNext
-    ensures yields { (k : ℕ → Bus) → line_next l result k ≡ erase (or_held (λ _. flushing (settled l g (k bits))) ctl (outcome o)) }
+fn write_seen(l: Layout, ctl: u32, bits: u8, g: Goal, o: R<()>) -> LineNext
+    ensures yields { (k : ℕ → Bus) → line_next l result k ≡ erase (or_held (λ _. flushing (settled l g (k bits))) ctl (reply o)) }
     ensures limits { valid_goal g ≡ true → valid_line_next result ≡ true }
 {
     match o {
-        Outcome::Ok => LineNext::Going(at(ctl, bits, Line::Flush(g))),
-        Outcome::Err(e) => LineNext::End(ctl, bits, Outcome::Err(e)),
+        Ok(()) => Next::Going(at(ctl, bits, Line::Flush(g))),
+        Err(e) => Next::End((ctl, bits, Err(e))),
     }
 }
 
-#[tactic(auto, using(crate::proofs::Laws::fed_held), unfolding(crate::specs::Line::rest_line, crate::specs::Line::rest_at, crate::specs::Line::line_next, crate::specs::Bus::or_held, hardware::specs::Prog::erase, hardware::specs::Registers::outcome, hardware::specs::Registers::word, crate::specs::Line::valid_line_next, crate::specs::Line::valid_line))]
 pub fn step(l: Layout, s: LineState, a: Answer) -> LineNext
     ensures yields { (k : ℕ → Bus) → line_next l result k ≡ erase (rest_line l s a k) }
     ensures limits { valid_line s.line ≡ true → valid_line_next result ≡ true }
@@ -345,7 +325,7 @@ pub fn step(l: Layout, s: LineState, a: Answer) -> LineNext
     let line = s.line;
     match line {
         Line::Look => look_seen(l, s.ctl, s.bits, hardware::read_raw(a)),
-        Line::Pause(_) => LineNext::End(s.ctl, s.bits, Outcome::Ok),
+        Line::Pause(_) => Next::End((s.ctl, s.bits, Ok(()))),
         Line::Sample => sample_seen(l, s.ctl, s.bits, hardware::read_raw(a)),
         Line::Ack(left) => ack_seen(l, s.ctl, s.bits, left, hardware::read_raw(a)),
         Line::Rest(left) => ack_tries(l, s.ctl, s.bits, left),
@@ -357,9 +337,8 @@ pub fn step(l: Layout, s: LineState, a: Answer) -> LineNext
     }
 }
 
-#[tactic(auto, unfolding(crate::specs::Line::line_next, hardware::specs::Marks::acknowledged, crate::specs::Line::heard_at, crate::specs::Line::heard_goal, crate::specs::Line::access_line, crate::specs::Line::access_at, crate::specs::Line::rest_line, crate::specs::Line::rest_at, hardware::specs::Prog::erase, crate::specs::Bus::sda, crate::specs::Bus::put, crate::specs::Line::settled, crate::specs::Line::valid_line, crate::specs::Line::valid_goal))]
 fn sda(l: Layout, ctl: u32, bits: u8, high: bool) -> LineState
-    ensures yields { (k : ℕ → Bus) → line_next l (LineNext.Going result) k ≡ erase (sda l high (k bits) ctl) }
+    ensures yields { (k : ℕ → Bus) → line_next l (Going result) k ≡ erase (sda l high (k bits) ctl) }
     ensures limits { valid_line result.line ≡ true }
     ensures heard { heard_at result.line ≡ 10 }
 {
@@ -371,7 +350,7 @@ fn sda(l: Layout, ctl: u32, bits: u8, high: bool) -> LineState
 
 #[tactic(auto, using(crate::proofs::Laws::ack_open, crate::proofs::Laws::scl_open), unfolding(crate::specs::Line::line_next, hardware::specs::Marks::acknowledged, crate::specs::Line::heard_at, crate::specs::Line::heard_goal, crate::specs::Line::access_line, crate::specs::Line::access_at, crate::specs::Line::rest_line, crate::specs::Line::rest_at, hardware::specs::Prog::erase, crate::specs::Line::called, crate::specs::Bus::look, crate::specs::Bus::get, crate::specs::Line::valid_line, crate::specs::Bus::release_sda, crate::specs::Bus::put, crate::specs::Line::settled, crate::specs::Line::valid_goal, crate::specs::Bus::wait, crate::specs::Line::valid_call, crate::specs::Bus::sample, crate::specs::Bus::close))]
 pub fn open(l: Layout, call: Call, ctl: u32, bits: u8) -> LineState
-    ensures yields { (k : ℕ → Bus) → line_next l (LineNext.Going result) k ≡ erase (called l call bits k ctl) }
+    ensures yields { (k : ℕ → Bus) → line_next l (Going result) k ≡ erase (called l call bits k ctl) }
     ensures limits { valid_call call ≡ true → valid_line result.line ≡ true }
     ensures heard { heard_at result.line ≡ 10 }
 {
@@ -396,7 +375,6 @@ pub fn open(l: Layout, call: Call, ctl: u32, bits: u8) -> LineState
     }
 }
 
-#[tactic(auto, unfolding(crate::specs::Line::valid_goal))]
 pub(crate) fn valid_goal(g: Goal) -> bool
     ensures { result ≡ valid_goal g }
 {
@@ -411,7 +389,6 @@ pub(crate) fn valid_goal(g: Goal) -> bool
     }
 }
 
-#[tactic(auto, unfolding(crate::specs::Line::valid_line))]
 pub fn valid(line: Line) -> bool
     ensures { result ≡ valid_line line }
 {

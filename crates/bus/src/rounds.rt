@@ -1,5 +1,7 @@
 // The clearing sequence of up to ten rounds: SDA is released; a round raises SCL and reads SDA; once it is high, SDA is pulled
 // while SCL is high, SCL lowered, and a stop follows; while it is low, SCL is lowered and the next round follows.
+#![tactic(auto, using(crate::proofs::Commands::job_free, crate::proofs::Commands::round_more, crate::proofs::Laws::fewer_than, crate::proofs::Laws::picked, crate::proofs::Laws::under, crate::proofs::Commands::round_probes), unfolding(crate::specs::Clear::clear_next, crate::specs::Clear::access_clear, crate::specs::Clear::rest_clear, crate::specs::Clear::rest_part, crate::specs::Command::job_next, crate::specs::Clear::valid_clear_next, crate::specs::Clear::valid_clear, crate::specs::Clear::valid_part, crate::specs::Clear::command_of, crate::specs::Command::valid_job_next, hardware::specs::Prog::pick, crate::specs::Bus::or_held, hardware::specs::Registers::reply, hardware::specs::Prog::erase, crate::specs::Command::freed, crate::specs::Bus::pulled, crate::specs::Bus::rounds, crate::specs::Command::call_count, crate::specs::Command::free_count, crate::specs::Clear::probed, crate::specs::Bus::clear_rounds))]
+
 ghost use Rattle.std.specs.Prelude.{◌≡◌, true, leb, ltb};
 ghost use Rattle.hardware.specs.Prog.{erase};
 ghost use Rattle.bus.specs.declared.command.Command.TheVariants.{Free as FreeCommand};
@@ -12,107 +14,100 @@ use crate::Layout;
 use crate::clear::{Clear, ClearNext, Part};
 use crate::command::{Command, Piece};
 use crate::job::JobNext;
-use hardware::{Byte, Outcome};
+use hardware::Next;
 
-#[tactic(auto, unfolding(crate::specs::Clear::clear_next, crate::specs::Clear::access_clear, crate::specs::Clear::rest_clear, crate::specs::Clear::rest_part, crate::specs::Command::job_next, crate::specs::Clear::valid_clear_next, crate::specs::Clear::valid_clear, crate::specs::Clear::valid_part, crate::specs::Clear::command_of, crate::specs::Command::valid_job_next, hardware::specs::Prog::pick, crate::specs::Bus::or_held, hardware::specs::Registers::byte, hardware::specs::Prog::erase))]
 pub fn pulled(l: Layout, n: JobNext) -> ClearNext
     ensures yields { clear_next l result ≡ job_next l 0 (FreeCommand Pull) n (λ _. clear_stop l) }
     ensures limits { valid_job_next l (FreeCommand Pull) n ≡ true → valid_clear_next l result ≡ true }
 {
     match n {
-        JobNext::Going(j) => ClearNext::Going(Clear {
+        Next::Going(j) => Next::Going(Clear {
             part: Part::Pull,
             job: j,
         }),
-        JobNext::End(ctl, b) => match b {
-            Byte::Ok(_) => crate::clear::stop(l, ctl),
-            Byte::Err(e) => ClearNext::End(ctl, Outcome::Err(e)),
+        Next::End((ctl, b)) => match b {
+            Ok(_) => crate::clear::stop(l, ctl),
+            Err(e) => Next::End((ctl, Err(e))),
         },
     }
 }
 
-#[tactic(auto, using(crate::proofs::Commands::job_free), unfolding(crate::specs::Command::freed, crate::specs::Clear::clear_next, crate::specs::Clear::access_clear, crate::specs::Clear::rest_clear, crate::specs::Clear::rest_part, crate::specs::Command::job_next, crate::specs::Clear::valid_clear_next, crate::specs::Clear::valid_clear, crate::specs::Clear::valid_part, crate::specs::Clear::command_of, hardware::specs::Prog::pick, crate::specs::Bus::pulled))]
 fn pull(l: Layout, ctl: u32) -> ClearNext
     ensures yields { clear_next l result ≡ erase (pulled l ctl) }
     ensures limits { valid_clear_next l result ≡ true }
 {
-    ClearNext::Going(Clear {
+    Next::Going(Clear {
         part: Part::Pull,
         job: crate::job::open(l, Command::Free(Piece::Pull), ctl),
     })
 }
 
 // So many rounds.
-#[tactic(auto, using(crate::proofs::Commands::round_more, crate::proofs::Laws::fewer_than, crate::proofs::Laws::picked), unfolding(crate::specs::Clear::clear_next, crate::specs::Bus::rounds, hardware::specs::Prog::erase, crate::specs::Clear::valid_clear_next, crate::specs::Clear::access_clear, crate::specs::Clear::rest_clear, crate::specs::Clear::rest_part, crate::specs::Command::job_next, crate::specs::Clear::valid_clear, crate::specs::Clear::valid_part, crate::specs::Clear::command_of, crate::specs::Command::call_count, crate::specs::Command::free_count))]
 fn from(l: Layout, left: u8, ctl: u32) -> ClearNext
     ensures yields { clear_next l result ≡ erase (rounds l left ctl) }
     ensures limits { leb left 10 ≡ true → valid_clear_next l result ≡ true }
 {
     if left == 0 {
-        return ClearNext::End(ctl, Outcome::Ok);
+        return Next::End((ctl, Ok(())));
     }
-    ClearNext::Going(Clear {
+    Next::Going(Clear {
         part: Part::Probe(left - 1),
         job: crate::job::begin(l, Command::Free(Piece::Probe), ctl, 0, 2),
     })
 }
 
-#[tactic(auto, using(crate::proofs::Laws::picked, crate::proofs::Laws::under), unfolding(crate::specs::Clear::clear_next, crate::specs::Clear::access_clear, crate::specs::Clear::rest_clear, crate::specs::Clear::rest_part, crate::specs::Command::job_next, crate::specs::Clear::valid_clear_next, crate::specs::Clear::valid_clear, crate::specs::Clear::valid_part, crate::specs::Clear::command_of, crate::specs::Command::valid_job_next, hardware::specs::Prog::pick, crate::specs::Bus::or_held, hardware::specs::Registers::byte, hardware::specs::Prog::erase))]
 pub fn lowered(l: Layout, left: u8, n: JobNext) -> ClearNext
     ensures yields { clear_next l result ≡ job_next l 0 (FreeCommand Lower) n (λ _. rounds l left) }
     ensures limits { ltb left 10 ≡ true → valid_job_next l (FreeCommand Lower) n ≡ true → valid_clear_next l result ≡ true }
 {
     match n {
-        JobNext::Going(j) => ClearNext::Going(Clear {
+        Next::Going(j) => Next::Going(Clear {
             part: Part::Lower(left),
             job: j,
         }),
-        JobNext::End(ctl, b) => match b {
-            Byte::Ok(_) => from(l, left, ctl),
-            Byte::Err(e) => ClearNext::End(ctl, Outcome::Err(e)),
+        Next::End((ctl, b)) => match b {
+            Ok(_) => from(l, left, ctl),
+            Err(e) => Next::End((ctl, Err(e))),
         },
     }
 }
 
-#[tactic(auto, using(crate::proofs::Commands::job_free, crate::proofs::Laws::picked), unfolding(crate::specs::Command::freed, crate::specs::Clear::clear_next, crate::specs::Clear::access_clear, crate::specs::Clear::rest_clear, crate::specs::Clear::rest_part, crate::specs::Command::job_next, crate::specs::Clear::valid_clear_next, crate::specs::Clear::valid_clear, crate::specs::Clear::valid_part, crate::specs::Clear::command_of))]
 fn lower(l: Layout, left: u8, ctl: u32) -> ClearNext
     ensures yields { clear_next l result ≡ erase (scl_low l (wait 5 (rounds l left)) ctl) }
     ensures limits { ltb left 10 ≡ true → valid_clear_next l result ≡ true }
 {
-    ClearNext::Going(Clear {
+    Next::Going(Clear {
         part: Part::Lower(left),
         job: crate::job::open(l, Command::Free(Piece::Lower), ctl),
     })
 }
 
-#[tactic(auto, using(crate::proofs::Laws::picked), unfolding(crate::specs::Command::job_next, crate::specs::Bus::or_held, hardware::specs::Registers::byte, hardware::specs::Prog::erase, crate::specs::Clear::probed, hardware::specs::Prog::pick, crate::specs::Clear::valid_clear_next, crate::specs::Clear::clear_next, crate::specs::Clear::access_clear, crate::specs::Clear::rest_clear, crate::specs::Clear::rest_part, crate::specs::Clear::valid_clear, crate::specs::Clear::valid_part, crate::specs::Clear::command_of, crate::specs::Command::valid_job_next))]
 pub fn probed(l: Layout, left: u8, n: JobNext) -> ClearNext
     ensures yields { clear_next l result ≡ job_next l 0 (FreeCommand Probe) n (probed l left) }
     ensures limits { ltb left 10 ≡ true → valid_job_next l (FreeCommand Probe) n ≡ true → valid_clear_next l result ≡ true }
 {
     match n {
-        JobNext::Going(j) => ClearNext::Going(Clear {
+        Next::Going(j) => Next::Going(Clear {
             part: Part::Probe(left),
             job: j,
         }),
-        JobNext::End(ctl, b) => match b {
-            Byte::Ok(bits) => {
+        Next::End((ctl, b)) => match b {
+            Ok(bits) => {
                 if bits == 0 {
                     return lower(l, left, ctl);
                 }
                 pull(l, ctl)
             }
-            Byte::Err(e) => ClearNext::End(ctl, Outcome::Err(e)),
+            Err(e) => Next::End((ctl, Err(e))),
         },
     }
 }
 
-#[tactic(auto, using(crate::proofs::Commands::job_free, crate::proofs::Commands::round_probes), unfolding(crate::specs::Command::freed, crate::specs::Clear::clear_next, crate::specs::Clear::access_clear, crate::specs::Clear::rest_clear, crate::specs::Clear::rest_part, crate::specs::Command::job_next, crate::specs::Clear::valid_clear_next, crate::specs::Clear::valid_clear, crate::specs::Clear::valid_part, crate::specs::Clear::command_of, hardware::specs::Prog::pick, crate::specs::Bus::clear_rounds))]
 pub fn open(l: Layout, ctl: u32) -> ClearNext
     ensures yields { clear_next l result ≡ erase (clear_rounds l ctl) }
     ensures limits { valid_clear_next l result ≡ true }
 {
-    ClearNext::Going(Clear {
+    Next::Going(Clear {
         part: Part::Probe(9),
         job: crate::job::open(l, Command::Free(Piece::Probe), ctl),
     })

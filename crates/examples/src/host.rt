@@ -11,8 +11,8 @@ const SCL: u32 = 1;
 const SDA: u32 = 4;
 
 // What came last: a write, a read of I2CCTL, or such a read and a wait.
-#[derive(Clone, Copy)]
-pub enum Last {
+#[derive(Clone, Copy, PartialEq, Eq)]
+enum Last {
     Write,
     Read,
     Wait,
@@ -21,81 +21,46 @@ pub enum Last {
 // first: the sample that reads low first, counted from 1 for the next one.
 #[derive(Clone, Copy)]
 pub struct Host {
-    pub first: u32,
-    pub last: Last,
+    first: u32,
+    last: Last,
 }
 
-#[derive(Clone, Copy)]
-pub struct Played {
-    pub host: Host,
-    pub answer: Answer,
-}
-
-pub(crate) fn begin(first: u32) -> Host {
-    Host {
-        first,
-        last: Last::Write,
+impl Host {
+    pub(crate) fn new(first: u32) -> Self {
+        Host {
+            first,
+            last: Last::Write,
+        }
     }
-}
 
-fn seen(first: u32, value: u32) -> Played {
-    let host = Host {
-        first,
-        last: Last::Read,
-    };
-    Played {
-        host,
-        answer: Answer::Value(value),
+    // A read of I2CCTL.
+    fn control(&mut self) -> u32 {
+        let sample = self.last == Last::Wait;
+        self.last = Last::Read;
+        if !sample {
+            return SCL | SDA;
+        }
+        if self.first <= 1 {
+            return SCL;
+        }
+        self.first -= 1;
+        SCL | SDA
     }
-}
 
-fn sample(first: u32) -> Played {
-    if first <= 1 {
-        return seen(first, SCL);
-    }
-    seen(first - 1, SCL | SDA)
-}
-
-fn control(h: Host) -> Played {
-    let last = h.last;
-    match last {
-        Last::Write => seen(h.first, SCL | SDA),
-        Last::Read => seen(h.first, SCL | SDA),
-        Last::Wait => sample(h.first),
-    }
-}
-
-fn read(h: Host, register: u32) -> Played {
-    if register == I2CCTL {
-        return control(h);
-    }
-    Played {
-        host: h,
-        answer: Answer::Value(0),
-    }
-}
-
-fn done(first: u32, last: Last) -> Played {
-    let host = Host { first, last };
-    Played {
-        host,
-        answer: Answer::Done,
-    }
-}
-
-fn wait(h: Host) -> Played {
-    let last = h.last;
-    match last {
-        Last::Write => done(h.first, Last::Write),
-        Last::Read => done(h.first, Last::Wait),
-        Last::Wait => done(h.first, Last::Wait),
-    }
-}
-
-pub(crate) fn answer(h: Host, x: Access) -> Played {
-    match x {
-        Access::Read(register) => read(h, register),
-        Access::Write(_, _) => done(h.first, Last::Write),
-        Access::Wait(_) => wait(h),
+    pub(crate) fn answer(&mut self, x: Access) -> Answer {
+        match x {
+            Access::Read(I2CCTL) => Answer::Value(self.control()),
+            Access::Read(_) => Answer::Value(0),
+            Access::Write(_, _) => {
+                self.last = Last::Write;
+                Answer::Done
+            }
+            Access::Wait(_) => {
+                if self.last == Last::Read {
+                    self.last = Last::Wait;
+                }
+                Answer::Done
+            }
+        }
     }
 }

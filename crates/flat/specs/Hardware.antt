@@ -1,5 +1,5 @@
 -- States of `hardware` as numbers, and back; back again nothing is lost. Written by `derive`.
-use Rattle.std.specs.Prelude.{ℕ, ◌≡◌, refl, eqb}
+use Rattle.std.specs.Prelude.{ℕ, Bool, ◌≡◌, refl, eqb, Result, Ok, Err}
 use Rattle.flat.specs.Pick.{pick, bit, set, back_bit}
 use Rattle.hardware.specs.declared.Family.{Family}
 use Rattle.hardware.specs.declared.Family.TheVariants.{F82599 as FamilyF82599, X540 as FamilyX540, X550 as FamilyX550, X552 as FamilyX552, X553 as FamilyX553}
@@ -16,14 +16,8 @@ use Rattle.flat.specs.declared.of_hardware.PollFlat.{PollFlat}
 use Rattle.hardware.specs.declared.Error.{Error}
 use Rattle.hardware.specs.declared.Error.TheVariants.{Io as ErrorIo, Removed as ErrorRemoved, Semaphore as ErrorSemaphore, I2c as ErrorI2c, HostInterface as ErrorHostInterface, Firmware as ErrorFirmware}
 use Rattle.flat.specs.declared.of_hardware.ErrorFlat.{ErrorFlat}
-use Rattle.hardware.specs.declared.Outcome.{Outcome}
-use Rattle.hardware.specs.declared.Outcome.TheVariants.{Ok as OutcomeOk, Err as OutcomeErr}
 use Rattle.flat.specs.declared.of_hardware.OutcomeFlat.{OutcomeFlat}
-use Rattle.hardware.specs.declared.Byte.{Byte}
-use Rattle.hardware.specs.declared.Byte.TheVariants.{Ok as ByteOk, Err as ByteErr}
 use Rattle.flat.specs.declared.of_hardware.ByteFlat.{ByteFlat}
-use Rattle.hardware.specs.declared.Flag.{Flag}
-use Rattle.hardware.specs.declared.Flag.TheVariants.{Ok as FlagOk, Err as FlagErr}
 use Rattle.flat.specs.declared.of_hardware.FlagFlat.{FlagFlat}
 
 unfoldable pub flat_family : Family → ℕ
@@ -126,44 +120,44 @@ back_error (ErrorI2c x0) = refl
 back_error (ErrorHostInterface x0) = refl
 back_error (ErrorFirmware x0 x1) = refl
 
-unfoldable pub flat_outcome : Outcome → OutcomeFlat
-flat_outcome OutcomeOk = record { tag = 0; b1 = 0; b2 = 0; b3 = 0; w0 = 0 }
-flat_outcome (OutcomeErr x0) = record { tag = 1; b1 = (flat_error x0).tag; b2 = (flat_error x0).b1; b3 = (flat_error x0).b2; w0 = (flat_error x0).w0 }
+unfoldable pub flat_outcome : (Result (Unit {0}) Error) → OutcomeFlat
+flat_outcome (Ok tt) = record { tag = 0; b1 = 0; b2 = 0; b3 = 0; w0 = 0 }
+flat_outcome (Err x0) = record { tag = 1; b1 = (flat_error x0).tag; b2 = (flat_error x0).b1; b3 = (flat_error x0).b2; w0 = (flat_error x0).w0 }
 
-unfoldable pub the_outcome : OutcomeFlat → Outcome
+unfoldable pub the_outcome : OutcomeFlat → Result (Unit {0}) Error
 the_outcome b =
-    pick (eqb b.tag 0) (OutcomeOk)
-    (OutcomeErr (the_error (record { tag = b.b1; b1 = b.b2; b2 = b.b3; w0 = b.w0 })))
+    pick (eqb b.tag 0) (Ok tt)
+    (Err (the_error (record { tag = b.b1; b1 = b.b2; b2 = b.b3; w0 = b.w0 })))
 
-pub back_outcome : (s : Outcome) → the_outcome (flat_outcome s) ≡ s
+pub back_outcome : (s : Result (Unit {0}) Error) → the_outcome (flat_outcome s) ≡ s
 unfolding flat_outcome the_outcome
-back_outcome OutcomeOk = refl
-back_outcome (OutcomeErr x0) = λ i. OutcomeErr (back_error x0 i)
+back_outcome (Ok tt) = refl
+back_outcome (Err x0) = λ i. Err (back_error x0 i)
 
-unfoldable pub flat_byte : Byte → ByteFlat
-flat_byte (ByteOk x0) = record { tag = 0; b1 = x0; b2 = 0; b3 = 0; w0 = 0 }
-flat_byte (ByteErr x0) = record { tag = 1; b1 = (flat_error x0).tag; b2 = (flat_error x0).b1; b3 = (flat_error x0).b2; w0 = (flat_error x0).w0 }
+unfoldable pub flat_byte : (Result ℕ Error) → ByteFlat
+flat_byte (Ok x0) = record { tag = 0; b1 = x0; b2 = 0; b3 = 0; w0 = 0 }
+flat_byte (Err x0) = record { tag = 1; b1 = (flat_error x0).tag; b2 = (flat_error x0).b1; b3 = (flat_error x0).b2; w0 = (flat_error x0).w0 }
 
-unfoldable pub the_byte : ByteFlat → Byte
+unfoldable pub the_byte : ByteFlat → Result ℕ Error
 the_byte b =
-    pick (eqb b.tag 0) (ByteOk b.b1)
-    (ByteErr (the_error (record { tag = b.b1; b1 = b.b2; b2 = b.b3; w0 = b.w0 })))
+    pick (eqb b.tag 0) (Ok b.b1)
+    (Err (the_error (record { tag = b.b1; b1 = b.b2; b2 = b.b3; w0 = b.w0 })))
 
-pub back_byte : (s : Byte) → the_byte (flat_byte s) ≡ s
+pub back_byte : (s : Result ℕ Error) → the_byte (flat_byte s) ≡ s
 unfolding flat_byte the_byte
-back_byte (ByteOk x0) = refl
-back_byte (ByteErr x0) = λ i. ByteErr (back_error x0 i)
+back_byte (Ok x0) = refl
+back_byte (Err x0) = λ i. Err (back_error x0 i)
 
-unfoldable pub flat_flag : Flag → FlagFlat
-flat_flag (FlagOk x0) = record { tag = 0; b1 = bit x0; b2 = 0; b3 = 0; w0 = 0 }
-flat_flag (FlagErr x0) = record { tag = 1; b1 = (flat_error x0).tag; b2 = (flat_error x0).b1; b3 = (flat_error x0).b2; w0 = (flat_error x0).w0 }
+unfoldable pub flat_flag : (Result Bool Error) → FlagFlat
+flat_flag (Ok x0) = record { tag = 0; b1 = bit x0; b2 = 0; b3 = 0; w0 = 0 }
+flat_flag (Err x0) = record { tag = 1; b1 = (flat_error x0).tag; b2 = (flat_error x0).b1; b3 = (flat_error x0).b2; w0 = (flat_error x0).w0 }
 
-unfoldable pub the_flag : FlagFlat → Flag
+unfoldable pub the_flag : FlagFlat → Result Bool Error
 the_flag b =
-    pick (eqb b.tag 0) (FlagOk (set b.b1))
-    (FlagErr (the_error (record { tag = b.b1; b1 = b.b2; b2 = b.b3; w0 = b.w0 })))
+    pick (eqb b.tag 0) (Ok (set b.b1))
+    (Err (the_error (record { tag = b.b1; b1 = b.b2; b2 = b.b3; w0 = b.w0 })))
 
-pub back_flag : (s : Flag) → the_flag (flat_flag s) ≡ s
+pub back_flag : (s : Result Bool Error) → the_flag (flat_flag s) ≡ s
 unfolding flat_flag the_flag
-back_flag (FlagOk x0) = λ i. FlagOk (back_bit x0 i)
-back_flag (FlagErr x0) = λ i. FlagErr (back_error x0 i)
+back_flag (Ok x0) = λ i. Ok (back_bit x0 i)
+back_flag (Err x0) = λ i. Err (back_error x0 i)

@@ -1,5 +1,5 @@
 -- States of `i2c` as numbers, and back; back again nothing is lost. Written by `derive`.
-use Rattle.std.specs.Prelude.{◌≡◌, refl, eqb}
+use Rattle.std.specs.Prelude.{◌≡◌, refl, eqb, Some, None}
 use Rattle.flat.specs.Pick.{pick, bit, set, back_bit}
 use Rattle.i2c.specs.declared.once.Request.{Request}
 use Rattle.i2c.specs.declared.once.Request.TheVariants.{ReadByte as RequestReadByte, WriteByte as RequestWriteByte, ReadCombined as RequestReadCombined, WriteCombined as RequestWriteCombined}
@@ -14,18 +14,16 @@ use Rattle.flat.specs.declared.of_i2c.RetryFlat.{RetryFlat}
 use Rattle.i2c.specs.declared.handshake.Handshake.{Handshake}
 use Rattle.i2c.specs.declared.handshake.Handshake.TheVariants.{Asking as HandshakeAsking, Granting as HandshakeGranting, Waiting as HandshakeWaiting, Inside as HandshakeInside, Giving as HandshakeGiving}
 use Rattle.flat.specs.declared.of_i2c.HandshakeFlat.{HandshakeFlat}
-use Rattle.i2c.specs.declared.calls.TransferCall.{TransferCall}
-use Rattle.i2c.specs.declared.calls.TransferCall.TheVariants.{Going as TransferCallGoing, Over as TransferCallOver}
+use Rattle.i2c.specs.Aliases.{TransferCall}
 use Rattle.flat.specs.declared.State.{State}
-use Rattle.i2c.specs.declared.calls.SetupCall.{SetupCall}
-use Rattle.i2c.specs.declared.calls.SetupCall.TheVariants.{Going as SetupCallGoing, Over as SetupCallOver}
+use Rattle.i2c.specs.Aliases.{SetupCall}
+use Rattle.flat.specs.Transfer.{flat_got, the_got, back_got}
 use Rattle.flat.specs.Hardware.{flat_meter, the_meter, back_meter}
 use Rattle.flat.specs.Hardware.{flat_port, the_port, back_port}
 use Rattle.flat.specs.Hardware.{flat_update, the_update, back_update}
 use Rattle.flat.specs.Sync.{flat_acquire_bits, the_acquire_bits, back_acquire_bits}
 use Rattle.flat.specs.Sync.{flat_release_bits, the_release_bits, back_release_bits}
 use Rattle.flat.specs.Transfer.{flat_attempt, the_attempt, back_attempt}
-use Rattle.flat.specs.Transfer.{flat_got, the_got, back_got}
 use Rattle.flat.specs.Transfer.{flat_sequence, the_sequence, back_sequence}
 
 unfoldable pub flat_request : Request → RequestFlat
@@ -112,39 +110,39 @@ back_handshake (HandshakeInside x0) = λ i. HandshakeInside (back_retry x0 i)
 back_handshake (HandshakeGiving x0 x1) = λ i. HandshakeGiving (back_got x0 i) (back_update x1 i)
 
 unfoldable pub flat_transfer_call : TransferCall → State
-flat_transfer_call (TransferCallGoing x0 x1 x2 x3 x4) = record { call = 0; tag = 0; b1 = (flat_handshake x4).tag; b2 = (flat_handshake x4).b1; b3 = (flat_handshake x4).b2; b4 = (flat_handshake x4).b3; b5 = (flat_handshake x4).b4; b6 = (flat_handshake x4).b5; b7 = (flat_handshake x4).b6; b8 = (flat_handshake x4).b7; b9 = (flat_handshake x4).b8; b10 = (flat_handshake x4).b9; b11 = (flat_handshake x4).b10; b12 = (flat_handshake x4).b11; b13 = (flat_handshake x4).b12; b14 = (flat_handshake x4).b13; b15 = (flat_port x0).b0; b16 = (flat_port x0).b1; b17 = (flat_meter x3).b0; b18 = (flat_request x1).tag; b19 = (flat_request x1).b1; b20 = (flat_request x1).b2; b21 = (flat_request x1).b3; b22 = (flat_how x2).b0; b23 = (flat_how x2).b1; h0 = (flat_handshake x4).h0; h1 = (flat_port x0).h0; h2 = (flat_request x1).h0; h3 = (flat_request x1).h1; h4 = 0; h5 = 0; h6 = 0; w0 = (flat_handshake x4).w0; w1 = (flat_handshake x4).w1; w2 = (flat_handshake x4).w2; w3 = (flat_meter x3).w0; w4 = 0; w5 = 0; w6 = 0; w7 = 0; w8 = 0; z0 = (flat_handshake x4).z0 }
-flat_transfer_call TransferCallOver = record { call = 0; tag = 1; b1 = 0; b2 = 0; b3 = 0; b4 = 0; b5 = 0; b6 = 0; b7 = 0; b8 = 0; b9 = 0; b10 = 0; b11 = 0; b12 = 0; b13 = 0; b14 = 0; b15 = 0; b16 = 0; b17 = 0; b18 = 0; b19 = 0; b20 = 0; b21 = 0; b22 = 0; b23 = 0; h0 = 0; h1 = 0; h2 = 0; h3 = 0; h4 = 0; h5 = 0; h6 = 0; w0 = 0; w1 = 0; w2 = 0; w3 = 0; w4 = 0; w5 = 0; w6 = 0; w7 = 0; w8 = 0; z0 = 0 }
+flat_transfer_call (Some (x0, x1, x2, x3, x4)) = record { call = 0; tag = 0; b1 = (flat_handshake x4).tag; b2 = (flat_handshake x4).b1; b3 = (flat_handshake x4).b2; b4 = (flat_handshake x4).b3; b5 = (flat_handshake x4).b4; b6 = (flat_handshake x4).b5; b7 = (flat_handshake x4).b6; b8 = (flat_handshake x4).b7; b9 = (flat_handshake x4).b8; b10 = (flat_handshake x4).b9; b11 = (flat_handshake x4).b10; b12 = (flat_handshake x4).b11; b13 = (flat_handshake x4).b12; b14 = (flat_handshake x4).b13; b15 = (flat_port x0).b0; b16 = (flat_port x0).b1; b17 = (flat_meter x3).b0; b18 = (flat_request x1).tag; b19 = (flat_request x1).b1; b20 = (flat_request x1).b2; b21 = (flat_request x1).b3; b22 = (flat_how x2).b0; b23 = (flat_how x2).b1; h0 = (flat_handshake x4).h0; h1 = (flat_port x0).h0; h2 = (flat_request x1).h0; h3 = (flat_request x1).h1; h4 = 0; h5 = 0; h6 = 0; w0 = (flat_handshake x4).w0; w1 = (flat_handshake x4).w1; w2 = (flat_handshake x4).w2; w3 = (flat_meter x3).w0; w4 = 0; w5 = 0; w6 = 0; w7 = 0; w8 = 0; z0 = (flat_handshake x4).z0 }
+flat_transfer_call None = record { call = 0; tag = 1; b1 = 0; b2 = 0; b3 = 0; b4 = 0; b5 = 0; b6 = 0; b7 = 0; b8 = 0; b9 = 0; b10 = 0; b11 = 0; b12 = 0; b13 = 0; b14 = 0; b15 = 0; b16 = 0; b17 = 0; b18 = 0; b19 = 0; b20 = 0; b21 = 0; b22 = 0; b23 = 0; h0 = 0; h1 = 0; h2 = 0; h3 = 0; h4 = 0; h5 = 0; h6 = 0; w0 = 0; w1 = 0; w2 = 0; w3 = 0; w4 = 0; w5 = 0; w6 = 0; w7 = 0; w8 = 0; z0 = 0 }
 
 unfoldable pub the_transfer_call : State → TransferCall
 the_transfer_call b =
-    pick (eqb b.tag 0) (TransferCallGoing (the_port (record { b0 = b.b15; b1 = b.b16; h0 = b.h1 })) (the_request (record { tag = b.b18; b1 = b.b19; b2 = b.b20; b3 = b.b21; h0 = b.h2; h1 = b.h3 })) (the_how (record { b0 = b.b22; b1 = b.b23 })) (the_meter (record { b0 = b.b17; w0 = b.w3 })) (the_handshake (record { tag = b.b1; b1 = b.b2; b2 = b.b3; b3 = b.b4; b4 = b.b5; b5 = b.b6; b6 = b.b7; b7 = b.b8; b8 = b.b9; b9 = b.b10; b10 = b.b11; b11 = b.b12; b12 = b.b13; b13 = b.b14; h0 = b.h0; w0 = b.w0; w1 = b.w1; w2 = b.w2; z0 = b.z0 })))
-    (TransferCallOver)
+    pick (eqb b.tag 0) (Some ((the_port (record { b0 = b.b15; b1 = b.b16; h0 = b.h1 })), (the_request (record { tag = b.b18; b1 = b.b19; b2 = b.b20; b3 = b.b21; h0 = b.h2; h1 = b.h3 })), (the_how (record { b0 = b.b22; b1 = b.b23 })), (the_meter (record { b0 = b.b17; w0 = b.w3 })), (the_handshake (record { tag = b.b1; b1 = b.b2; b2 = b.b3; b3 = b.b4; b4 = b.b5; b5 = b.b6; b6 = b.b7; b7 = b.b8; b8 = b.b9; b9 = b.b10; b10 = b.b11; b11 = b.b12; b12 = b.b13; b13 = b.b14; h0 = b.h0; w0 = b.w0; w1 = b.w1; w2 = b.w2; z0 = b.z0 }))))
+    (None)
 
 pub back_transfer_call : (s : TransferCall) → the_transfer_call (flat_transfer_call s) ≡ s
 unfolding flat_transfer_call the_transfer_call
-back_transfer_call (TransferCallGoing x0 x1 x2 x3 x4) = λ i. TransferCallGoing (back_port x0 i) (back_request x1 i) (back_how x2 i) (back_meter x3 i) (back_handshake x4 i)
-back_transfer_call TransferCallOver = refl
+back_transfer_call (Some (x0, x1, x2, x3, x4)) = λ i. Some ((back_port x0 i), (back_request x1 i), (back_how x2 i), (back_meter x3 i), (back_handshake x4 i))
+back_transfer_call None = refl
 
 pub number_transfer_call : (s : TransferCall) → (flat_transfer_call s).call ≡ 0
 unfolding flat_transfer_call
-number_transfer_call (TransferCallGoing x0 x1 x2 x3 x4) = refl
-number_transfer_call TransferCallOver = refl
+number_transfer_call (Some (x0, x1, x2, x3, x4)) = refl
+number_transfer_call None = refl
 
 unfoldable pub flat_setup_call : SetupCall → State
-flat_setup_call (SetupCallGoing x0) = record { call = 1; tag = 0; b1 = (flat_update x0).tag; b2 = 0; b3 = 0; b4 = 0; b5 = 0; b6 = 0; b7 = 0; b8 = 0; b9 = 0; b10 = 0; b11 = 0; b12 = 0; b13 = 0; b14 = 0; b15 = 0; b16 = 0; b17 = 0; b18 = 0; b19 = 0; b20 = 0; b21 = 0; b22 = 0; b23 = 0; h0 = 0; h1 = 0; h2 = 0; h3 = 0; h4 = 0; h5 = 0; h6 = 0; w0 = (flat_update x0).w0; w1 = 0; w2 = 0; w3 = 0; w4 = 0; w5 = 0; w6 = 0; w7 = 0; w8 = 0; z0 = 0 }
-flat_setup_call SetupCallOver = record { call = 1; tag = 1; b1 = 0; b2 = 0; b3 = 0; b4 = 0; b5 = 0; b6 = 0; b7 = 0; b8 = 0; b9 = 0; b10 = 0; b11 = 0; b12 = 0; b13 = 0; b14 = 0; b15 = 0; b16 = 0; b17 = 0; b18 = 0; b19 = 0; b20 = 0; b21 = 0; b22 = 0; b23 = 0; h0 = 0; h1 = 0; h2 = 0; h3 = 0; h4 = 0; h5 = 0; h6 = 0; w0 = 0; w1 = 0; w2 = 0; w3 = 0; w4 = 0; w5 = 0; w6 = 0; w7 = 0; w8 = 0; z0 = 0 }
+flat_setup_call (Some x0) = record { call = 1; tag = 0; b1 = (flat_update x0).tag; b2 = 0; b3 = 0; b4 = 0; b5 = 0; b6 = 0; b7 = 0; b8 = 0; b9 = 0; b10 = 0; b11 = 0; b12 = 0; b13 = 0; b14 = 0; b15 = 0; b16 = 0; b17 = 0; b18 = 0; b19 = 0; b20 = 0; b21 = 0; b22 = 0; b23 = 0; h0 = 0; h1 = 0; h2 = 0; h3 = 0; h4 = 0; h5 = 0; h6 = 0; w0 = (flat_update x0).w0; w1 = 0; w2 = 0; w3 = 0; w4 = 0; w5 = 0; w6 = 0; w7 = 0; w8 = 0; z0 = 0 }
+flat_setup_call None = record { call = 1; tag = 1; b1 = 0; b2 = 0; b3 = 0; b4 = 0; b5 = 0; b6 = 0; b7 = 0; b8 = 0; b9 = 0; b10 = 0; b11 = 0; b12 = 0; b13 = 0; b14 = 0; b15 = 0; b16 = 0; b17 = 0; b18 = 0; b19 = 0; b20 = 0; b21 = 0; b22 = 0; b23 = 0; h0 = 0; h1 = 0; h2 = 0; h3 = 0; h4 = 0; h5 = 0; h6 = 0; w0 = 0; w1 = 0; w2 = 0; w3 = 0; w4 = 0; w5 = 0; w6 = 0; w7 = 0; w8 = 0; z0 = 0 }
 
 unfoldable pub the_setup_call : State → SetupCall
 the_setup_call b =
-    pick (eqb b.tag 0) (SetupCallGoing (the_update (record { tag = b.b1; w0 = b.w0 })))
-    (SetupCallOver)
+    pick (eqb b.tag 0) (Some (the_update (record { tag = b.b1; w0 = b.w0 })))
+    (None)
 
 pub back_setup_call : (s : SetupCall) → the_setup_call (flat_setup_call s) ≡ s
 unfolding flat_setup_call the_setup_call
-back_setup_call (SetupCallGoing x0) = λ i. SetupCallGoing (back_update x0 i)
-back_setup_call SetupCallOver = refl
+back_setup_call (Some x0) = λ i. Some (back_update x0 i)
+back_setup_call None = refl
 
 pub number_setup_call : (s : SetupCall) → (flat_setup_call s).call ≡ 1
 unfolding flat_setup_call
-number_setup_call (SetupCallGoing x0) = refl
-number_setup_call SetupCallOver = refl
+number_setup_call (Some x0) = refl
+number_setup_call None = refl

@@ -1,13 +1,12 @@
 -- States of `identify` as numbers, and back; back again nothing is lost. Written by `derive`.
-use Rattle.std.specs.Prelude.{◌≡◌, refl, eqb}
+use Rattle.std.specs.Prelude.{◌≡◌, refl, eqb, Some, None}
 use Rattle.flat.specs.Pick.{pick}
 use Rattle.identify.specs.declared.place.Place.{Place}
 use Rattle.identify.specs.declared.place.Place.TheVariants.{Identifier as PlaceIdentifier, Comp1g as PlaceComp1g, Comp10g as PlaceComp10g, Cable as PlaceCable, Rate as PlaceRate, Km as PlaceKm, Hm as PlaceHm, Active as PlaceActive, QsfpIdentifier as PlaceQsfpIdentifier, Qsfp10g as PlaceQsfp10g, Qsfp1g as PlaceQsfp1g, QsfpConnector as PlaceQsfpConnector, QsfpLength as PlaceQsfpLength, QsfpTechnology as PlaceQsfpTechnology}
 use Rattle.flat.specs.declared.of_identify.PlaceFlat.{PlaceFlat}
 use Rattle.identify.specs.declared.walk.Identify.{Identify}
 use Rattle.flat.specs.declared.of_identify.IdentifyFlat.{IdentifyFlat}
-use Rattle.identify.specs.declared.calls.IdentifyCall.{IdentifyCall}
-use Rattle.identify.specs.declared.calls.IdentifyCall.TheVariants.{Going as IdentifyCallGoing, Over as IdentifyCallOver}
+use Rattle.identify.specs.Aliases.{IdentifyCall}
 use Rattle.flat.specs.declared.State.{State}
 use Rattle.flat.specs.Hardware.{flat_meter, the_meter, back_meter}
 use Rattle.flat.specs.Hardware.{flat_port, the_port, back_port}
@@ -76,20 +75,20 @@ unfolding flat_identify the_identify
 back_identify s = λ i. record { place = back_place s.place i; request = back_handshake s.request i }
 
 unfoldable pub flat_identify_call : IdentifyCall → State
-flat_identify_call (IdentifyCallGoing x0 x1 x2 x3) = record { call = 2; tag = 0; b1 = (flat_identify x3).b0; b2 = (flat_identify x3).b1; b3 = (flat_identify x3).b2; b4 = (flat_identify x3).b3; b5 = (flat_identify x3).b4; b6 = (flat_identify x3).b5; b7 = (flat_identify x3).b6; b8 = (flat_identify x3).b7; b9 = (flat_identify x3).b8; b10 = (flat_identify x3).b9; b11 = (flat_identify x3).b10; b12 = (flat_identify x3).b11; b13 = (flat_identify x3).b12; b14 = (flat_identify x3).b13; b15 = (flat_port x0).b0; b16 = (flat_port x0).b1; b17 = (flat_meter x2).b0; b18 = (flat_identify x3).b14; b19 = (flat_identify x3).b15; b20 = (flat_identify x3).b16; b21 = (flat_identify x3).b17; b22 = (flat_identify x3).b18; b23 = flat_sequence x1; h0 = (flat_identify x3).h0; h1 = (flat_port x0).h0; h2 = 0; h3 = 0; h4 = 0; h5 = 0; h6 = 0; w0 = (flat_identify x3).w0; w1 = (flat_identify x3).w1; w2 = (flat_identify x3).w2; w3 = (flat_meter x2).w0; w4 = 0; w5 = 0; w6 = 0; w7 = 0; w8 = 0; z0 = (flat_identify x3).z0 }
-flat_identify_call IdentifyCallOver = record { call = 2; tag = 1; b1 = 0; b2 = 0; b3 = 0; b4 = 0; b5 = 0; b6 = 0; b7 = 0; b8 = 0; b9 = 0; b10 = 0; b11 = 0; b12 = 0; b13 = 0; b14 = 0; b15 = 0; b16 = 0; b17 = 0; b18 = 0; b19 = 0; b20 = 0; b21 = 0; b22 = 0; b23 = 0; h0 = 0; h1 = 0; h2 = 0; h3 = 0; h4 = 0; h5 = 0; h6 = 0; w0 = 0; w1 = 0; w2 = 0; w3 = 0; w4 = 0; w5 = 0; w6 = 0; w7 = 0; w8 = 0; z0 = 0 }
+flat_identify_call (Some (x0, x1, x2, x3)) = record { call = 2; tag = 0; b1 = (flat_identify x3).b0; b2 = (flat_identify x3).b1; b3 = (flat_identify x3).b2; b4 = (flat_identify x3).b3; b5 = (flat_identify x3).b4; b6 = (flat_identify x3).b5; b7 = (flat_identify x3).b6; b8 = (flat_identify x3).b7; b9 = (flat_identify x3).b8; b10 = (flat_identify x3).b9; b11 = (flat_identify x3).b10; b12 = (flat_identify x3).b11; b13 = (flat_identify x3).b12; b14 = (flat_identify x3).b13; b15 = (flat_port x0).b0; b16 = (flat_port x0).b1; b17 = (flat_meter x2).b0; b18 = (flat_identify x3).b14; b19 = (flat_identify x3).b15; b20 = (flat_identify x3).b16; b21 = (flat_identify x3).b17; b22 = (flat_identify x3).b18; b23 = flat_sequence x1; h0 = (flat_identify x3).h0; h1 = (flat_port x0).h0; h2 = 0; h3 = 0; h4 = 0; h5 = 0; h6 = 0; w0 = (flat_identify x3).w0; w1 = (flat_identify x3).w1; w2 = (flat_identify x3).w2; w3 = (flat_meter x2).w0; w4 = 0; w5 = 0; w6 = 0; w7 = 0; w8 = 0; z0 = (flat_identify x3).z0 }
+flat_identify_call None = record { call = 2; tag = 1; b1 = 0; b2 = 0; b3 = 0; b4 = 0; b5 = 0; b6 = 0; b7 = 0; b8 = 0; b9 = 0; b10 = 0; b11 = 0; b12 = 0; b13 = 0; b14 = 0; b15 = 0; b16 = 0; b17 = 0; b18 = 0; b19 = 0; b20 = 0; b21 = 0; b22 = 0; b23 = 0; h0 = 0; h1 = 0; h2 = 0; h3 = 0; h4 = 0; h5 = 0; h6 = 0; w0 = 0; w1 = 0; w2 = 0; w3 = 0; w4 = 0; w5 = 0; w6 = 0; w7 = 0; w8 = 0; z0 = 0 }
 
 unfoldable pub the_identify_call : State → IdentifyCall
 the_identify_call b =
-    pick (eqb b.tag 0) (IdentifyCallGoing (the_port (record { b0 = b.b15; b1 = b.b16; h0 = b.h1 })) (the_sequence b.b23) (the_meter (record { b0 = b.b17; w0 = b.w3 })) (the_identify (record { b0 = b.b1; b1 = b.b2; b2 = b.b3; b3 = b.b4; b4 = b.b5; b5 = b.b6; b6 = b.b7; b7 = b.b8; b8 = b.b9; b9 = b.b10; b10 = b.b11; b11 = b.b12; b12 = b.b13; b13 = b.b14; h0 = b.h0; w0 = b.w0; w1 = b.w1; w2 = b.w2; z0 = b.z0; b14 = b.b18; b15 = b.b19; b16 = b.b20; b17 = b.b21; b18 = b.b22 })))
-    (IdentifyCallOver)
+    pick (eqb b.tag 0) (Some ((the_port (record { b0 = b.b15; b1 = b.b16; h0 = b.h1 })), (the_sequence b.b23), (the_meter (record { b0 = b.b17; w0 = b.w3 })), (the_identify (record { b0 = b.b1; b1 = b.b2; b2 = b.b3; b3 = b.b4; b4 = b.b5; b5 = b.b6; b6 = b.b7; b7 = b.b8; b8 = b.b9; b9 = b.b10; b10 = b.b11; b11 = b.b12; b12 = b.b13; b13 = b.b14; h0 = b.h0; w0 = b.w0; w1 = b.w1; w2 = b.w2; z0 = b.z0; b14 = b.b18; b15 = b.b19; b16 = b.b20; b17 = b.b21; b18 = b.b22 }))))
+    (None)
 
 pub back_identify_call : (s : IdentifyCall) → the_identify_call (flat_identify_call s) ≡ s
 unfolding flat_identify_call the_identify_call
-back_identify_call (IdentifyCallGoing x0 x1 x2 x3) = λ i. IdentifyCallGoing (back_port x0 i) (back_sequence x1 i) (back_meter x2 i) (back_identify x3 i)
-back_identify_call IdentifyCallOver = refl
+back_identify_call (Some (x0, x1, x2, x3)) = λ i. Some ((back_port x0 i), (back_sequence x1 i), (back_meter x2 i), (back_identify x3 i))
+back_identify_call None = refl
 
 pub number_identify_call : (s : IdentifyCall) → (flat_identify_call s).call ≡ 2
 unfolding flat_identify_call
-number_identify_call (IdentifyCallGoing x0 x1 x2 x3) = refl
-number_identify_call IdentifyCallOver = refl
+number_identify_call (Some (x0, x1, x2, x3)) = refl
+number_identify_call None = refl

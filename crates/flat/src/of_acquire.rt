@@ -298,7 +298,7 @@ pub fn of_acquire_call(s: acquire::calls::AcquireCall) -> crate::State
     ensures { result ≡ flat_acquire_call s }
 {
     match s {
-        acquire::calls::AcquireCall::Going(x0, x1, x2) => {
+        Some((x0, x1, x2)) => {
             let q0 = crate::of_hardware::of_port(x0);
             let q2 = of_acquire(x2);
             crate::State {
@@ -346,7 +346,7 @@ pub fn of_acquire_call(s: acquire::calls::AcquireCall) -> crate::State
                 z0: 0,
             }
         },
-        acquire::calls::AcquireCall::Over => crate::State {
+        None => crate::State {
             call: 5,
             tag: 1,
             b1: 0,
@@ -399,7 +399,7 @@ pub fn acquire_call(b: crate::State) -> acquire::calls::AcquireCall
 {
     let tag = b.tag;
     match tag {
-        0 => acquire::calls::AcquireCall::Going(
+        0 => Some((
             crate::of_hardware::port(crate::of_hardware::PortFlat {
                 b0: b.b1,
                 b1: b.b2,
@@ -427,8 +427,8 @@ pub fn acquire_call(b: crate::State) -> acquire::calls::AcquireCall
                 w4: b.w4,
                 w5: b.w5,
             }),
-        ),
-        _ => acquire::calls::AcquireCall::Over,
+        )),
+        _ => None,
     }
 }
 
@@ -542,7 +542,7 @@ pub fn of_release_call(s: acquire::calls::ReleaseCall) -> crate::State
     ensures { result ≡ flat_release_call s }
 {
     match s {
-        acquire::calls::ReleaseCall::Going(x0, x1, x2) => {
+        Some((x0, x1, x2)) => {
             let q0 = crate::of_hardware::of_port(x0);
             let q2 = of_release(x2);
             crate::State {
@@ -590,7 +590,7 @@ pub fn of_release_call(s: acquire::calls::ReleaseCall) -> crate::State
                 z0: 0,
             }
         },
-        acquire::calls::ReleaseCall::Over => crate::State {
+        None => crate::State {
             call: 6,
             tag: 1,
             b1: 0,
@@ -643,7 +643,7 @@ pub fn release_call(b: crate::State) -> acquire::calls::ReleaseCall
 {
     let tag = b.tag;
     match tag {
-        0 => acquire::calls::ReleaseCall::Going(
+        0 => Some((
             crate::of_hardware::port(crate::of_hardware::PortFlat {
                 b0: b.b1,
                 b1: b.b2,
@@ -670,7 +670,7 @@ pub fn release_call(b: crate::State) -> acquire::calls::ReleaseCall
                 w3: b.w3,
                 w4: b.w4,
             }),
-        ),
-        _ => acquire::calls::ReleaseCall::Over,
+        )),
+        _ => None,
     }
 }

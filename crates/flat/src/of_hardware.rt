@@ -254,18 +254,18 @@ pub fn error(b: ErrorFlat) -> hardware::Error
 }
 
 #[tactic(auto, unfolding(crate::specs::Hardware::flat_outcome))]
-pub fn of_outcome(s: hardware::Outcome) -> OutcomeFlat
+pub fn of_outcome(s: hardware::R<()>) -> OutcomeFlat
     ensures { result ≡ flat_outcome s }
 {
     match s {
-        hardware::Outcome::Ok => OutcomeFlat {
+        Ok(()) => OutcomeFlat {
             tag: 0,
             b1: 0,
             b2: 0,
             b3: 0,
             w0: 0,
         },
-        hardware::Outcome::Err(x0) => {
+        Err(x0) => {
             let q0 = of_error(x0);
             OutcomeFlat {
                 tag: 1,
@@ -279,13 +279,13 @@ pub fn of_outcome(s: hardware::Outcome) -> OutcomeFlat
 }
 
 #[tactic(auto, unfolding(crate::specs::Hardware::the_outcome))]
-pub fn outcome(b: OutcomeFlat) -> hardware::Outcome
+pub fn outcome(b: OutcomeFlat) -> hardware::R<()>
     ensures { result ≡ the_outcome b }
 {
     let tag = b.tag;
     match tag {
-        0 => hardware::Outcome::Ok,
-        _ => hardware::Outcome::Err(error(ErrorFlat {
+        0 => Ok(()),
+        _ => Err(error(ErrorFlat {
             tag: b.b1,
             b1: b.b2,
             b2: b.b3,
@@ -295,18 +295,18 @@ pub fn outcome(b: OutcomeFlat) -> hardware::Outcome
 }
 
 #[tactic(auto, unfolding(crate::specs::Hardware::flat_byte))]
-pub fn of_byte(s: hardware::Byte) -> ByteFlat
+pub fn of_byte(s: hardware::R<u8>) -> ByteFlat
     ensures { result ≡ flat_byte s }
 {
     match s {
-        hardware::Byte::Ok(x0) => ByteFlat {
+        Ok(x0) => ByteFlat {
             tag: 0,
             b1: x0,
             b2: 0,
             b3: 0,
             w0: 0,
         },
-        hardware::Byte::Err(x0) => {
+        Err(x0) => {
             let q0 = of_error(x0);
             ByteFlat {
                 tag: 1,
@@ -320,13 +320,13 @@ pub fn of_byte(s: hardware::Byte) -> ByteFlat
 }
 
 #[tactic(auto, unfolding(crate::specs::Hardware::the_byte))]
-pub fn byte(b: ByteFlat) -> hardware::Byte
+pub fn byte(b: ByteFlat) -> hardware::R<u8>
     ensures { result ≡ the_byte b }
 {
     let tag = b.tag;
     match tag {
-        0 => hardware::Byte::Ok(b.b1),
-        _ => hardware::Byte::Err(error(ErrorFlat {
+        0 => Ok(b.b1),
+        _ => Err(error(ErrorFlat {
             tag: b.b1,
             b1: b.b2,
             b2: b.b3,
@@ -336,18 +336,18 @@ pub fn byte(b: ByteFlat) -> hardware::Byte
 }
 
 #[tactic(auto, unfolding(crate::specs::Hardware::flat_flag))]
-pub fn of_flag(s: hardware::Flag) -> FlagFlat
+pub fn of_flag(s: hardware::R<bool>) -> FlagFlat
     ensures { result ≡ flat_flag s }
 {
     match s {
-        hardware::Flag::Ok(x0) => FlagFlat {
+        Ok(x0) => FlagFlat {
             tag: 0,
             b1: crate::bit(x0),
             b2: 0,
             b3: 0,
             w0: 0,
         },
-        hardware::Flag::Err(x0) => {
+        Err(x0) => {
             let q0 = of_error(x0);
             FlagFlat {
                 tag: 1,
@@ -361,13 +361,13 @@ pub fn of_flag(s: hardware::Flag) -> FlagFlat
 }
 
 #[tactic(auto, unfolding(crate::specs::Hardware::the_flag))]
-pub fn flag(b: FlagFlat) -> hardware::Flag
+pub fn flag(b: FlagFlat) -> hardware::R<bool>
     ensures { result ≡ the_flag b }
 {
     let tag = b.tag;
     match tag {
-        0 => hardware::Flag::Ok(crate::set(b.b1)),
-        _ => hardware::Flag::Err(error(ErrorFlat {
+        0 => Ok(crate::set(b.b1)),
+        _ => Err(error(ErrorFlat {
             tag: b.b1,
             b1: b.b2,
             b2: b.b3,

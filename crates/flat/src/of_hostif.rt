@@ -362,7 +362,7 @@ pub fn of_token_call(s: hostif::calls::TokenCall) -> crate::State
     ensures { result ≡ flat_token_call s }
 {
     match s {
-        hostif::calls::TokenCall::Going(x0, x1, x2) => {
+        Some((x0, x1, x2)) => {
             let q0 = crate::of_hardware::of_port(x0);
             let q2 = of_token(x2);
             crate::State {
@@ -410,7 +410,7 @@ pub fn of_token_call(s: hostif::calls::TokenCall) -> crate::State
                 z0: 0,
             }
         },
-        hostif::calls::TokenCall::Over => crate::State {
+        None => crate::State {
             call: 7,
             tag: 1,
             b1: 0,
@@ -463,7 +463,7 @@ pub fn token_call(b: crate::State) -> hostif::calls::TokenCall
 {
     let tag = b.tag;
     match tag {
-        0 => hostif::calls::TokenCall::Going(
+        0 => Some((
             crate::of_hardware::port(crate::of_hardware::PortFlat {
                 b0: b.b1,
                 b1: b.b2,
@@ -489,8 +489,8 @@ pub fn token_call(b: crate::State) -> hostif::calls::TokenCall
                 w3: b.w3,
                 w4: b.w4,
             }),
-        ),
-        _ => hostif::calls::TokenCall::Over,
+        )),
+        _ => None,
     }
 }
 
@@ -499,7 +499,7 @@ pub fn of_command_call(s: hostif::calls::CommandCall) -> crate::State
     ensures { result ≡ flat_command_call s }
 {
     match s {
-        hostif::calls::CommandCall::Going(x0, x1) => {
+        Some((x0, x1)) => {
             let q0 = crate::of_hardware::of_port(x0);
             let q1 = of_command(x1);
             crate::State {
@@ -547,7 +547,7 @@ pub fn of_command_call(s: hostif::calls::CommandCall) -> crate::State
                 z0: 0,
             }
         },
-        hostif::calls::CommandCall::Over => crate::State {
+        None => crate::State {
             call: 8,
             tag: 1,
             b1: 0,
@@ -600,7 +600,7 @@ pub fn command_call(b: crate::State) -> hostif::calls::CommandCall
 {
     let tag = b.tag;
     match tag {
-        0 => hostif::calls::CommandCall::Going(
+        0 => Some((
             crate::of_hardware::port(crate::of_hardware::PortFlat {
                 b0: b.b1,
                 b1: b.b2,
@@ -623,7 +623,7 @@ pub fn command_call(b: crate::State) -> hostif::calls::CommandCall
                 w1: b.w1,
                 w2: b.w2,
             }),
-        ),
-        _ => hostif::calls::CommandCall::Over,
+        )),
+        _ => None,
     }
 }

@@ -555,7 +555,7 @@ pub fn of_transfer_call(s: i2c::calls::TransferCall) -> crate::State
     ensures { result ≡ flat_transfer_call s }
 {
     match s {
-        i2c::calls::TransferCall::Going(x0, x1, x2, x3, x4) => {
+        Some((x0, x1, x2, x3, x4)) => {
             let q0 = crate::of_hardware::of_port(x0);
             let q1 = of_request(x1);
             let q2 = of_how(x2);
@@ -606,7 +606,7 @@ pub fn of_transfer_call(s: i2c::calls::TransferCall) -> crate::State
                 z0: q4.z0,
             }
         },
-        i2c::calls::TransferCall::Over => crate::State {
+        None => crate::State {
             call: 0,
             tag: 1,
             b1: 0,
@@ -659,7 +659,7 @@ pub fn transfer_call(b: crate::State) -> i2c::calls::TransferCall
 {
     let tag = b.tag;
     match tag {
-        0 => i2c::calls::TransferCall::Going(
+        0 => Some((
             crate::of_hardware::port(crate::of_hardware::PortFlat {
                 b0: b.b15,
                 b1: b.b16,
@@ -702,8 +702,8 @@ pub fn transfer_call(b: crate::State) -> i2c::calls::TransferCall
                 w2: b.w2,
                 z0: b.z0,
             }),
-        ),
-        _ => i2c::calls::TransferCall::Over,
+        )),
+        _ => None,
     }
 }
 
@@ -712,7 +712,7 @@ pub fn of_setup_call(s: i2c::calls::SetupCall) -> crate::State
     ensures { result ≡ flat_setup_call s }
 {
     match s {
-        i2c::calls::SetupCall::Going(x0) => {
+        Some(x0) => {
             let q0 = crate::of_hardware::of_update(x0);
             crate::State {
                 call: 1,
@@ -759,7 +759,7 @@ pub fn of_setup_call(s: i2c::calls::SetupCall) -> crate::State
                 z0: 0,
             }
         },
-        i2c::calls::SetupCall::Over => crate::State {
+        None => crate::State {
             call: 1,
             tag: 1,
             b1: 0,
@@ -812,12 +812,10 @@ pub fn setup_call(b: crate::State) -> i2c::calls::SetupCall
 {
     let tag = b.tag;
     match tag {
-        0 => i2c::calls::SetupCall::Going(crate::of_hardware::update(
-            crate::of_hardware::UpdateFlat {
-                tag: b.b1,
-                w0: b.w0,
-            },
-        )),
-        _ => i2c::calls::SetupCall::Over,
+        0 => Some(crate::of_hardware::update(crate::of_hardware::UpdateFlat {
+            tag: b.b1,
+            w0: b.w0,
+        })),
+        _ => None,
     }
 }

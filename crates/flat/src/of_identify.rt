@@ -280,7 +280,7 @@ pub fn of_identify_call(s: identify::calls::IdentifyCall) -> crate::State
     ensures { result ≡ flat_identify_call s }
 {
     match s {
-        identify::calls::IdentifyCall::Going(x0, x1, x2, x3) => {
+        Some((x0, x1, x2, x3)) => {
             let q0 = crate::of_hardware::of_port(x0);
             let q1 = crate::of_transfer::of_sequence(x1);
             let q2 = crate::of_hardware::of_meter(x2);
@@ -330,7 +330,7 @@ pub fn of_identify_call(s: identify::calls::IdentifyCall) -> crate::State
                 z0: q3.z0,
             }
         },
-        identify::calls::IdentifyCall::Over => crate::State {
+        None => crate::State {
             call: 2,
             tag: 1,
             b1: 0,
@@ -383,7 +383,7 @@ pub fn identify_call(b: crate::State) -> identify::calls::IdentifyCall
 {
     let tag = b.tag;
     match tag {
-        0 => identify::calls::IdentifyCall::Going(
+        0 => Some((
             crate::of_hardware::port(crate::of_hardware::PortFlat {
                 b0: b.b15,
                 b1: b.b16,
@@ -420,7 +420,7 @@ pub fn identify_call(b: crate::State) -> identify::calls::IdentifyCall
                 b17: b.b21,
                 b18: b.b22,
             }),
-        ),
-        _ => identify::calls::IdentifyCall::Over,
+        )),
+        _ => None,
     }
 }

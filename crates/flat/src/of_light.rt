@@ -226,7 +226,7 @@ pub fn of_light_call(s: light::calls::LightCall) -> crate::State
     ensures { result ≡ flat_light_call s }
 {
     match s {
-        light::calls::LightCall::Going(x0, x1, x2, x3, x4) => {
+        Some((x0, x1, x2, x3, x4)) => {
             let q0 = crate::of_hardware::of_port(x0);
             let q1 = crate::of_transfer::of_sequence(x1);
             let q3 = crate::of_hardware::of_meter(x3);
@@ -276,7 +276,7 @@ pub fn of_light_call(s: light::calls::LightCall) -> crate::State
                 z0: q4.z0,
             }
         },
-        light::calls::LightCall::Over => crate::State {
+        None => crate::State {
             call: 4,
             tag: 1,
             b1: 0,
@@ -329,7 +329,7 @@ pub fn light_call(b: crate::State) -> light::calls::LightCall
 {
     let tag = b.tag;
     match tag {
-        0 => light::calls::LightCall::Going(
+        0 => Some((
             crate::of_hardware::port(crate::of_hardware::PortFlat {
                 b0: b.b15,
                 b1: b.b16,
@@ -374,7 +374,7 @@ pub fn light_call(b: crate::State) -> light::calls::LightCall
                 w6: b.w7,
                 w7: b.w8,
             }),
-        ),
-        _ => light::calls::LightCall::Over,
+        )),
+        _ => None,
     }
 }

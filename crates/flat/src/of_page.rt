@@ -113,7 +113,7 @@ pub fn of_page_call(s: page::calls::PageCall) -> crate::State
     ensures { result ≡ flat_page_call s }
 {
     match s {
-        page::calls::PageCall::Going(x0, x1, x2, x3, x4, x5) => {
+        Some((x0, x1, x2, x3, x4, x5)) => {
             let q0 = crate::of_hardware::of_port(x0);
             let q1 = crate::of_transfer::of_sequence(x1);
             let q2 = of_form(x2);
@@ -164,7 +164,7 @@ pub fn of_page_call(s: page::calls::PageCall) -> crate::State
                 z0: q5.z0,
             }
         },
-        page::calls::PageCall::Over => crate::State {
+        None => crate::State {
             call: 10,
             tag: 1,
             b1: 0,
@@ -217,7 +217,7 @@ pub fn page_call(b: crate::State) -> page::calls::PageCall
 {
     let tag = b.tag;
     match tag {
-        0 => page::calls::PageCall::Going(
+        0 => Some((
             crate::of_hardware::port(crate::of_hardware::PortFlat {
                 b0: b.b15,
                 b1: b.b16,
@@ -252,7 +252,7 @@ pub fn page_call(b: crate::State) -> page::calls::PageCall
                 z0: b.z0,
                 b14: b.b18,
             }),
-        ),
-        _ => page::calls::PageCall::Over,
+        )),
+        _ => None,
     }
 }

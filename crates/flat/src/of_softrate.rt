@@ -173,7 +173,7 @@ pub fn of_rate_call(s: softrate::calls::RateCall) -> crate::State
     ensures { result ≡ flat_rate_call s }
 {
     match s {
-        softrate::calls::RateCall::Going(x0, x1, x2, x3, x4) => {
+        Some((x0, x1, x2, x3, x4)) => {
             let q0 = crate::of_hardware::of_port(x0);
             let q1 = crate::of_transfer::of_sequence(x1);
             let q3 = crate::of_hardware::of_meter(x3);
@@ -223,7 +223,7 @@ pub fn of_rate_call(s: softrate::calls::RateCall) -> crate::State
                 z0: q4.z0,
             }
         },
-        softrate::calls::RateCall::Over => crate::State {
+        None => crate::State {
             call: 3,
             tag: 1,
             b1: 0,
@@ -276,7 +276,7 @@ pub fn rate_call(b: crate::State) -> softrate::calls::RateCall
 {
     let tag = b.tag;
     match tag {
-        0 => softrate::calls::RateCall::Going(
+        0 => Some((
             crate::of_hardware::port(crate::of_hardware::PortFlat {
                 b0: b.b15,
                 b1: b.b16,
@@ -313,7 +313,7 @@ pub fn rate_call(b: crate::State) -> softrate::calls::RateCall
                 b16: b.b20,
                 b17: b.b21,
             }),
-        ),
-        _ => softrate::calls::RateCall::Over,
+        )),
+        _ => None,
     }
 }

@@ -204,11 +204,11 @@ pub fn attempt(b: AttemptFlat) -> transfer::attempt::Attempt
 }
 
 #[tactic(auto, unfolding(crate::specs::Transfer::flat_got))]
-pub fn of_got(s: transfer::attempt::Got) -> GotFlat
+pub fn of_got(s: hardware::R<bus::Taken>) -> GotFlat
     ensures { result ≡ flat_got s }
 {
     match s {
-        transfer::attempt::Got::Ok(x0) => {
+        Ok(x0) => {
             let q0 = crate::of_bus::of_taken(x0);
             GotFlat {
                 tag: 0,
@@ -218,7 +218,7 @@ pub fn of_got(s: transfer::attempt::Got) -> GotFlat
                 w0: 0,
             }
         },
-        transfer::attempt::Got::Err(x0) => {
+        Err(x0) => {
             let q0 = crate::of_hardware::of_error(x0);
             GotFlat {
                 tag: 1,
@@ -232,24 +232,22 @@ pub fn of_got(s: transfer::attempt::Got) -> GotFlat
 }
 
 #[tactic(auto, unfolding(crate::specs::Transfer::the_got))]
-pub fn got(b: GotFlat) -> transfer::attempt::Got
+pub fn got(b: GotFlat) -> hardware::R<bus::Taken>
     ensures { result ≡ the_got b }
 {
     let tag = b.tag;
     match tag {
-        0 => transfer::attempt::Got::Ok(crate::of_bus::taken(crate::of_bus::TakenFlat {
+        0 => Ok(crate::of_bus::taken(crate::of_bus::TakenFlat {
             b0: b.b1,
             b1: b.b2,
             b2: b.b3,
         })),
-        _ => transfer::attempt::Got::Err(crate::of_hardware::error(
-            crate::of_hardware::ErrorFlat {
-                tag: b.b1,
-                b1: b.b2,
-                b2: b.b3,
-                w0: b.w0,
-            },
-        )),
+        _ => Err(crate::of_hardware::error(crate::of_hardware::ErrorFlat {
+            tag: b.b1,
+            b1: b.b2,
+            b2: b.b3,
+            w0: b.w0,
+        })),
     }
 }
 
@@ -258,7 +256,7 @@ pub fn of_script_call(s: transfer::calls::ScriptCall) -> crate::State
     ensures { result ≡ flat_script_call s }
 {
     match s {
-        transfer::calls::ScriptCall::Going(x0, x1, x2) => {
+        Some((x0, x1, x2)) => {
             let q0 = crate::of_hardware::of_port(x0);
             let q1 = crate::of_hardware::of_meter(x1);
             let q2 = of_attempt(x2);
@@ -307,7 +305,7 @@ pub fn of_script_call(s: transfer::calls::ScriptCall) -> crate::State
                 z0: q2.z0,
             }
         },
-        transfer::calls::ScriptCall::Over => crate::State {
+        None => crate::State {
             call: 9,
             tag: 1,
             b1: 0,
@@ -360,7 +358,7 @@ pub fn script_call(b: crate::State) -> transfer::calls::ScriptCall
 {
     let tag = b.tag;
     match tag {
-        0 => transfer::calls::ScriptCall::Going(
+        0 => Some((
             crate::of_hardware::port(crate::of_hardware::PortFlat {
                 b0: b.b1,
                 b1: b.b2,
@@ -381,7 +379,7 @@ pub fn script_call(b: crate::State) -> transfer::calls::ScriptCall
                 w0: b.w1,
                 z0: b.z0,
             }),
-        ),
-        _ => transfer::calls::ScriptCall::Over,
+        )),
+        _ => None,
     }
 }

@@ -5,16 +5,15 @@ use mathlib.Core.Bool.{Bool, true, false}
 use mathlib.Core.List.{List, [], ◌∷◌}
 use lib.Dec.{T, leb, ltb}
 use lib.ListN.{get_or}
+use Rattle.std.specs.Prelude.{Result, Ok, Err}
 use native.Mathlib.Nat.{add-zero, zero-add, zero-max, max-zero, max-le, le-max_left, le-max_right}
 use native.Mathlib.Numerals.{sub-one}
 use native.Mathlib.Omega.{arith}
 use borrow.Author.Tests.{leb-true, le-leb, ltb-true}
 use Rattle.hardware.specs.Prog.{Note, Attempt, Acquires, Acquired, Released, Lapsed, Acknowledged, Prog, ret, ask, note, give, erase, ◌>>=◌, pick, attempts_after, slowest_after, metered, Counted, blank, tally}
-use Rattle.hardware.specs.Asked.{Asked, no, yes, and_then, question, open_family, open_lan, open_port, port_opened, valid_port, fits, admitting, Admits, InType}
+use Rattle.hardware.specs.Asked.{Asked, no, yes, and_then, question, open_family, open_lan, open_port, opened, valid_port, fits, admitting, Admits, InType}
 use Rattle.hardware.specs.Runs.{run, on_answer, run_asked, given, answered, transfers_in, sampled, samples_in, greatest_of, Samples, Heard, Status, ended, waiting, meter_in, counted_status, counted, Awaited, AwaitedIn, left_after, left_asked_after, Exchange, answers_of, AllKept, led, driven, Refuses, Asks, IfYes}
 use Rattle.hardware.specs.declared.Access.{Access}
-use Rattle.hardware.specs.declared.Admitted.{Admitted}
-use Rattle.hardware.specs.declared.Admitted.TheVariants.{Yes, No}
 use Rattle.hardware.specs.declared.Answer.{Answer}
 use Rattle.hardware.specs.declared.Family.{Family}
 use Rattle.hardware.specs.declared.Marks.{Marks}
@@ -23,12 +22,10 @@ use Rattle.hardware.specs.declared.Port.{Port}
 use Rattle.hardware.specs.declared.Refusal.{Refusal}
 use Rattle.hardware.specs.Numbers.{refusal_number}
 use Rattle.hardware.specs.Marks.{meter_on, valid_held}
-use Rattle.hardware.specs.declared.Opening.{Opening}
-use Rattle.hardware.specs.declared.Opening.TheVariants.{Port as Opened}
 use Rattle.hardware.specs.Poll.{poll, poll_next, access_poll, rest_poll}
 use Rattle.hardware.specs.declared.poll.Watch.{Watch}
 use Rattle.hardware.specs.declared.poll.Poll.TheVariants.{Reading}
-use Rattle.hardware.specs.declared.poll.PollNext.TheVariants.{Going}
+use Rattle.hardware.specs.declared.Next.TheVariants.{Going}
 use Rattle.hardware.specs.Promise.{Keeps}
 use Rattle.hardware.proofs.Prog.{run_erase}
 
@@ -70,23 +67,23 @@ both_true true b h = (refl, h)
 both_true false b h = (h, cc)
 
 -- a step that is admitted goes on, and one that is refused does so whatever would follow
-pub admits_yes : {A : Type 0} {r : Admitted} (valid : Bool) (x : Access) (a : Answer) (k : Asked A) → r ≡ Yes → Admits valid x a r → admitting valid x a k ≡ k
+pub admits_yes : {A : Type 0} {r : Result (Unit {0}) Refusal} (valid : Bool) (x : Access) (a : Answer) (k : Asked A) → r ≡ Ok tt → Admits valid x a r → admitting valid x a k ≡ k
 unfolding Admits admitting question
 admits_yes valid x a k e h = let g : (valid ≡ true) × (fits x a ≡ true) × InType a = rw e at h in rw (g.0, g.1)
 
-pub admits_valid : {r : Admitted} (valid : Bool) (x : Access) (a : Answer) → r ≡ Yes → Admits valid x a r → valid ≡ true
+pub admits_valid : {r : Result (Unit {0}) Refusal} (valid : Bool) (x : Access) (a : Answer) → r ≡ Ok tt → Admits valid x a r → valid ≡ true
 unfolding Admits
 admits_valid valid x a e h = let g : (valid ≡ true) × (fits x a ≡ true) × InType a = rw e at h in g.0
 
-pub admits_fits : {r : Admitted} (valid : Bool) (x : Access) (a : Answer) → r ≡ Yes → Admits valid x a r → fits x a ≡ true
+pub admits_fits : {r : Result (Unit {0}) Refusal} (valid : Bool) (x : Access) (a : Answer) → r ≡ Ok tt → Admits valid x a r → fits x a ≡ true
 unfolding Admits
 admits_fits valid x a e h = let g : (valid ≡ true) × (fits x a ≡ true) × InType a = rw e at h in g.1
 
-pub admits_typed : {r : Admitted} (valid : Bool) (x : Access) (a : Answer) → r ≡ Yes → Admits valid x a r → InType a
+pub admits_typed : {r : Result (Unit {0}) Refusal} (valid : Bool) (x : Access) (a : Answer) → r ≡ Ok tt → Admits valid x a r → InType a
 unfolding Admits
 admits_typed valid x a e h = let g : (valid ≡ true) × (fits x a ≡ true) × InType a = rw e at h in g.2
 
-pub admits_no : {A : Type 0} {r : Admitted} {q : Refusal} (valid : Bool) (x : Access) (a : Answer) (k : Asked A) → r ≡ No q → Admits valid x a r
+pub admits_no : {A : Type 0} {r : Result (Unit {0}) Refusal} {q : Refusal} (valid : Bool) (x : Access) (a : Answer) (k : Asked A) → r ≡ Err q → Admits valid x a r
     → admitting valid x a k ≡ no (refusal_number q)
 unfolding Admits admitting question
 admits_no {q = q} valid x a k e h = by valid (fits x a) (rw e at h)
@@ -114,8 +111,8 @@ unfolding and_then open_lan
 family_valid device lan p (yes f) h = lan_valid device lan f p (ltb lan 2) refl h
 family_valid device lan p (no n) h = cc
 
-pub opened_valid : (family device lan : ℕ) {o : Opening} {p : Port} → o ≡ Opened p → port_opened o ≡ open_port family device lan → valid_port p ≡ true
-unfolding open_port port_opened
+pub opened_valid : (family device lan : ℕ) {o : Result Port Refusal} {p : Port} → o ≡ Ok p → opened o ≡ open_port family device lan → valid_port p ≡ true
+unfolding open_port opened
 opened_valid family device lan {p = p} e h = family_valid device lan p (open_family family) (rw e at h)
 
 -- what every call's state holds: at its opening, and with what the marks tell

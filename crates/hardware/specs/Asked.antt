@@ -1,5 +1,5 @@
 -- The questions that are put to arguments, to a state and to an answer.
-use Rattle.std.specs.Prelude.{ℕ, ◌^◌, ◌<◌, suc, zero, Bool, true, false, ◌≡◌, eqb, ltb}
+use Rattle.std.specs.Prelude.{ℕ, ◌^◌, ◌<◌, suc, zero, Bool, true, false, ◌≡◌, eqb, ltb, Result, Ok, Err}
 use Rattle.hardware.specs.declared.Family.{Family}
 use Rattle.hardware.specs.declared.Family.TheVariants.{F82599, X540, X550, X552, X553}
 use Rattle.hardware.specs.declared.Port.{Port}
@@ -7,12 +7,7 @@ use Rattle.hardware.specs.declared.Access.{Access}
 use Rattle.hardware.specs.declared.Access.TheVariants.{Read, Write, Wait}
 use Rattle.hardware.specs.declared.Answer.{Answer}
 use Rattle.hardware.specs.declared.Answer.TheVariants.{Value, Done, Failed}
-use Rattle.hardware.specs.declared.Admitted.{Admitted}
-use Rattle.hardware.specs.declared.Admitted.TheVariants.{Yes, No}
-use Rattle.hardware.specs.declared.FamilyOpening.{FamilyOpening}
-use Rattle.hardware.specs.declared.FamilyOpening.TheVariants.{Family as FamilyOpened, Refused as FamilyRefused}
-use Rattle.hardware.specs.declared.Opening.{Opening}
-use Rattle.hardware.specs.declared.Opening.TheVariants.{Port as Opened, Refused}
+use Rattle.hardware.specs.declared.Refusal.{Refusal}
 use Rattle.hardware.specs.Numbers.{refusal_number}
 
 -- refused with a number, or gone on with
@@ -58,13 +53,10 @@ open_lan device lan family = question (ltb lan 2) 2 (yes (record { family = fami
 unfoldable pub open_port : ℕ → ℕ → ℕ → Asked Port
 open_port family device lan = and_then (open_family family) (open_lan device lan)
 
-unfoldable pub family_opened : FamilyOpening → Asked Family
-family_opened (FamilyOpened f) = yes f
-family_opened (FamilyRefused q) = no (refusal_number q)
-
-unfoldable pub port_opened : Opening → Asked Port
-port_opened (Opened p) = yes p
-port_opened (Refused q) = no (refusal_number q)
+-- what an opening's result says
+unfoldable pub opened : {A : Type 0} → Result A Refusal → Asked A
+opened (Ok a) = yes a
+opened (Err q) = no (refusal_number q)
 
 -- the port of a state is one that an opening gives
 unfoldable pub valid_port : Port → Bool
@@ -93,6 +85,6 @@ InType Done = Unit {0}
 InType Failed = Unit {0}
 
 -- what the questions came to. That the answer is within its type is no question
-unfoldable pub Admits : Bool → Access → Answer → Admitted → Type 0
-Admits valid x a Yes = (valid ≡ true) × (fits x a ≡ true) × InType a
-Admits valid x a (No q) = admitting valid x a (yes (tt {0})) ≡ no (refusal_number q)
+unfoldable pub Admits : Bool → Access → Answer → Result (Unit {0}) Refusal → Type 0
+Admits valid x a (Ok u) = (valid ≡ true) × (fits x a ≡ true) × InType a
+Admits valid x a (Err q) = admitting valid x a (yes (tt {0})) ≡ no (refusal_number q)

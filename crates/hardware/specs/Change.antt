@@ -9,10 +9,10 @@ use Rattle.hardware.specs.declared.change.Bits.TheVariants.{Set, Clear, SetClear
 use Rattle.hardware.specs.declared.change.Change.{Change}
 use Rattle.hardware.specs.declared.Update.{Update}
 use Rattle.hardware.specs.declared.Update.TheVariants.{Reading, Writing, Flushing}
-use Rattle.hardware.specs.declared.UpdateNext.{UpdateNext}
-use Rattle.hardware.specs.declared.UpdateNext.TheVariants.{Going, End}
+use Rattle.hardware.specs.Aliases.{UpdateNext}
+use Rattle.hardware.specs.declared.Next.TheVariants.{Going, End}
 use Rattle.hardware.specs.Prog.{Prog, ret, ask, erase, R, Ok, or_err, ◌>>?◌}
-use Rattle.hardware.specs.Registers.{STATUS, not32, read, write, flush, checked, written, flushed, outcome}
+use Rattle.hardware.specs.Registers.{STATUS, not32, read, write, flush, checked, written, flushed, reply}
 
 unfoldable pub changed : Bits → ℕ → ℕ
 changed (Set bits) v = bit_or v bits
@@ -43,4 +43,4 @@ rest_update c Flushing a = ret (flushed a)
 
 unfoldable pub update_next : Change → UpdateNext → Prog (R (Unit {0}))
 update_next c (Going s) = ask (access_update c s) (λ a. erase (rest_update c s a))
-update_next c (End o) = ret (outcome o)
+update_next c (End o) = ret (reply o)

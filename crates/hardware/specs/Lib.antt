@@ -11,3 +11,4 @@ pub mod Runs
 pub mod Poll
 pub mod Change
 pub mod Erased
+pub mod Aliases

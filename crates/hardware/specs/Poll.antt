@@ -6,10 +6,10 @@ use Rattle.hardware.specs.declared.Answer.{Answer}
 use Rattle.hardware.specs.declared.poll.Watch.{Watch}
 use Rattle.hardware.specs.declared.poll.Poll.{Poll}
 use Rattle.hardware.specs.declared.poll.Poll.TheVariants.{Reading, Waiting}
-use Rattle.hardware.specs.declared.poll.PollNext.{PollNext}
-use Rattle.hardware.specs.declared.poll.PollNext.TheVariants.{Going, End}
+use Rattle.hardware.specs.Aliases.{PollNext}
+use Rattle.hardware.specs.declared.Next.TheVariants.{Going, End}
 use Rattle.hardware.specs.Prog.{Prog, ret, ask, erase, R, Ok, or_err, ◌>>?◌, pick}
-use Rattle.hardware.specs.Registers.{none_of, read, delay, checked, word}
+use Rattle.hardware.specs.Registers.{none_of, read, delay, checked, reply}
 
 -- what a read makes of the value; again: the rest of the loop
 unfoldable pub polled : Watch → (ℕ → Prog (R ℕ)) → ℕ → Prog (R ℕ)
@@ -31,7 +31,7 @@ rest_poll w (Waiting left last) a = poll w left last
 
 unfoldable pub poll_next : Watch → PollNext → Prog (R ℕ)
 poll_next w (Going s) = ask (access_poll w s) (λ a. erase (rest_poll w s a))
-poll_next w (End v) = ret (word v)
+poll_next w (End v) = ret (reply v)
 
 -- the reads left are fewer than the limit
 unfoldable pub valid_poll : ℕ → Poll → Bool

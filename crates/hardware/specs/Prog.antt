@@ -1,6 +1,7 @@
 -- A call on the host's registers as a value: it has ended, it asks for one access and goes on with the answer, it
 -- notes something that no register sees, or it gives a byte out.
-use Rattle.std.specs.Prelude.{ℕ, suc, max, Bool, true, false}
+use Rattle.std.specs.Prelude.{ℕ, suc, max, Bool, true, false, Result}
+pub use Rattle.std.specs.Prelude.{Ok, Err}
 use Rattle.hardware.specs.declared.Access.{Access}
 use Rattle.hardware.specs.declared.Answer.{Answer}
 use Rattle.hardware.specs.declared.Meter.{Meter}
@@ -52,10 +53,9 @@ unfoldable pub pick : {A : Type 0} → Bool → A → A → A
 pick true a b = a
 pick false a b = b
 
--- the Rust's `R<T, E>`
-pub data R (A : Type 0) : Type 0 where
-  Ok : A → R A
-  Err : Failure → R A
+-- the Rust's `R<T>`
+abbrev pub R : Type 0 → Type 0
+R A = Result A Failure
 
 -- the Rust's `?`
 unfoldable pub or_err : {A B : Type 0} → (A → Prog (R B)) → R A → Prog (R B)

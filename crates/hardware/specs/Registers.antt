@@ -1,18 +1,11 @@
 -- `read`, `write`, `flush` and the waits of the Rust's `hardware.rs`.
-use Rattle.std.specs.Prelude.{ℕ, ◌*◌, ◌-◌, ◌^◌, Bool, eqb}
+use Rattle.std.specs.Prelude.{ℕ, ◌*◌, ◌-◌, ◌^◌, Bool, Result, eqb}
 use Rattle.std.specs.Int.Bits.{bit_and}
 use Rattle.hardware.specs.declared.Access.TheVariants.{Read, Write, Wait}
 use Rattle.hardware.specs.declared.Answer.{Answer}
 use Rattle.hardware.specs.declared.Answer.TheVariants.{Value, Done, Failed}
 use Rattle.hardware.specs.declared.Micros.{Micros}
-use Rattle.hardware.specs.declared.Word.{Word}
-use Rattle.hardware.specs.declared.Word.TheVariants.{Ok as WordOk, Err as WordErr}
-use Rattle.hardware.specs.declared.Outcome.{Outcome}
-use Rattle.hardware.specs.declared.Outcome.TheVariants.{Ok as OutcomeOk, Err as OutcomeErr}
-use Rattle.hardware.specs.declared.Byte.{Byte}
-use Rattle.hardware.specs.declared.Byte.TheVariants.{Ok as ByteOk, Err as ByteErr}
-use Rattle.hardware.specs.declared.Flag.{Flag}
-use Rattle.hardware.specs.declared.Flag.TheVariants.{Ok as FlagOk, Err as FlagErr}
+use Rattle.hardware.specs.declared.Error.{Error}
 use Rattle.hardware.specs.Failures.{Io, Removed, failure_of}
 use Rattle.hardware.specs.Prog.{Prog, ret, ask, R, Ok, Err, pick}
 
@@ -74,19 +67,7 @@ delay us = ask (Wait (micros us)) (λ a. ret (Ok tt))
 abbrev pub delay_ms : ℕ → Prog (R (Unit {0}))
 delay_ms ms = delay (ms * 1000)
 
--- the enums that stand for the Rust's `R<u32>`, `R<()>`, `R<u8>` and `R<bool>`
-unfoldable pub word : Word → R ℕ
-word (WordOk v) = Ok v
-word (WordErr e) = Err (failure_of e)
-
-unfoldable pub outcome : Outcome → R (Unit {0})
-outcome OutcomeOk = Ok tt
-outcome (OutcomeErr e) = Err (failure_of e)
-
-unfoldable pub byte : Byte → R ℕ
-byte (ByteOk b) = Ok b
-byte (ByteErr e) = Err (failure_of e)
-
-unfoldable pub flag : Flag → R Bool
-flag (FlagOk b) = Ok b
-flag (FlagErr e) = Err (failure_of e)
+-- what the code's result tells, its failure by number and values
+unfoldable pub reply : {A : Type 0} → Result A Error → R A
+reply (Ok v) = Ok v
+reply (Err e) = Err (failure_of e)

@@ -1,10 +1,12 @@
 // A register is read, some of its bits changed, and written back; a flush may follow.
+#![tactic(auto, using(crate::proofs::Prog::fed), unfolding(crate::specs::Change::changed, crate::specs::Change::access_update, crate::specs::Registers::reply, crate::specs::Prog::or_err, crate::specs::Change::stored, crate::specs::Prog::erase, crate::specs::Change::update_next, crate::specs::Change::rest_update, crate::specs::Change::settled))]
+
 ghost use Rattle.std.specs.Prelude.{◌≡◌};
 ghost use Rattle.hardware.specs.Prog.{erase, or_err};
-ghost use Rattle.hardware.specs.Registers.{word, outcome};
+ghost use Rattle.hardware.specs.Registers.{reply};
 ghost use Rattle.hardware.specs.Change.{changed, stored, settled, access_update, rest_update, update_next};
 
-use crate::{Access, Answer, Outcome, Update, UpdateNext, Word};
+use crate::{Access, Answer, Next, R, Update, UpdateNext};
 
 #[derive(Clone, Copy)]
 pub enum Bits {
@@ -20,7 +22,6 @@ pub struct Change {
     pub flushed: bool,
 }
 
-#[tactic(auto, unfolding(crate::specs::Change::changed))]
 pub fn apply(bits: Bits, v: u32) -> u32
     ensures { result ≡ changed bits v }
 {
@@ -31,7 +32,6 @@ pub fn apply(bits: Bits, v: u32) -> u32
     }
 }
 
-#[tactic(auto, unfolding(crate::specs::Change::access_update))]
 pub fn access(c: Change, s: Update) -> Access
     ensures { result ≡ access_update c s }
 {
@@ -42,41 +42,38 @@ pub fn access(c: Change, s: Update) -> Access
     }
 }
 
-#[tactic(auto, unfolding(crate::specs::Registers::word, crate::specs::Prog::or_err, crate::specs::Change::stored, crate::specs::Prog::erase, crate::specs::Change::update_next, crate::specs::Change::access_update, crate::specs::Change::rest_update, crate::specs::Registers::outcome))]
-fn seen(c: Change, w: Word) -> UpdateNext
-    ensures { update_next c result ≡ erase (or_err (stored c) (word w)) }
+fn seen(c: Change, w: R<u32>) -> UpdateNext
+    ensures { update_next c result ≡ erase (or_err (stored c) (reply w)) }
 {
     match w {
-        Word::Ok(v) => {
+        Ok(v) => {
             let bits = c.bits;
-            UpdateNext::Going(Update::Writing(apply(bits, v)))
+            Next::Going(Update::Writing(apply(bits, v)))
         }
-        Word::Err(e) => UpdateNext::End(Outcome::Err(e)),
+        Err(e) => Next::End(Err(e)),
     }
 }
 
-#[tactic(auto, unfolding(crate::specs::Prog::erase, crate::specs::Prog::or_err, crate::specs::Registers::outcome, crate::specs::Change::settled, crate::specs::Change::update_next, crate::specs::Change::access_update, crate::specs::Change::rest_update))]
-fn settle(c: Change, o: Outcome) -> UpdateNext
-    ensures { update_next c result ≡ erase (or_err (λ _. settled c.flushed) (outcome o)) }
+fn settle(c: Change, o: R<()>) -> UpdateNext
+    ensures { update_next c result ≡ erase (or_err (λ _. settled c.flushed) (reply o)) }
 {
     match o {
-        Outcome::Ok => {
+        Ok(()) => {
             if c.flushed {
-                return UpdateNext::Going(Update::Flushing);
+                return Next::Going(Update::Flushing);
             }
-            UpdateNext::End(Outcome::Ok)
+            Next::End(Ok(()))
         }
-        Outcome::Err(e) => UpdateNext::End(Outcome::Err(e)),
+        Err(e) => Next::End(Err(e)),
     }
 }
 
-#[tactic(auto, using(crate::proofs::Prog::fed), unfolding(crate::specs::Change::rest_update, crate::specs::Prog::erase, crate::specs::Change::update_next))]
 pub fn step(c: Change, s: Update, a: Answer) -> UpdateNext
     ensures { update_next c result ≡ erase (rest_update c s a) }
 {
     match s {
         Update::Reading => seen(c, crate::read(a)),
         Update::Writing(_) => settle(c, crate::write(a)),
-        Update::Flushing => UpdateNext::End(crate::flush(a)),
+        Update::Flushing => Next::End(crate::flush(a)),
     }
 }

@@ -1,26 +1,50 @@
 // The host's registers and a port of the card. The host makes each access that a call names and hands back the answer.
-#![tactic(auto)]
+#![tactic(auto, using(crate::proofs::Laws::two_values, crate::proofs::Laws::one_value, crate::proofs::Typed::answer_typed), unfolding(crate::specs::Asked::is, crate::specs::Marks::count_of, crate::specs::Marks::more, crate::specs::Prog::pick, crate::specs::Marks::meter_on, crate::specs::Asked::open_family, crate::specs::Asked::question, crate::specs::Asked::family_numbered, crate::specs::Asked::opened, crate::specs::Asked::open_lan, crate::specs::Asked::open_port, crate::specs::Asked::and_then, crate::specs::Asked::valid_port, crate::specs::Marks::valid_held, crate::specs::Asked::fits, crate::specs::Asked::Admits, crate::specs::Asked::admitting, crate::specs::Registers::none_of, crate::specs::Registers::checked, crate::specs::Registers::reply, crate::specs::Failures::failure_of, crate::specs::Registers::raw, crate::specs::Registers::written, crate::specs::Registers::flushed))]
 
 ghost use Rattle.std.specs.Prelude.{◌≡◌, ◌*◌, ◌-◌, max, [], ◌∷◌, get_or};
 ghost use Rattle.hardware.specs.Marks.{count_of, hears, meter_on, valid_held};
 ghost use Rattle.hardware.specs.Numbers.{refusal_number, error_number, error_values};
-ghost use Rattle.hardware.specs.Asked.{family_number, is, open_family, family_opened, open_port, open_lan, port_opened, valid_port, fits, Admits};
-ghost use Rattle.hardware.specs.Registers.{none_of, checked, raw, written, flushed, word, outcome};
+ghost use Rattle.hardware.specs.Asked.{family_number, is, open_family, opened, open_port, open_lan, valid_port, fits, Admits};
+ghost use Rattle.hardware.specs.Registers.{none_of, checked, raw, written, flushed, reply};
 
 pub mod change;
 pub mod poll;
+
+use std::fmt;
 
 pub const STATUS: u32 = 0x0_0008;
 
 pub const ESDP: u32 = 0x0_0020;
 
-#[derive(Clone, Copy)]
+#[derive(Clone, Copy, PartialEq, Eq)]
 pub enum Family {
     F82599,
     X540,
     X550,
     X552,
     X553,
+}
+
+impl Family {
+    // `==`, as the contracts say it.
+    pub fn is(self, other: Family) -> bool
+        ensures { result ≡ is self other }
+    {
+        self == other
+    }
+}
+
+// The name, padded as the format says.
+impl fmt::Display for Family {
+    fn fmt<W: fmt::Write>(&self, f: &mut fmt::Formatter<W>) -> fmt::Result {
+        f.pad(match self {
+            Family::F82599 => "82599",
+            Family::X540 => "X540",
+            Family::X550 => "X550",
+            Family::X552 => "X552",
+            Family::X553 => "X553",
+        })
+    }
 }
 
 // A function of the card: its family, PCI device ID and port number.
@@ -46,6 +70,7 @@ pub enum Access {
     Wait(Micros),
 }
 
+// What the host saw. No `Result`: a failed access is an answer like the others, and each call says what it makes of it.
 #[derive(Clone, Copy)]
 pub enum Answer {
     Value(u32),
@@ -118,32 +143,21 @@ pub const BEGUN: Meter = Meter {
     slowest: 0,
 };
 
-// The Rust's `R<u32>`.
+// The Rust's `R<T>`.
+pub type R<T> = Result<T, Error>;
+
+// What follows an answer. Going: with the state that awaits the next one. End: with the result.
 #[derive(Clone, Copy)]
-pub enum Word {
-    Ok(u32),
-    Err(Error),
+pub enum Next<S, T> {
+    Going(S),
+    End(T),
 }
 
-// The Rust's `R<()>`.
+// What a call that was not refused says. Ask: for an access, with the state that awaits its answer. End: with the result.
 #[derive(Clone, Copy)]
-pub enum Outcome {
-    Ok,
-    Err(Error),
-}
-
-// The Rust's `R<u8>`.
-#[derive(Clone, Copy)]
-pub enum Byte {
-    Ok(u8),
-    Err(Error),
-}
-
-// The Rust's `R<bool>`.
-#[derive(Clone, Copy)]
-pub enum Flag {
-    Ok(bool),
-    Err(Error),
+pub enum Told<C, T> {
+    Ask(Access, C),
+    End(T),
 }
 
 // The state of a change to a register (`change`). Writing: with the value that is written.
@@ -154,30 +168,7 @@ pub enum Update {
     Flushing,
 }
 
-#[derive(Clone, Copy)]
-pub enum UpdateNext {
-    Going(Update),
-    End(Outcome),
-}
-
-// What the questions about a step come to.
-#[derive(Clone, Copy)]
-pub enum Admitted {
-    Yes,
-    No(Refusal),
-}
-
-#[derive(Clone, Copy)]
-pub enum FamilyOpening {
-    Family(Family),
-    Refused(Refusal),
-}
-
-#[derive(Clone, Copy)]
-pub enum Opening {
-    Port(Port),
-    Refused(Refusal),
-}
+pub type UpdateNext = Next<Update, R<()>>;
 
 // A byte was acknowledged, with so many samples left.
 pub fn hears(left: u8) -> Marks
@@ -190,7 +181,6 @@ pub fn hears(left: u8) -> Marks
 }
 
 // A count that goes up by one where begins says so; at the top of its type it stays.
-#[tactic(auto, unfolding(crate::specs::Marks::count_of, crate::specs::Marks::more, crate::specs::Prog::pick))]
 fn count(begins: bool, n: u32) -> u32
     ensures { result ≡ count_of begins n }
 {
@@ -215,7 +205,6 @@ fn slower(left: u8, n: u8) -> u8
 }
 
 // The meter after the marks.
-#[tactic(auto, unfolding(crate::specs::Marks::meter_on))]
 pub fn meter_on(k: Marks, m: Meter) -> Meter
     ensures { result ≡ meter_on k m }
 {
@@ -258,7 +247,6 @@ pub fn error_number(e: Error) -> u8
 }
 
 // The value at place `which` of those that go with the number, 0 past their end.
-#[tactic(auto, using(crate::proofs::Laws::two_values))]
 pub fn error_value(e: Error, which: u8) -> u32
     ensures { result ≡ get_or (error_values e) which 0 }
 {
@@ -278,7 +266,6 @@ pub fn error_value(e: Error, which: u8) -> u32
     }
 }
 
-#[tactic(auto, using(crate::proofs::Laws::one_value))]
 fn first(which: u8, v: u32) -> u32
     ensures { result ≡ get_or (v ∷ []) which 0 }
 {
@@ -297,57 +284,43 @@ pub fn family_number(f: Family) -> u8
     }
 }
 
-// Whether the two are one family.
-#[tactic(auto, unfolding(crate::specs::Asked::is))]
-pub fn same(f: Family, g: Family) -> bool
-    ensures { result ≡ is f g }
-{
-    family_number(f) == family_number(g)
-}
-
 // Question 1.
-#[tactic(auto, unfolding(crate::specs::Asked::open_family, crate::specs::Asked::question, crate::specs::Asked::family_numbered, crate::specs::Asked::family_opened))]
-pub fn open_family(family: u32) -> FamilyOpening
-    ensures { family_opened result ≡ open_family family }
+pub fn open_family(family: u32) -> Result<Family, Refusal>
+    ensures { opened result ≡ open_family family }
 {
     match family {
-        0 => FamilyOpening::Family(Family::F82599),
-        1 => FamilyOpening::Family(Family::X540),
-        2 => FamilyOpening::Family(Family::X550),
-        3 => FamilyOpening::Family(Family::X552),
-        4 => FamilyOpening::Family(Family::X553),
-        _ => FamilyOpening::Refused(Refusal::Family),
+        0 => Ok(Family::F82599),
+        1 => Ok(Family::X540),
+        2 => Ok(Family::X550),
+        3 => Ok(Family::X552),
+        4 => Ok(Family::X553),
+        _ => Err(Refusal::Family),
     }
 }
 
 // Question 2.
-#[tactic(auto, unfolding(crate::specs::Asked::open_lan, crate::specs::Asked::question, crate::specs::Asked::port_opened))]
-fn open_lan(family: Family, device: u16, lan: u32) -> Opening
-    ensures { port_opened result ≡ open_lan device lan family }
+fn open_lan(family: Family, device: u16, lan: u32) -> Result<Port, Refusal>
+    ensures { opened result ≡ open_lan device lan family }
 {
     if 2 <= lan {
-        return Opening::Refused(Refusal::Lan);
+        return Err(Refusal::Lan);
     }
-    Opening::Port(Port {
+    Ok(Port {
         family,
         device,
         lan: lan as u8,
     })
 }
 
-// Questions 1 and 2.
-#[tactic(auto, unfolding(crate::specs::Asked::open_port, crate::specs::Asked::and_then, crate::specs::Asked::family_opened, crate::specs::Asked::port_opened))]
-pub fn open_port(family: u32, device: u16, lan: u32) -> Opening
-    ensures { port_opened result ≡ open_port family device lan }
+// Questions 1 and 2. The family, the PCI device and the port number are apart, as numbers: so they cross the C interface.
+pub fn open_port(family: u32, device: u16, lan: u32) -> Result<Port, Refusal>
+    ensures { opened result ≡ open_port family device lan }
 {
-    match open_family(family) {
-        FamilyOpening::Family(f) => open_lan(f, device, lan),
-        FamilyOpening::Refused(q) => Opening::Refused(q),
-    }
+    let family = open_family(family)?;
+    open_lan(family, device, lan)
 }
 
 // A state's port is one that an opening gives.
-#[tactic(auto, unfolding(crate::specs::Asked::valid_port))]
 pub fn valid_port(p: Port) -> bool
     ensures { result ≡ valid_port p }
 {
@@ -355,7 +328,6 @@ pub fn valid_port(p: Port) -> bool
 }
 
 // What every call's state holds: a port that an opening gives, and a meter whose sample is one of ten, or none.
-#[tactic(auto, unfolding(crate::specs::Marks::valid_held, crate::specs::Prog::pick))]
 pub fn valid_held(port: Port, m: Meter) -> bool
     ensures { result ≡ valid_held port m }
 {
@@ -366,7 +338,6 @@ pub fn valid_held(port: Port, m: Meter) -> bool
 }
 
 // Question 12: a read is answered by a value or a failure, a write by done or a failure, a wait by done.
-#[tactic(auto, unfolding(crate::specs::Asked::fits))]
 pub fn awaited(x: Access, a: Answer) -> bool
     ensures { result ≡ fits x a }
 {
@@ -390,21 +361,19 @@ pub fn awaited(x: Access, a: Answer) -> bool
 }
 
 // Questions 10 and 12 of a step: whether its state is within its limits, and the answer of the kind that x awaits.
-#[tactic(auto, using(crate::proofs::Typed::answer_typed), unfolding(crate::specs::Asked::Admits, crate::specs::Asked::admitting, crate::specs::Asked::question))]
-pub fn admit(valid: bool, x: Access, a: Answer) -> Admitted
+pub fn admit(valid: bool, x: Access, a: Answer) -> Result<(), Refusal>
     ensures { Admits valid x a result }
 {
     if valid {
         if awaited(x, a) {
-            return Admitted::Yes;
+            return Ok(());
         }
-        return Admitted::No(Refusal::Kind);
+        return Err(Refusal::Kind);
     }
-    Admitted::No(Refusal::State)
+    Err(Refusal::State)
 }
 
 // Whether v has none of the bits set.
-#[tactic(auto, unfolding(crate::specs::Registers::none_of))]
 pub fn none_of(v: u32, bits: u32) -> bool
     ensures { result ≡ none_of v bits }
 {
@@ -412,54 +381,50 @@ pub fn none_of(v: u32, bits: u32) -> bool
 }
 
 // What the Rust's `read` makes of the answer: FFFFFFFF is Removed.
-#[tactic(auto, unfolding(crate::specs::Prog::pick, crate::specs::Registers::checked, crate::specs::Registers::word, crate::specs::Failures::failure_of))]
-pub fn read(a: Answer) -> Word
-    ensures { word result ≡ checked a }
+pub fn read(a: Answer) -> R<u32>
+    ensures { reply result ≡ checked a }
 {
     match a {
         Answer::Value(v) => {
             if v == 0xFFFF_FFFF {
-                return Word::Err(Error::Removed);
+                return Err(Error::Removed);
             }
-            Word::Ok(v)
+            Ok(v)
         }
-        Answer::Done => Word::Err(Error::Io),
-        Answer::Failed => Word::Err(Error::Io),
+        Answer::Done => Err(Error::Io),
+        Answer::Failed => Err(Error::Io),
     }
 }
 
 // A register that is read raw: every value counts.
-#[tactic(auto, unfolding(crate::specs::Registers::raw, crate::specs::Registers::word, crate::specs::Failures::failure_of))]
-pub fn read_raw(a: Answer) -> Word
-    ensures { word result ≡ raw a }
+pub fn read_raw(a: Answer) -> R<u32>
+    ensures { reply result ≡ raw a }
 {
     match a {
-        Answer::Value(v) => Word::Ok(v),
-        Answer::Done => Word::Err(Error::Io),
-        Answer::Failed => Word::Err(Error::Io),
+        Answer::Value(v) => Ok(v),
+        Answer::Done => Err(Error::Io),
+        Answer::Failed => Err(Error::Io),
     }
 }
 
-#[tactic(auto, unfolding(crate::specs::Registers::written, crate::specs::Registers::outcome, crate::specs::Failures::failure_of))]
-pub fn write(a: Answer) -> Outcome
-    ensures { outcome result ≡ written a }
+pub fn write(a: Answer) -> R<()>
+    ensures { reply result ≡ written a }
 {
     match a {
-        Answer::Value(_) => Outcome::Err(Error::Io),
-        Answer::Done => Outcome::Ok,
-        Answer::Failed => Outcome::Err(Error::Io),
+        Answer::Value(_) => Err(Error::Io),
+        Answer::Done => Ok(()),
+        Answer::Failed => Err(Error::Io),
     }
 }
 
 // The raw read of STATUS that brings a write to the device.
-#[tactic(auto, unfolding(crate::specs::Registers::flushed, crate::specs::Registers::outcome, crate::specs::Failures::failure_of))]
-pub fn flush(a: Answer) -> Outcome
-    ensures { outcome result ≡ flushed a }
+pub fn flush(a: Answer) -> R<()>
+    ensures { reply result ≡ flushed a }
 {
     match a {
-        Answer::Value(_) => Outcome::Ok,
-        Answer::Done => Outcome::Err(Error::Io),
-        Answer::Failed => Outcome::Err(Error::Io),
+        Answer::Value(_) => Ok(()),
+        Answer::Done => Err(Error::Io),
+        Answer::Failed => Err(Error::Io),
     }
 }
 

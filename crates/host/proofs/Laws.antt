@@ -9,15 +9,9 @@ use Rattle.hardware.specs.declared.Access.{Access}
 use Rattle.hardware.specs.Marks.{valid_held}
 use Rattle.bus.proofs.Laws.{picked_first, picked_second}
 use Rattle.bus.specs.declared.job.Job.{Job}
-use Rattle.i2c.specs.declared.calls.TransferCall.TheVariants.{Going as TransferGoing}
-use Rattle.i2c.specs.declared.calls.TransferTold.TheVariants.{Ask as TransferAsk}
 use Rattle.i2c.specs.Direct.{carrying, RequestMoves}
 use Rattle.i2c.proofs.Moves.{transfer_on}
-use Rattle.identify.specs.declared.calls.IdentifyCall.TheVariants.{Going as IdentifyGoing}
-use Rattle.identify.specs.declared.calls.IdentifyTold.TheVariants.{Ask as IdentifyAsk}
 use Rattle.identify.proofs.Moves.{identify_on}
-use Rattle.softrate.specs.declared.calls.RateCall.TheVariants.{Going as RateGoing}
-use Rattle.softrate.specs.declared.calls.RateTold.TheVariants.{Ask as RateAsk}
 use Rattle.softrate.proofs.Moves.{rate_on}
 use Rattle.flat.specs.declared.State.{State}
 use Rattle.flat.specs.declared.of_i2c.HandshakeFlat.{HandshakeFlat}
@@ -32,6 +26,8 @@ use Rattle.host.specs.declared.direct.Terms.{Terms}
 use Rattle.host.specs.Direct.{carrying_in, shape, port_in, meter_in, taken_in, request_in, place_in, spot_in, with_job, moved_block, TransferTerms, IdentifyTerms, RateTerms, TermsOf}
 use Rattle.host.specs.Shown.{Shows, ShownIdentify, ShownRate, ShownTransfer}
 use Rattle.host.specs.Step.{choose, Stepped, SteppedAs, SteppedTransfer, SteppedIdentify, SteppedRate}
+use Rattle.hardware.specs.declared.Told.TheVariants.{Ask}
+use Rattle.std.specs.Prelude.{Ok, Some}
 
 -- the numbers of a request that carries out a command
 in_request : (g : HandshakeFlat) → g.tag ≡ 3 → g.b1 ≡ 1 → g.b2 ≡ 1
@@ -61,15 +57,15 @@ with_tags : (s : State) (j : Job) → Tags s → Tags (with_job s j)
 unfolding with_job
 with_tags s j t = record { call = t.call; request = t.request; stage = t.stage; attempt = t.attempt }
 
-in_identify : (s : State) → Tags s → the_identify_call s ≡ IdentifyGoing (port_in s) (the_sequence s.b23) (meter_in s) (record { place = place_in s; request = carrying_in s })
+in_identify : (s : State) → Tags s → the_identify_call s ≡ Some ((port_in s), (the_sequence s.b23), (meter_in s), (record { place = place_in s; request = carrying_in s }))
 unfolding the_identify_call the_identify
 in_identify s t = rw (t.call, in_request (record { tag = s.b1; b1 = s.b2; b2 = s.b3; b3 = s.b4; b4 = s.b5; b5 = s.b6; b6 = s.b7; b7 = s.b8; b8 = s.b9; b9 = s.b10; b10 = s.b11; b11 = s.b12; b12 = s.b13; b13 = s.b14; h0 = s.h0; w0 = s.w0; w1 = s.w1; w2 = s.w2; z0 = s.z0 }) t.request t.stage t.attempt)
 
-in_transfer : (s : State) → Tags s → the_transfer_call s ≡ TransferGoing (port_in s) (request_in s) (the_how (record { b0 = s.b22; b1 = s.b23 })) (meter_in s) (carrying_in s)
+in_transfer : (s : State) → Tags s → the_transfer_call s ≡ Some ((port_in s), (request_in s), (the_how (record { b0 = s.b22; b1 = s.b23 })), (meter_in s), (carrying_in s))
 unfolding the_transfer_call
 in_transfer s t = rw (t.call, in_request (record { tag = s.b1; b1 = s.b2; b2 = s.b3; b3 = s.b4; b4 = s.b5; b5 = s.b6; b6 = s.b7; b7 = s.b8; b8 = s.b9; b9 = s.b10; b10 = s.b11; b11 = s.b12; b12 = s.b13; b13 = s.b14; h0 = s.h0; w0 = s.w0; w1 = s.w1; w2 = s.w2; z0 = s.z0 }) t.request t.stage t.attempt)
 
-in_rate : (s : State) → Tags s → the_rate_call s ≡ RateGoing (port_in s) (the_sequence s.b22) (set s.b23) (meter_in s) (record { spot = spot_in s; request = carrying_in s })
+in_rate : (s : State) → Tags s → the_rate_call s ≡ Some ((port_in s), (the_sequence s.b22), (set s.b23), (meter_in s), (record { spot = spot_in s; request = carrying_in s }))
 unfolding the_rate_call the_rate
 in_rate s t = rw (t.call, in_request (record { tag = s.b1; b1 = s.b2; b2 = s.b3; b3 = s.b4; b4 = s.b5; b5 = s.b6; b6 = s.b7; b7 = s.b8; b8 = s.b9; b9 = s.b10; b10 = s.b11; b11 = s.b12; b12 = s.b13; b13 = s.b14; h0 = s.h0; w0 = s.w0; w1 = s.w1; w2 = s.w2; z0 = s.z0 }) t.request t.stage t.attempt)
 
@@ -87,12 +83,12 @@ module _ (s : State) (a : Answer) (x : Access) (next : Job) (t : Terms) (h : sha
   transfer_moves call e =
       let how = the_how (record { b0 = s.b22; b1 = s.b23 }) in
       let k = transfer_on (port_in s) (request_in s) how (meter_in s) (carrying_in s) (carrying s.b14 s.z0 (taken_in s) next) a x (sym e.held ∙ ok) (rw (e.request, e.tries, e.cap) at d) in (
-        TransferAsk x (TransferGoing (port_in s) (request_in s) how (meter_in s) (carrying s.b14 s.z0 (taken_in s) next)),
+        Ok (Ask x (Some ((port_in s), (request_in s), how, (meter_in s), (carrying s.b14 s.z0 (taken_in s) next)))),
         record { yields = rw (in_transfer s (tags s h)) k.yields; limits = k.limits },
         record {
           shows = refl;
           of = call;
-          state = in_transfer (with_job s next) (with_tags s next (tags s h)) ∙ ap (λ j. TransferGoing (port_in s) (request_in s) how (meter_in s) (carrying s.b14 s.z0 (taken_in s) j)) (back_job next);
+          state = in_transfer (with_job s next) (with_tags s next (tags s h)) ∙ ap (λ j. Some ((port_in s), (request_in s), how, (meter_in s), (carrying s.b14 s.z0 (taken_in s) j))) (back_job next);
         },
       )
 
@@ -101,12 +97,12 @@ module _ (s : State) (a : Answer) (x : Access) (next : Job) (t : Terms) (h : sha
   identify_moves call e =
       let q = the_sequence s.b23 in
       let k = identify_on (port_in s) q (meter_in s) (place_in s) (carrying_in s) (carrying s.b14 s.z0 (taken_in s) next) a x held (sym e.held ∙ ok) (rw (e.request, e.tries, e.cap) at d) in (
-        IdentifyAsk x (IdentifyGoing (port_in s) q (meter_in s) (record { place = place_in s; request = carrying s.b14 s.z0 (taken_in s) next })),
+        Ok (Ask x (Some ((port_in s), q, (meter_in s), (record { place = place_in s; request = carrying s.b14 s.z0 (taken_in s) next })))),
         record { yields = rw (in_identify s (tags s h)) k.yields; limits = k.limits },
         record {
           shows = refl;
           of = call;
-          state = in_identify (with_job s next) (with_tags s next (tags s h)) ∙ ap (λ j. IdentifyGoing (port_in s) q (meter_in s) (record { place = place_in s; request = carrying s.b14 s.z0 (taken_in s) j })) (back_job next);
+          state = in_identify (with_job s next) (with_tags s next (tags s h)) ∙ ap (λ j. Some ((port_in s), q, (meter_in s), (record { place = place_in s; request = carrying s.b14 s.z0 (taken_in s) j }))) (back_job next);
         },
       )
 
@@ -115,12 +111,12 @@ module _ (s : State) (a : Answer) (x : Access) (next : Job) (t : Terms) (h : sha
   rate_moves call e =
       let q = the_sequence s.b22 in
       let k = rate_on (port_in s) q (set s.b23) (meter_in s) (spot_in s) (carrying_in s) (carrying s.b14 s.z0 (taken_in s) next) a x held (sym e.held ∙ ok) (rw (e.request, e.tries, e.cap) at d) in (
-        RateAsk x (RateGoing (port_in s) q (set s.b23) (meter_in s) (record { spot = spot_in s; request = carrying s.b14 s.z0 (taken_in s) next })),
+        Ok (Ask x (Some ((port_in s), q, (set s.b23), (meter_in s), (record { spot = spot_in s; request = carrying s.b14 s.z0 (taken_in s) next })))),
         record { yields = rw (in_rate s (tags s h)) k.yields; limits = k.limits },
         record {
           shows = refl;
           of = call;
-          state = in_rate (with_job s next) (with_tags s next (tags s h)) ∙ ap (λ j. RateGoing (port_in s) q (set s.b23) (meter_in s) (record { spot = spot_in s; request = carrying s.b14 s.z0 (taken_in s) j })) (back_job next);
+          state = in_rate (with_job s next) (with_tags s next (tags s h)) ∙ ap (λ j. Some ((port_in s), q, (set s.b23), (meter_in s), (record { spot = spot_in s; request = carrying s.b14 s.z0 (taken_in s) j }))) (back_job next);
         },
       )
 

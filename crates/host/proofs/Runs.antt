@@ -14,67 +14,22 @@ use Rattle.hardware.specs.declared.Access.{Access}
 use Rattle.hardware.specs.declared.Access.TheVariants.{Read, Write, Wait}
 use Rattle.hardware.specs.declared.Answer.{Answer}
 use Rattle.hardware.specs.declared.Answer.TheVariants.{Value, Done, Failed}
-use Rattle.hardware.specs.declared.Flag.{Flag}
-use Rattle.hardware.specs.declared.Flag.TheVariants.{Ok as FlagOk, Err as FlagErr}
 use Rattle.hardware.specs.declared.Meter.{Meter}
-use Rattle.hardware.specs.declared.Outcome.{Outcome}
-use Rattle.hardware.specs.declared.Outcome.TheVariants.{Ok as OutcomeOk, Err as OutcomeErr}
 use Rattle.hardware.specs.declared.Port.{Port}
-use Rattle.hardware.specs.declared.Word.{Word}
-use Rattle.hardware.specs.declared.Word.TheVariants.{Ok as WordOk, Err as WordErr}
 use Rattle.hardware.specs.Asked.{and_then, Asked, fits, InType, no, open_port, question, yes}
 use Rattle.hardware.specs.Failures.{failure_of}
 use Rattle.hardware.specs.Prog.{Prog, R, Ok, Err, Counted, ret, ask, note, give, blank, erase}
 use Rattle.hardware.specs.Promise.{Bounds, Keeps}
-use Rattle.hardware.specs.Registers.{byte, flag, outcome, word}
+use Rattle.hardware.specs.Registers.{reply}
 use Rattle.hardware.specs.Runs.{Status, Exchange, AllKept, Asks, Awaited, AwaitedIn, ended, IfYes, Lasts, last_told, left_after, left_asked_after, on_answer, Refuses, run, run_asked, Unrefused, waiting}
 use Rattle.hardware.proofs.Laws.{StepsOn}
 use Rattle.hardware.proofs.Longest.{Accepts}
 use Rattle.hardware.proofs.Ends.{update_after}
-use Rattle.i2c.specs.declared.calls.TransferCall.TheVariants.{Going as TransferGoing, Over as TransferOver}
-use Rattle.i2c.specs.declared.calls.TransferTold.{TransferTold}
-use Rattle.i2c.specs.declared.calls.TransferTold.TheVariants.{Ask as TransferAsk, End as TransferEnd, Refused as TransferRefused}
-use Rattle.i2c.specs.declared.calls.SetupCall.TheVariants.{Going as SetupGoing, Over as SetupOver}
-use Rattle.i2c.specs.declared.calls.SetupTold.{SetupTold}
-use Rattle.i2c.specs.declared.calls.SetupTold.TheVariants.{Ask as SetupAsk, End as SetupEnd, Refused as SetupRefused}
-use Rattle.identify.specs.declared.calls.IdentifyCall.TheVariants.{Going as IdentifyGoing, Over as IdentifyOver}
-use Rattle.identify.specs.declared.calls.IdentifyTold.{IdentifyTold}
-use Rattle.identify.specs.declared.calls.IdentifyTold.TheVariants.{Ask as IdentifyAsk, End as IdentifyEnd, Refused as IdentifyRefused}
-use Rattle.softrate.specs.declared.calls.RateCall.TheVariants.{Going as RateGoing, Over as RateOver}
-use Rattle.softrate.specs.declared.calls.RateTold.{RateTold}
-use Rattle.softrate.specs.declared.calls.RateTold.TheVariants.{Ask as RateAsk, End as RateEnd, Refused as RateRefused}
-use Rattle.light.specs.declared.calls.LightCall.TheVariants.{Going as LightGoing, Over as LightOver}
-use Rattle.light.specs.declared.calls.LightTold.{LightTold}
-use Rattle.light.specs.declared.calls.LightTold.TheVariants.{Ask as LightAsk, End as LightEnd, Refused as LightRefused}
-use Rattle.acquire.specs.declared.calls.AcquireCall.TheVariants.{Going as AcquireGoing, Over as AcquireOver}
-use Rattle.acquire.specs.declared.calls.AcquireTold.{AcquireTold}
-use Rattle.acquire.specs.declared.calls.AcquireTold.TheVariants.{Ask as AcquireAsk, End as AcquireEnd, Refused as AcquireRefused}
-use Rattle.acquire.specs.declared.calls.ReleaseCall.TheVariants.{Going as ReleaseGoing, Over as ReleaseOver}
-use Rattle.acquire.specs.declared.calls.ReleaseTold.{ReleaseTold}
-use Rattle.acquire.specs.declared.calls.ReleaseTold.TheVariants.{Ask as ReleaseAsk, End as ReleaseEnd, Refused as ReleaseRefused}
-use Rattle.hostif.specs.declared.calls.TokenCall.TheVariants.{Going as TokenGoing, Over as TokenOver}
-use Rattle.hostif.specs.declared.calls.TokenTold.{TokenTold}
-use Rattle.hostif.specs.declared.calls.TokenTold.TheVariants.{Ask as TokenAsk, End as TokenEnd, Refused as TokenRefused}
 use Rattle.hardware.specs.Lent.{asked, Lent, lent}
-use Rattle.hardware.specs.declared.Byte.{Byte}
-use Rattle.hardware.specs.declared.Byte.TheVariants.{Ok as ByteOk, Err as ByteErr}
-use Rattle.hostif.specs.declared.calls.CommandCall.TheVariants.{Going as CommandGoing, Over as CommandOver}
-use Rattle.hostif.specs.declared.calls.CommandTold.{CommandTold}
-use Rattle.hostif.specs.declared.calls.CommandTold.TheVariants.{Ask as CommandAsk, End as CommandEnd, Refused as CommandRefused}
 use Rattle.script.specs.Script.{judged}
-use Rattle.transfer.specs.declared.calls.ScriptCall.{ScriptCall}
-use Rattle.transfer.specs.declared.calls.ScriptCall.TheVariants.{Going as ScriptGoing, Over as ScriptOver}
-use Rattle.transfer.specs.declared.calls.ScriptTold.{ScriptTold}
-use Rattle.transfer.specs.declared.calls.ScriptTold.TheVariants.{Ask as ScriptAsk, End as ScriptEnd, Read as ScriptRead, Refused as ScriptRefused}
 use Rattle.transfer.specs.Calls.{follows_script, judged_then, open_script, said_script, stands_script, step_script}
 use Rattle.transfer.specs.Left.{call_left, script_left}
 use Rattle.transfer.proofs.Runs.{script_steps_on}
-use Rattle.page.specs.declared.calls.PageCall.{PageCall}
-use Rattle.page.specs.declared.calls.PageCall.TheVariants.{Going as PageGoing, Over as PageOver}
-use Rattle.page.specs.declared.calls.PageTold.{PageTold}
-use Rattle.page.specs.declared.calls.PageTold.TheVariants.{Ask as PageAsk, End as PageEnd, Refused as PageRefused}
-use Rattle.page.specs.declared.sums.Paged.{Paged}
-use Rattle.page.specs.declared.sums.Paged.TheVariants.{Ok as PagedOk, FirstSum, SecondSum, Err as PagedErr}
 use Rattle.page.specs.declared.walk.Form.{Form}
 use Rattle.page.specs.declared.walk.Form.TheVariants.{Sff8472, Sff8636}
 use Rattle.page.specs.Page.{Filled, paged_of as result_in}
@@ -87,16 +42,11 @@ use Rattle.i2c.specs.Calls.{follows_setup, follows_transfer, said_setup, said_tr
 use Rattle.i2c.proofs.Ends.{handshake_after}
 use Rattle.i2c.proofs.Runs.{setup_lasts, setup_steps_on, transfer_lasts, transfer_steps_on}
 use Rattle.sfp.specs.declared.Identity.{Identity}
-use Rattle.identify.specs.declared.walk.Identified.{Identified}
-use Rattle.identify.specs.declared.walk.Identified.TheVariants.{Ok as Found, Err as NotFound}
-use Rattle.identify.specs.Walk.{found_of}
 use Rattle.identify.specs.Calls.{follows_identify, said_identify, stands_identify, step_identify}
 use Rattle.identify.proofs.Ends.{identify_after}
 use Rattle.identify.proofs.Runs.{identify_lasts, identify_steps_on}
 use Rattle.softrate.specs.Calls.{follows_rate, said_rate, stands_rate, step_rate}
 use Rattle.softrate.proofs.Runs.{rate_lasts, rate_steps_on, rate_after}
-use Rattle.light.specs.declared.sensed.Measured.{Measured}
-use Rattle.light.specs.declared.sensed.Measured.TheVariants.{Ok as MeasuredOk, Coefficient, Result, Err as MeasuredErr}
 use Rattle.light.specs.declared.sensed.Measures.{Measures}
 use Rattle.light.specs.Sensed.{measured_of as measures_in}
 use Rattle.light.specs.Calls.{follows_light, said_light, stands_light, step_light}
@@ -112,10 +62,6 @@ use Rattle.flat.specs.declared.State.{State}
 use Rattle.flat.specs.Pick.{pick}
 use Rattle.host.specs.declared.Block.{Block}
 use Rattle.host.specs.declared.Next.{Next}
-use Rattle.host.specs.declared.open.Named.{Named}
-use Rattle.host.specs.declared.open.Named.TheVariants.{Known as NamedKnown, Unknown as NamedUnknown}
-use Rattle.host.specs.declared.step.Given.{Given}
-use Rattle.host.specs.declared.step.Given.TheVariants.{Known, Unknown}
 use Rattle.host.specs.Next.{asked_of, byte_of, ended_of, failed_of, flag_of, identified_of, identity_of, measured_of, measures_of, next_of, outcome_of, paged_of, refused_of, word_of}
 use Rattle.host.specs.Open.{named, OpenedBy}
 use Rattle.host.specs.Runs.{and_given, and_handed, answers_in, asked_seen, awaits, Awaits, bare, bare_block, block_of_held, bytes_of, CommandPromise, done_of, Driven, Drives, Ended, filled_of, handed_in, Held, itself, last_held, last_of, Lasting, left_of, metered_of, named_seen, names_access, names_end, PagePromise, result_of, run_seen, ScriptPromise, seen, StepPromise, through, Turn, unmetered_of, yes_of}
@@ -123,39 +69,54 @@ use Rattle.host.specs.Shown.{refused_block, Shows, ShownCommand, ShownPage, Show
 use Rattle.host.specs.Step.{answered, AnsweredBy, choose, CommandStepped, LentBy, PageStepped, ScriptStepped, Stepped, SteppedAs, SteppedTransfer, SteppedSetup, SteppedIdentify, SteppedRate, SteppedLight, SteppedAcquire, SteppedRelease, SteppedToken}
 use Rattle.host.specs.Tells.{TellsCommandOpen, TellsPageOpen, TellsScriptOpen, TellsTransfer, TellsSetup, TellsIdentify, TellsRate, TellsLight, TellsAcquire, TellsRelease, TellsToken}
 use Rattle.host.proofs.Laws.{of_call}
+use Rattle.page.specs.Aliases.{Paged, PageTold, PageCall}
+use Rattle.hostif.specs.Aliases.{TokenTold, CommandTold}
+use Rattle.i2c.specs.Aliases.{SetupTold, TransferTold}
+use Rattle.light.specs.Aliases.{Measured, LightTold}
+use Rattle.acquire.specs.Aliases.{ReleaseTold, AcquireTold}
+use Rattle.identify.specs.Aliases.{IdentifyTold}
+use Rattle.transfer.specs.Aliases.{ScriptTold, ScriptCall}
+use Rattle.softrate.specs.Aliases.{RateTold}
+use Rattle.hardware.specs.declared.Told.TheVariants.{Ask, End}
+use Rattle.transfer.specs.declared.calls.Said.TheVariants.{Ask as SaidAsk, Read as SaidRead, End as SaidEnd}
+use Rattle.page.specs.declared.sums.PageError.TheVariants.{FirstSum, SecondSum, Bus}
+use Rattle.light.specs.declared.power.PowerError.TheVariants.{Coefficient as CaseCoefficient, Power as CasePower}
+use Rattle.light.specs.declared.sensed.LightError.TheVariants.{Power as OfPower, Bus as LightBus}
+use Rattle.std.specs.Prelude.{Some, None, Result, Option}
+use Rattle.hardware.specs.declared.Error.{Error}
 
 -- a value of 32 bits is an answer within its type
-in_type : (kind value : ℕ) (a : Answer) → answered kind value ≡ Known a → value < 2 ^ 32 → InType a
+in_type : (kind value : ℕ) (a : Answer) → answered kind value ≡ Some a → value < 2 ^ 32 → InType a
 unfolding answered InType
 in_type kind value a e h = by (eqb kind 0) (eqb kind 1) (eqb kind 2) e
   where
-    known : {b : Answer} → ◌≡◌ {A = Given} (Known b) (Known a) → b ≡ a
+    known : {b : Answer} → ◌≡◌ {A = (Option Answer)} (Some b) (Some a) → b ≡ a
     known e = cc
 
-    none : ◌≡◌ {A = Given} Unknown (Known a) → InType a
+    none : ◌≡◌ {A = (Option Answer)} None (Some a) → InType a
     none e = let z : ◌≡◌ {A = ℕ} 0 1 = cc in absurd (omega arith)
 
-    by : (x y z : Bool) → pick x (Known (Value value)) (pick y (Known Done) (pick z (Known Failed) Unknown)) ≡ Known a → InType a
+    by : (x y z : Bool) → pick x (Some (Value value)) (pick y (Some Done) (pick z (Some Failed) None)) ≡ Some a → InType a
     by true y z e = subst InType (known e) h
     by false true z e = subst InType (known e) tt
     by false false true e = subst InType (known e) tt
     by false false false e = none e
 
 -- a step that a host makes, with its answer
-record Answering {Host : Type 0} (blockIn : Host → Block) (Promise : Given → Host → Host → Type 0) (h : Host) (k : Turn Host) : Type 0 where
+record Answering {Host : Type 0} (blockIn : Host → Block) (Promise : (Option Answer) → Host → Host → Type 0) (h : Host) (k : Turn Host) : Type 0 where
   answer : Answer
-  is : answered k.kind k.value ≡ Known answer
+  is : answered k.kind k.value ≡ Some answer
   fits : T (awaits (blockIn h).next.kind answer)
   typed : InType answer
-  promised : Promise (Known answer) h k.after
+  promised : Promise (Some answer) h k.after
 
-answering : {Host : Type 0} (blockIn : Host → Block) (Promise : Given → Host → Host → Type 0) (h : Host) (k : Turn Host) → Drives blockIn Promise h k → Answering blockIn Promise h k
+answering : {Host : Type 0} (blockIn : Host → Block) (Promise : (Option Answer) → Host → Host → Type 0) (h : Host) (k : Turn Host) → Drives blockIn Promise h k → Answering blockIn Promise h k
 unfolding Awaits
 answering blockIn Promise h k d = by (answered k.kind k.value) refl d.fits d.promised
   where
-    by : (g : Given) → answered k.kind k.value ≡ g → Awaits (blockIn h).next.kind g → Promise g h k.after → Answering blockIn Promise h k
-    by (Known a) e w p = record { answer = a; is = e; fits = w; typed = in_type k.kind k.value a e d.typed; promised = p }
-    by Unknown e w p = absurd w
+    by : (g : (Option Answer)) → answered k.kind k.value ≡ g → Awaits (blockIn h).next.kind g → Promise g h k.after → Answering blockIn Promise h k
+    by (Some a) e w p = record { answer = a; is = e; fits = w; typed = in_type k.kind k.value a e d.typed; promised = p }
+    by None e w p = absurd w
 
 awaits_fits : (x : Access) (a : Answer) → awaits (asked_of x 0).kind a ≡ fits x a
 unfolding awaits asked_of next_of fits
@@ -242,7 +203,7 @@ abbrev ShownBy : {Told : Type 0} → (State → Told → Block → Type 0) → T
 ShownBy Shown t b = (old : State) × Shown old t b
 
 -- a refused opening is not stepped
-not_stepped : {A Host : Type 0} (N : A → Next) (blockIn : Host → Block) (Promise : Given → Host → Host → Type 0) (q : Asked (Prog A)) (h : Host) (ks : List (Turn Host)) → Refuses q → (blockIn h).next ≡ prompt N q → Driven blockIn Promise h ks
+not_stepped : {A Host : Type 0} (N : A → Next) (blockIn : Host → Block) (Promise : (Option Answer) → Host → Host → Type 0) (q : Asked (Prog A)) (h : Host) (ks : List (Turn Host)) → Refuses q → (blockIn h).next ≡ prompt N q → Driven blockIn Promise h ks
     → seen blockIn h ks ≡ asked_seen N (run_asked q (answers_in ks))
 unfolding Refuses seen answers_in Driven prompt names_access refused_of next_of
 not_stepped N blockIn Promise (yes p) h ks r e d = absurd r
@@ -265,7 +226,7 @@ not_access n e k = by (names_access n) e k
 
 -- A call whose steps are exported. ends: an end is one by its number. tells: a block shows what was told. goes: a step of a state that
 -- was handed out tells what follows, and its block shows that
-module _ {A Told Host : Type 0} (N : A → Next) (blockIn : Host → Block) (Promise : Given → Host → Host → Type 0) (said : Told → Asked (Prog A)) (Follows : Told → Answer → Told → Type 0) (Stands : Told → Type 0) (Shown : Told → Host → Type 0) (on : StepsOn said Follows Stands) (ends : (v : A) → names_end (N v) ≡ true) (tells : (t : Told) (h : Host) → Stands t → Shown t h → (blockIn h).next ≡ prompt N (said t)) (goes : (t : Told) (h k : Host) (a : Answer) → IfYes Asks (said t) → Shown t h → Promise (Known a) h k → (u : Told) × Follows t a u × Shown u k) where
+module _ {A Told Host : Type 0} (N : A → Next) (blockIn : Host → Block) (Promise : (Option Answer) → Host → Host → Type 0) (said : Told → Asked (Prog A)) (Follows : Told → Answer → Told → Type 0) (Stands : Told → Type 0) (Shown : Told → Host → Type 0) (on : StepsOn said Follows Stands) (ends : (v : A) → names_end (N v) ≡ true) (tells : (t : Told) (h : Host) → Stands t → Shown t h → (blockIn h).next ≡ prompt N (said t)) (goes : (t : Told) (h k : Host) (a : Answer) → IfYes Asks (said t) → Shown t h → Promise (Some a) h k → (u : Told) × Follows t a u × Shown u k) where
   in_asks : (p : Prog A) → T (names_access (prompt_in N p)) → Asks p
   unfolding prompt_in Asks
   in_asks (ret v) k = absurd (not_access (N v) (ends v) k)
@@ -317,7 +278,7 @@ module _ {A Told Host : Type 0} (N : A → Next) (blockIn : Host → Block) (Pro
       let i = behind t h k s w d.0 in
       told_ends i.told k.after ks i.stands i.shown d.1 v
       (subst (λ (q : Asked (Prog A)). Ended q (answers_in ks) v) (sym i.rest)
-      (ends_after (said t) i.given.answer (answers_in ks) v i.asked (subst (λ (g : Given). Ended (said t) (and_given g (answers_in ks)) v) i.given.is e)))
+      (ends_after (said t) i.given.answer (answers_in ks) v i.asked (subst (λ (g : (Option Answer)). Ended (said t) (and_given g (answers_in ks)) v) i.given.is e)))
 
   -- a host's steps are accepted steps of the call
   record Typed (t : Told) (h : Host) (ks : List (Turn Host)) : Type 0 where
@@ -376,7 +337,7 @@ asks_goes (no n) h = h
 asks_goes (yes p) h = tt
 
 -- of a call that is lent nothing
-module _ {A Told : Type 0} (N : A → Next) (said : Told → Asked (Prog A)) (Follows : Told → Answer → Told → Type 0) (Stands : Told → Type 0) (Shown : State → Told → Block → Type 0) (on : StepsOn said Follows Stands) (ends : (v : A) → names_end (N v) ≡ true) (tells : (t : Told) (b : Block) → Stands t → ShownBy Shown t b → b.next ≡ prompt N (said t)) (goes : (t : Told) (b c : Block) (a : Answer) → IfYes Asks (said t) → ShownBy Shown t b → StepPromise (Known a) b c → (u : Told) × Follows t a u × ShownBy Shown u c) where
+module _ {A Told : Type 0} (N : A → Next) (said : Told → Asked (Prog A)) (Follows : Told → Answer → Told → Type 0) (Stands : Told → Type 0) (Shown : State → Told → Block → Type 0) (on : StepsOn said Follows Stands) (ends : (v : A) → names_end (N v) ≡ true) (tells : (t : Told) (b : Block) → Stands t → ShownBy Shown t b → b.next ≡ prompt N (said t)) (goes : (t : Told) (b c : Block) (a : Answer) → IfYes Asks (said t) → ShownBy Shown t b → StepPromise (Some a) b c → (u : Told) × Follows t a u × ShownBy Shown u c) where
   -- from an opening on. o: what it says
   call_seen : (o : Asked (Prog A)) (old : State) (b : Block) (ks : List (Turn Block)) → Shows (λ t. Keeps (said t ≡ o) (Stands t)) Shown old b → Driven itself StepPromise b ks → seen itself b ks ≡ asked_seen N (run_asked o (answers_in ks))
   unfolding Shows
@@ -384,11 +345,11 @@ module _ {A Told : Type 0} (N : A → Next) (said : Told → Asked (Prog A)) (Fo
       told_seen N itself StepPromise said Follows Stands (ShownBy Shown) on ends tells goes t b ks k.limits (old, h) d ∙ ap (λ q. asked_seen N (run_asked q (answers_in ks))) k.yields
 
   -- the same of one whose sequence has a number
-  named_seen_lem : (g : Named) (o : Sequence → Asked (Prog A)) (old : State) (b : Block) (ks : List (Turn Block)) → OpenedBy g (λ q. Shows (λ t. Keeps (said t ≡ o q) (Stands t)) Shown old) old b → Driven itself StepPromise b ks
+  named_seen_lem : (g : (Option Sequence)) (o : Sequence → Asked (Prog A)) (old : State) (b : Block) (ks : List (Turn Block)) → OpenedBy g (λ q. Shows (λ t. Keeps (said t ≡ o q) (Stands t)) Shown old) old b → Driven itself StepPromise b ks
       → seen itself b ks ≡ named_seen g (λ q. asked_seen N (run_asked (o q) (answers_in ks)))
   unfolding OpenedBy named_seen refused_block prompt asked_seen run_asked Refuses
-  named_seen_lem (NamedKnown q) o old b ks h d = call_seen (o q) old b ks h d
-  named_seen_lem NamedUnknown o old b ks h d = not_stepped N itself StepPromise (no 13) b ks tt (ap (λ (c : Block). c.next) h) d
+  named_seen_lem (Some q) o old b ks h d = call_seen (o q) old b ks h d
+  named_seen_lem None o old b ks h d = not_stepped N itself StepPromise (no 13) b ks tt (ap (λ (c : Block). c.next) h) d
 
   -- from what was told on
   lasting : (old : State) (t : Told) (b : Block) (n : ℕ) → Stands t → Unrefused (said t) → Shown old t b → ((js : List (Exchange Told)) → AllKept (Accepts said Follows) t js → Lasts said t js n) → Lasting b
@@ -412,32 +373,32 @@ result_ends N h m (Ok v) = h v m
 result_ends N h m (Err f) = refl
 
 -- the calls' results, by the Rust's
-word_is : (w : Word) (m : Meter) → word_of w m ≡ result_of ended_of m (word w)
-unfolding word_of result_of word failed_of failure_of
-word_is (WordOk v) m = refl
-word_is (WordErr e) m = refl
+word_is : (w : (Result ℕ Error)) (m : Meter) → word_of w m ≡ result_of ended_of m (reply w)
+unfolding word_of result_of reply failed_of failure_of
+word_is (Ok v) m = refl
+word_is (Err e) m = refl
 
-outcome_is : (o : Outcome) (m : Meter) → outcome_of o m ≡ result_of done_of m (outcome o)
-unfolding outcome_of result_of outcome failed_of failure_of
-outcome_is OutcomeOk m = refl
-outcome_is (OutcomeErr e) m = refl
+outcome_is : (o : (Result (Unit {0}) Error)) (m : Meter) → outcome_of o m ≡ result_of done_of m (reply o)
+unfolding outcome_of result_of reply failed_of failure_of
+outcome_is (Ok tt) m = refl
+outcome_is (Err e) m = refl
 
-flag_is : (f : Flag) (m : Meter) → flag_of f m ≡ result_of yes_of m (flag f)
-unfolding flag_of result_of flag failed_of failure_of
-flag_is (FlagOk b) m = refl
-flag_is (FlagErr e) m = refl
+flag_is : (f : (Result Bool Error)) (m : Meter) → flag_of f m ≡ result_of yes_of m (reply f)
+unfolding flag_of result_of reply failed_of failure_of
+flag_is (Ok b) m = refl
+flag_is (Err e) m = refl
 
-identified_is : (f : Identified) (m : Meter) → identified_of f m ≡ result_of identity_of m (found_of f)
-unfolding identified_of result_of found_of failed_of failure_of
-identified_is (Found i) m = refl
-identified_is (NotFound e) m = refl
+identified_is : (f : (Result Identity Error)) (m : Meter) → identified_of f m ≡ result_of identity_of m (reply f)
+unfolding identified_of result_of reply failed_of failure_of
+identified_is (Ok i) m = refl
+identified_is (Err e) m = refl
 
 measured_is : (r : Measured) (m : Meter) → measured_of r m ≡ result_of measures_of m (measures_in r)
 unfolding measured_of result_of measures_in failed_of failure_of
-measured_is (MeasuredOk v) m = refl
-measured_is Coefficient m = refl
-measured_is Result m = refl
-measured_is (MeasuredErr e) m = refl
+measured_is (Ok v) m = refl
+measured_is (Err (OfPower CaseCoefficient)) m = refl
+measured_is (Err (OfPower CasePower)) m = refl
+measured_is (Err (LightBus e)) m = refl
 
 transfer_ends : (v : Counted (R ℕ)) → names_end (metered_of ended_of v) ≡ true
 unfolding names_end names_access ended_of next_of
@@ -445,26 +406,26 @@ transfer_ends v = result_ends ended_of (λ v m. refl) v.meter v.result
 
 transfer_tells : (t : TransferTold) (b : Block) → stands_transfer t → ShownBy ShownTransfer t b → b.next ≡ prompt (metered_of ended_of) (said_transfer t)
 unfolding stands_transfer ShownTransfer said_transfer prompt prompt_in refused_block
-transfer_tells (TransferAsk x (TransferGoing port r how m s)) b stands (old, h) = h.shows
-transfer_tells (TransferAsk x TransferOver) b stands (old, h) = absurd stands
-transfer_tells (TransferEnd w m) b stands (old, h) = h.shows ∙ word_is w m
-transfer_tells (TransferRefused q) b stands (old, h) = ap (λ (c : Block). c.next) h
+transfer_tells (Ok (Ask x (Some (port, r, how, m, s)))) b stands (old, h) = h.shows
+transfer_tells (Ok (Ask x None)) b stands (old, h) = absurd stands
+transfer_tells (Ok (End (w, m))) b stands (old, h) = h.shows ∙ word_is w m
+transfer_tells (Err q) b stands (old, h) = ap (λ (c : Block). c.next) h
 
-transfer_goes : (t : TransferTold) (b c : Block) (a : Answer) → IfYes Asks (said_transfer t) → ShownBy ShownTransfer t b → StepPromise (Known a) b c → (u : TransferTold) × follows_transfer t a u × ShownBy ShownTransfer u c
+transfer_goes : (t : TransferTold) (b c : Block) (a : Answer) → IfYes Asks (said_transfer t) → ShownBy ShownTransfer t b → StepPromise (Some a) b c → (u : TransferTold) × follows_transfer t a u × ShownBy ShownTransfer u c
 unfolding IfYes Asks said_transfer follows_transfer ShownTransfer AnsweredBy SteppedAs SteppedTransfer Shows
-transfer_goes (TransferAsk x s) b c a k (old, h) d =
+transfer_goes (Ok (Ask x s)) b c a k (old, h) d =
     let g = of_call 0 b.state a c h.of d in
     (g.0, record { yields = g.1.yields ∙ ap (λ z. step_transfer z a) h.state; limits = g.1.limits }, (b.state, g.2))
-transfer_goes (TransferEnd w m) b c a k h d = absurd k
-transfer_goes (TransferRefused q) b c a k h d = absurd k
+transfer_goes (Ok (End (w, m))) b c a k h d = absurd k
+transfer_goes (Err q) b c a k h d = absurd k
 
 transfer_lasting : (old : State) (t : TransferTold) (b : Block) → stands_transfer t → ShownTransfer old t b → IfYes Asks (said_transfer t) → Lasting b
 unfolding said_transfer IfYes Asks stands_transfer
-transfer_lasting old (TransferAsk x (TransferGoing port r how m s)) b stands h k =
-    lasting (metered_of ended_of) said_transfer follows_transfer stands_transfer ShownTransfer transfer_steps_on transfer_ends transfer_tells transfer_goes old (TransferAsk x (TransferGoing port r how m s)) b (suc (handshake_after port.family r how.lock s)) stands tt h (λ js. transfer_lasts x port r how m s js stands)
-transfer_lasting old (TransferAsk x TransferOver) b stands h k = absurd stands
-transfer_lasting old (TransferEnd w m) b stands h k = absurd k
-transfer_lasting old (TransferRefused q) b stands h k = absurd k
+transfer_lasting old (Ok (Ask x (Some (port, r, how, m, s)))) b stands h k =
+    lasting (metered_of ended_of) said_transfer follows_transfer stands_transfer ShownTransfer transfer_steps_on transfer_ends transfer_tells transfer_goes old (Ok (Ask x (Some (port, r, how, m, s)))) b (suc (handshake_after port.family r how.lock s)) stands tt h (λ js. transfer_lasts x port r how m s js stands)
+transfer_lasting old (Ok (Ask x None)) b stands h k = absurd stands
+transfer_lasting old (Ok (End (w, m))) b stands h k = absurd k
+transfer_lasting old (Err q) b stands h k = absurd k
 
 pub transfer_seen : (sequence : ℕ) (o : Sequence → Asked (Prog (Counted (R ℕ)))) (over : State) (b : Block) (ks : List (Turn Block)) → OpenedBy (named sequence) (λ q. Shows (TellsTransfer (o q)) ShownTransfer over) over b → Driven itself StepPromise b ks
     → seen itself b ks ≡ named_seen (named sequence) (λ q. asked_seen (metered_of ended_of) (run_asked (o q) (answers_in ks)))
@@ -476,26 +437,26 @@ setup_ends v = result_ends done_of (λ v m. refl) blank v
 
 setup_tells : (t : SetupTold) (b : Block) → stands_setup t → ShownBy ShownSetup t b → b.next ≡ prompt (unmetered_of done_of) (said_setup t)
 unfolding stands_setup ShownSetup said_setup prompt prompt_in refused_block
-setup_tells (SetupAsk x (SetupGoing u)) b stands (old, h) = h.shows
-setup_tells (SetupAsk x SetupOver) b stands (old, h) = absurd stands
-setup_tells (SetupEnd o) b stands (old, h) = h.shows ∙ outcome_is o blank
-setup_tells (SetupRefused q) b stands (old, h) = ap (λ (c : Block). c.next) h
+setup_tells (Ok (Ask x (Some u))) b stands (old, h) = h.shows
+setup_tells (Ok (Ask x None)) b stands (old, h) = absurd stands
+setup_tells (Ok (End o)) b stands (old, h) = h.shows ∙ outcome_is o blank
+setup_tells (Err q) b stands (old, h) = ap (λ (c : Block). c.next) h
 
-setup_goes : (t : SetupTold) (b c : Block) (a : Answer) → IfYes Asks (said_setup t) → ShownBy ShownSetup t b → StepPromise (Known a) b c → (u : SetupTold) × follows_setup t a u × ShownBy ShownSetup u c
+setup_goes : (t : SetupTold) (b c : Block) (a : Answer) → IfYes Asks (said_setup t) → ShownBy ShownSetup t b → StepPromise (Some a) b c → (u : SetupTold) × follows_setup t a u × ShownBy ShownSetup u c
 unfolding IfYes Asks said_setup follows_setup ShownSetup AnsweredBy SteppedAs SteppedSetup Shows
-setup_goes (SetupAsk x s) b c a k (old, h) d =
+setup_goes (Ok (Ask x s)) b c a k (old, h) d =
     let g = of_call 1 b.state a c h.of d in
     (g.0, record { yields = g.1.yields ∙ ap (λ z. step_setup z a) h.state; limits = g.1.limits }, (b.state, g.2))
-setup_goes (SetupEnd o) b c a k h d = absurd k
-setup_goes (SetupRefused q) b c a k h d = absurd k
+setup_goes (Ok (End o)) b c a k h d = absurd k
+setup_goes (Err q) b c a k h d = absurd k
 
 setup_lasting : (old : State) (t : SetupTold) (b : Block) → stands_setup t → ShownSetup old t b → IfYes Asks (said_setup t) → Lasting b
 unfolding said_setup IfYes Asks stands_setup
-setup_lasting old (SetupAsk x (SetupGoing u)) b stands h k =
-    lasting (unmetered_of done_of) said_setup follows_setup stands_setup ShownSetup setup_steps_on setup_ends setup_tells setup_goes old (SetupAsk x (SetupGoing u)) b (suc (update_after u)) stands tt h (λ js. setup_lasts x u js stands)
-setup_lasting old (SetupAsk x SetupOver) b stands h k = absurd stands
-setup_lasting old (SetupEnd o) b stands h k = absurd k
-setup_lasting old (SetupRefused q) b stands h k = absurd k
+setup_lasting old (Ok (Ask x (Some u))) b stands h k =
+    lasting (unmetered_of done_of) said_setup follows_setup stands_setup ShownSetup setup_steps_on setup_ends setup_tells setup_goes old (Ok (Ask x (Some u))) b (suc (update_after u)) stands tt h (λ js. setup_lasts x u js stands)
+setup_lasting old (Ok (Ask x None)) b stands h k = absurd stands
+setup_lasting old (Ok (End o)) b stands h k = absurd k
+setup_lasting old (Err q) b stands h k = absurd k
 
 pub setup_seen : (o : Asked (Prog (R (Unit {0})))) (over : State) (b : Block) (ks : List (Turn Block)) → Shows (TellsSetup o) ShownSetup over b → Driven itself StepPromise b ks
     → seen itself b ks ≡ asked_seen (unmetered_of done_of) (run_asked o (answers_in ks))
@@ -507,26 +468,26 @@ identify_ends v = result_ends identity_of (λ v m. refl) v.meter v.result
 
 identify_tells : (t : IdentifyTold) (b : Block) → stands_identify t → ShownBy ShownIdentify t b → b.next ≡ prompt (metered_of identity_of) (said_identify t)
 unfolding stands_identify ShownIdentify said_identify prompt prompt_in refused_block
-identify_tells (IdentifyAsk x (IdentifyGoing port q m s)) b stands (old, h) = h.shows
-identify_tells (IdentifyAsk x IdentifyOver) b stands (old, h) = absurd stands
-identify_tells (IdentifyEnd f m) b stands (old, h) = h.shows ∙ identified_is f m
-identify_tells (IdentifyRefused q) b stands (old, h) = ap (λ (c : Block). c.next) h
+identify_tells (Ok (Ask x (Some (port, q, m, s)))) b stands (old, h) = h.shows
+identify_tells (Ok (Ask x None)) b stands (old, h) = absurd stands
+identify_tells (Ok (End (f, m))) b stands (old, h) = h.shows ∙ identified_is f m
+identify_tells (Err q) b stands (old, h) = ap (λ (c : Block). c.next) h
 
-identify_goes : (t : IdentifyTold) (b c : Block) (a : Answer) → IfYes Asks (said_identify t) → ShownBy ShownIdentify t b → StepPromise (Known a) b c → (u : IdentifyTold) × follows_identify t a u × ShownBy ShownIdentify u c
+identify_goes : (t : IdentifyTold) (b c : Block) (a : Answer) → IfYes Asks (said_identify t) → ShownBy ShownIdentify t b → StepPromise (Some a) b c → (u : IdentifyTold) × follows_identify t a u × ShownBy ShownIdentify u c
 unfolding IfYes Asks said_identify follows_identify ShownIdentify AnsweredBy SteppedAs SteppedIdentify Shows
-identify_goes (IdentifyAsk x s) b c a k (old, h) d =
+identify_goes (Ok (Ask x s)) b c a k (old, h) d =
     let g = of_call 2 b.state a c h.of d in
     (g.0, record { yields = g.1.yields ∙ ap (λ z. step_identify z a) h.state; limits = g.1.limits }, (b.state, g.2))
-identify_goes (IdentifyEnd f m) b c a k h d = absurd k
-identify_goes (IdentifyRefused q) b c a k h d = absurd k
+identify_goes (Ok (End (f, m))) b c a k h d = absurd k
+identify_goes (Err q) b c a k h d = absurd k
 
 identify_lasting : (old : State) (t : IdentifyTold) (b : Block) → stands_identify t → ShownIdentify old t b → IfYes Asks (said_identify t) → Lasting b
 unfolding said_identify IfYes Asks stands_identify
-identify_lasting old (IdentifyAsk x (IdentifyGoing port q m s)) b stands h k =
-    lasting (metered_of identity_of) said_identify follows_identify stands_identify ShownIdentify identify_steps_on identify_ends identify_tells identify_goes old (IdentifyAsk x (IdentifyGoing port q m s)) b (suc (identify_after port.family s)) stands tt h (λ js. identify_lasts x port q m s js stands)
-identify_lasting old (IdentifyAsk x IdentifyOver) b stands h k = absurd stands
-identify_lasting old (IdentifyEnd f m) b stands h k = absurd k
-identify_lasting old (IdentifyRefused q) b stands h k = absurd k
+identify_lasting old (Ok (Ask x (Some (port, q, m, s)))) b stands h k =
+    lasting (metered_of identity_of) said_identify follows_identify stands_identify ShownIdentify identify_steps_on identify_ends identify_tells identify_goes old (Ok (Ask x (Some (port, q, m, s)))) b (suc (identify_after port.family s)) stands tt h (λ js. identify_lasts x port q m s js stands)
+identify_lasting old (Ok (Ask x None)) b stands h k = absurd stands
+identify_lasting old (Ok (End (f, m))) b stands h k = absurd k
+identify_lasting old (Err q) b stands h k = absurd k
 
 pub identify_seen : (sequence : ℕ) (o : Sequence → Asked (Prog (Counted (R Identity)))) (over : State) (b : Block) (ks : List (Turn Block)) → OpenedBy (named sequence) (λ q. Shows (TellsIdentify (o q)) ShownIdentify over) over b → Driven itself StepPromise b ks
     → seen itself b ks ≡ named_seen (named sequence) (λ q. asked_seen (metered_of identity_of) (run_asked (o q) (answers_in ks)))
@@ -538,26 +499,26 @@ rate_ends v = result_ends yes_of (λ v m. refl) v.meter v.result
 
 rate_tells : (t : RateTold) (b : Block) → stands_rate t → ShownBy ShownRate t b → b.next ≡ prompt (metered_of yes_of) (said_rate t)
 unfolding stands_rate ShownRate said_rate prompt prompt_in refused_block
-rate_tells (RateAsk x (RateGoing port q ten m s)) b stands (old, h) = h.shows
-rate_tells (RateAsk x RateOver) b stands (old, h) = absurd stands
-rate_tells (RateEnd f m) b stands (old, h) = h.shows ∙ flag_is f m
-rate_tells (RateRefused q) b stands (old, h) = ap (λ (c : Block). c.next) h
+rate_tells (Ok (Ask x (Some (port, q, ten, m, s)))) b stands (old, h) = h.shows
+rate_tells (Ok (Ask x None)) b stands (old, h) = absurd stands
+rate_tells (Ok (End (f, m))) b stands (old, h) = h.shows ∙ flag_is f m
+rate_tells (Err q) b stands (old, h) = ap (λ (c : Block). c.next) h
 
-rate_goes : (t : RateTold) (b c : Block) (a : Answer) → IfYes Asks (said_rate t) → ShownBy ShownRate t b → StepPromise (Known a) b c → (u : RateTold) × follows_rate t a u × ShownBy ShownRate u c
+rate_goes : (t : RateTold) (b c : Block) (a : Answer) → IfYes Asks (said_rate t) → ShownBy ShownRate t b → StepPromise (Some a) b c → (u : RateTold) × follows_rate t a u × ShownBy ShownRate u c
 unfolding IfYes Asks said_rate follows_rate ShownRate AnsweredBy SteppedAs SteppedRate Shows
-rate_goes (RateAsk x s) b c a k (old, h) d =
+rate_goes (Ok (Ask x s)) b c a k (old, h) d =
     let g = of_call 3 b.state a c h.of d in
     (g.0, record { yields = g.1.yields ∙ ap (λ z. step_rate z a) h.state; limits = g.1.limits }, (b.state, g.2))
-rate_goes (RateEnd f m) b c a k h d = absurd k
-rate_goes (RateRefused q) b c a k h d = absurd k
+rate_goes (Ok (End (f, m))) b c a k h d = absurd k
+rate_goes (Err q) b c a k h d = absurd k
 
 rate_lasting : (old : State) (t : RateTold) (b : Block) → stands_rate t → ShownRate old t b → IfYes Asks (said_rate t) → Lasting b
 unfolding said_rate IfYes Asks stands_rate
-rate_lasting old (RateAsk x (RateGoing port q ten m s)) b stands h k =
-    lasting (metered_of yes_of) said_rate follows_rate stands_rate ShownRate rate_steps_on rate_ends rate_tells rate_goes old (RateAsk x (RateGoing port q ten m s)) b (suc (rate_after port.family ten s)) stands tt h (λ js. rate_lasts x port q ten m s js stands)
-rate_lasting old (RateAsk x RateOver) b stands h k = absurd stands
-rate_lasting old (RateEnd f m) b stands h k = absurd k
-rate_lasting old (RateRefused q) b stands h k = absurd k
+rate_lasting old (Ok (Ask x (Some (port, q, ten, m, s)))) b stands h k =
+    lasting (metered_of yes_of) said_rate follows_rate stands_rate ShownRate rate_steps_on rate_ends rate_tells rate_goes old (Ok (Ask x (Some (port, q, ten, m, s)))) b (suc (rate_after port.family ten s)) stands tt h (λ js. rate_lasts x port q ten m s js stands)
+rate_lasting old (Ok (Ask x None)) b stands h k = absurd stands
+rate_lasting old (Ok (End (f, m))) b stands h k = absurd k
+rate_lasting old (Err q) b stands h k = absurd k
 
 pub rate_seen : (sequence : ℕ) (o : Sequence → Asked (Prog (Counted (R Bool)))) (over : State) (b : Block) (ks : List (Turn Block)) → OpenedBy (named sequence) (λ q. Shows (TellsRate (o q)) ShownRate over) over b → Driven itself StepPromise b ks
     → seen itself b ks ≡ named_seen (named sequence) (λ q. asked_seen (metered_of yes_of) (run_asked (o q) (answers_in ks)))
@@ -569,26 +530,26 @@ light_ends v = result_ends measures_of (λ v m. refl) v.meter v.result
 
 light_tells : (t : LightTold) (b : Block) → stands_light t → ShownBy ShownLight t b → b.next ≡ prompt (metered_of measures_of) (said_light t)
 unfolding stands_light ShownLight said_light prompt prompt_in refused_block
-light_tells (LightAsk x (LightGoing port q tries m s)) b stands (old, h) = h.shows
-light_tells (LightAsk x LightOver) b stands (old, h) = absurd stands
-light_tells (LightEnd r m) b stands (old, h) = h.shows ∙ measured_is r m
-light_tells (LightRefused q) b stands (old, h) = ap (λ (c : Block). c.next) h
+light_tells (Ok (Ask x (Some (port, q, tries, m, s)))) b stands (old, h) = h.shows
+light_tells (Ok (Ask x None)) b stands (old, h) = absurd stands
+light_tells (Ok (End (r, m))) b stands (old, h) = h.shows ∙ measured_is r m
+light_tells (Err q) b stands (old, h) = ap (λ (c : Block). c.next) h
 
-light_goes : (t : LightTold) (b c : Block) (a : Answer) → IfYes Asks (said_light t) → ShownBy ShownLight t b → StepPromise (Known a) b c → (u : LightTold) × follows_light t a u × ShownBy ShownLight u c
+light_goes : (t : LightTold) (b c : Block) (a : Answer) → IfYes Asks (said_light t) → ShownBy ShownLight t b → StepPromise (Some a) b c → (u : LightTold) × follows_light t a u × ShownBy ShownLight u c
 unfolding IfYes Asks said_light follows_light ShownLight AnsweredBy SteppedAs SteppedLight Shows
-light_goes (LightAsk x s) b c a k (old, h) d =
+light_goes (Ok (Ask x s)) b c a k (old, h) d =
     let g = of_call 4 b.state a c h.of d in
     (g.0, record { yields = g.1.yields ∙ ap (λ z. step_light z a) h.state; limits = g.1.limits }, (b.state, g.2))
-light_goes (LightEnd r m) b c a k h d = absurd k
-light_goes (LightRefused q) b c a k h d = absurd k
+light_goes (Ok (End (r, m))) b c a k h d = absurd k
+light_goes (Err q) b c a k h d = absurd k
 
 light_lasting : (old : State) (t : LightTold) (b : Block) → stands_light t → ShownLight old t b → IfYes Asks (said_light t) → Lasting b
 unfolding said_light IfYes Asks stands_light
-light_lasting old (LightAsk x (LightGoing port q tries m s)) b stands h k =
-    lasting (metered_of measures_of) said_light follows_light stands_light ShownLight light_steps_on light_ends light_tells light_goes old (LightAsk x (LightGoing port q tries m s)) b (suc (light_after port.family tries s)) stands tt h (λ js. light_lasts x port q tries m s js stands)
-light_lasting old (LightAsk x LightOver) b stands h k = absurd stands
-light_lasting old (LightEnd r m) b stands h k = absurd k
-light_lasting old (LightRefused q) b stands h k = absurd k
+light_lasting old (Ok (Ask x (Some (port, q, tries, m, s)))) b stands h k =
+    lasting (metered_of measures_of) said_light follows_light stands_light ShownLight light_steps_on light_ends light_tells light_goes old (Ok (Ask x (Some (port, q, tries, m, s)))) b (suc (light_after port.family tries s)) stands tt h (λ js. light_lasts x port q tries m s js stands)
+light_lasting old (Ok (Ask x None)) b stands h k = absurd stands
+light_lasting old (Ok (End (r, m))) b stands h k = absurd k
+light_lasting old (Err q) b stands h k = absurd k
 
 pub light_seen : (sequence : ℕ) (o : Sequence → Asked (Prog (Counted (R Measures)))) (over : State) (b : Block) (ks : List (Turn Block)) → OpenedBy (named sequence) (λ q. Shows (TellsLight (o q)) ShownLight over) over b → Driven itself StepPromise b ks
     → seen itself b ks ≡ named_seen (named sequence) (λ q. asked_seen (metered_of measures_of) (run_asked (o q) (answers_in ks)))
@@ -600,26 +561,26 @@ acquire_ends v = result_ends done_of (λ v m. refl) blank v
 
 acquire_tells : (t : AcquireTold) (b : Block) → stands_acquire t → ShownBy ShownAcquire t b → b.next ≡ prompt (unmetered_of done_of) (said_acquire t)
 unfolding stands_acquire ShownAcquire said_acquire prompt prompt_in refused_block
-acquire_tells (AcquireAsk x (AcquireGoing port hw t)) b stands (old, h) = h.shows
-acquire_tells (AcquireAsk x AcquireOver) b stands (old, h) = absurd stands
-acquire_tells (AcquireEnd o) b stands (old, h) = h.shows ∙ outcome_is o blank
-acquire_tells (AcquireRefused q) b stands (old, h) = ap (λ (c : Block). c.next) h
+acquire_tells (Ok (Ask x (Some (port, hw, t)))) b stands (old, h) = h.shows
+acquire_tells (Ok (Ask x None)) b stands (old, h) = absurd stands
+acquire_tells (Ok (End o)) b stands (old, h) = h.shows ∙ outcome_is o blank
+acquire_tells (Err q) b stands (old, h) = ap (λ (c : Block). c.next) h
 
-acquire_goes : (t : AcquireTold) (b c : Block) (a : Answer) → IfYes Asks (said_acquire t) → ShownBy ShownAcquire t b → StepPromise (Known a) b c → (u : AcquireTold) × follows_acquire t a u × ShownBy ShownAcquire u c
+acquire_goes : (t : AcquireTold) (b c : Block) (a : Answer) → IfYes Asks (said_acquire t) → ShownBy ShownAcquire t b → StepPromise (Some a) b c → (u : AcquireTold) × follows_acquire t a u × ShownBy ShownAcquire u c
 unfolding IfYes Asks said_acquire follows_acquire ShownAcquire AnsweredBy SteppedAs SteppedAcquire Shows
-acquire_goes (AcquireAsk x s) b c a k (old, h) d =
+acquire_goes (Ok (Ask x s)) b c a k (old, h) d =
     let g = of_call 5 b.state a c h.of d in
     (g.0, record { yields = g.1.yields ∙ ap (λ z. step_acquire z a) h.state; limits = g.1.limits }, (b.state, g.2))
-acquire_goes (AcquireEnd o) b c a k h d = absurd k
-acquire_goes (AcquireRefused q) b c a k h d = absurd k
+acquire_goes (Ok (End o)) b c a k h d = absurd k
+acquire_goes (Err q) b c a k h d = absurd k
 
 acquire_lasting : (old : State) (t : AcquireTold) (b : Block) → stands_acquire t → ShownAcquire old t b → IfYes Asks (said_acquire t) → Lasting b
 unfolding said_acquire IfYes Asks stands_acquire
-acquire_lasting old (AcquireAsk x (AcquireGoing port hw t)) b stands h k =
-    lasting (unmetered_of done_of) said_acquire follows_acquire stands_acquire ShownAcquire acquire_steps_on acquire_ends acquire_tells acquire_goes old (AcquireAsk x (AcquireGoing port hw t)) b (suc (acquire_after port.family t)) stands tt h (λ js. acquire_lasts x port hw t js stands)
-acquire_lasting old (AcquireAsk x AcquireOver) b stands h k = absurd stands
-acquire_lasting old (AcquireEnd o) b stands h k = absurd k
-acquire_lasting old (AcquireRefused q) b stands h k = absurd k
+acquire_lasting old (Ok (Ask x (Some (port, hw, t)))) b stands h k =
+    lasting (unmetered_of done_of) said_acquire follows_acquire stands_acquire ShownAcquire acquire_steps_on acquire_ends acquire_tells acquire_goes old (Ok (Ask x (Some (port, hw, t)))) b (suc (acquire_after port.family t)) stands tt h (λ js. acquire_lasts x port hw t js stands)
+acquire_lasting old (Ok (Ask x None)) b stands h k = absurd stands
+acquire_lasting old (Ok (End o)) b stands h k = absurd k
+acquire_lasting old (Err q) b stands h k = absurd k
 
 pub acquire_seen : (o : Asked (Prog (R (Unit {0})))) (over : State) (b : Block) (ks : List (Turn Block)) → Shows (TellsAcquire o) ShownAcquire over b → Driven itself StepPromise b ks
     → seen itself b ks ≡ asked_seen (unmetered_of done_of) (run_asked o (answers_in ks))
@@ -631,26 +592,26 @@ release_ends v = result_ends done_of (λ v m. refl) blank v
 
 release_tells : (t : ReleaseTold) (b : Block) → stands_release t → ShownBy ShownRelease t b → b.next ≡ prompt (unmetered_of done_of) (said_release t)
 unfolding stands_release ShownRelease said_release prompt prompt_in refused_block
-release_tells (ReleaseAsk x (ReleaseGoing port hw t)) b stands (old, h) = h.shows
-release_tells (ReleaseAsk x ReleaseOver) b stands (old, h) = absurd stands
-release_tells (ReleaseEnd o) b stands (old, h) = h.shows ∙ outcome_is o blank
-release_tells (ReleaseRefused q) b stands (old, h) = ap (λ (c : Block). c.next) h
+release_tells (Ok (Ask x (Some (port, hw, t)))) b stands (old, h) = h.shows
+release_tells (Ok (Ask x None)) b stands (old, h) = absurd stands
+release_tells (Ok (End o)) b stands (old, h) = h.shows ∙ outcome_is o blank
+release_tells (Err q) b stands (old, h) = ap (λ (c : Block). c.next) h
 
-release_goes : (t : ReleaseTold) (b c : Block) (a : Answer) → IfYes Asks (said_release t) → ShownBy ShownRelease t b → StepPromise (Known a) b c → (u : ReleaseTold) × follows_release t a u × ShownBy ShownRelease u c
+release_goes : (t : ReleaseTold) (b c : Block) (a : Answer) → IfYes Asks (said_release t) → ShownBy ShownRelease t b → StepPromise (Some a) b c → (u : ReleaseTold) × follows_release t a u × ShownBy ShownRelease u c
 unfolding IfYes Asks said_release follows_release ShownRelease AnsweredBy SteppedAs SteppedRelease Shows
-release_goes (ReleaseAsk x s) b c a k (old, h) d =
+release_goes (Ok (Ask x s)) b c a k (old, h) d =
     let g = of_call 6 b.state a c h.of d in
     (g.0, record { yields = g.1.yields ∙ ap (λ z. step_release z a) h.state; limits = g.1.limits }, (b.state, g.2))
-release_goes (ReleaseEnd o) b c a k h d = absurd k
-release_goes (ReleaseRefused q) b c a k h d = absurd k
+release_goes (Ok (End o)) b c a k h d = absurd k
+release_goes (Err q) b c a k h d = absurd k
 
 release_lasting : (old : State) (t : ReleaseTold) (b : Block) → stands_release t → ShownRelease old t b → IfYes Asks (said_release t) → Lasting b
 unfolding said_release IfYes Asks stands_release
-release_lasting old (ReleaseAsk x (ReleaseGoing port hw t)) b stands h k =
-    lasting (unmetered_of done_of) said_release follows_release stands_release ShownRelease release_steps_on release_ends release_tells release_goes old (ReleaseAsk x (ReleaseGoing port hw t)) b (suc (release_after t)) stands tt h (λ js. release_lasts x port hw t js stands)
-release_lasting old (ReleaseAsk x ReleaseOver) b stands h k = absurd stands
-release_lasting old (ReleaseEnd o) b stands h k = absurd k
-release_lasting old (ReleaseRefused q) b stands h k = absurd k
+release_lasting old (Ok (Ask x (Some (port, hw, t)))) b stands h k =
+    lasting (unmetered_of done_of) said_release follows_release stands_release ShownRelease release_steps_on release_ends release_tells release_goes old (Ok (Ask x (Some (port, hw, t)))) b (suc (release_after t)) stands tt h (λ js. release_lasts x port hw t js stands)
+release_lasting old (Ok (Ask x None)) b stands h k = absurd stands
+release_lasting old (Ok (End o)) b stands h k = absurd k
+release_lasting old (Err q) b stands h k = absurd k
 
 pub release_seen : (o : Asked (Prog (R (Unit {0})))) (over : State) (b : Block) (ks : List (Turn Block)) → Shows (TellsRelease o) ShownRelease over b → Driven itself StepPromise b ks
     → seen itself b ks ≡ asked_seen (unmetered_of done_of) (run_asked o (answers_in ks))
@@ -662,26 +623,26 @@ token_ends v = result_ends yes_of (λ v m. refl) blank v
 
 token_tells : (t : TokenTold) (b : Block) → stands_token t → ShownBy ShownToken t b → b.next ≡ prompt (unmetered_of yes_of) (said_token t)
 unfolding stands_token ShownToken said_token prompt prompt_in refused_block
-token_tells (TokenAsk x (TokenGoing port take t)) b stands (old, h) = h.shows
-token_tells (TokenAsk x TokenOver) b stands (old, h) = absurd stands
-token_tells (TokenEnd f) b stands (old, h) = h.shows ∙ flag_is f blank
-token_tells (TokenRefused q) b stands (old, h) = ap (λ (c : Block). c.next) h
+token_tells (Ok (Ask x (Some (port, take, t)))) b stands (old, h) = h.shows
+token_tells (Ok (Ask x None)) b stands (old, h) = absurd stands
+token_tells (Ok (End f)) b stands (old, h) = h.shows ∙ flag_is f blank
+token_tells (Err q) b stands (old, h) = ap (λ (c : Block). c.next) h
 
-token_goes : (t : TokenTold) (b c : Block) (a : Answer) → IfYes Asks (said_token t) → ShownBy ShownToken t b → StepPromise (Known a) b c → (u : TokenTold) × follows_token t a u × ShownBy ShownToken u c
+token_goes : (t : TokenTold) (b c : Block) (a : Answer) → IfYes Asks (said_token t) → ShownBy ShownToken t b → StepPromise (Some a) b c → (u : TokenTold) × follows_token t a u × ShownBy ShownToken u c
 unfolding IfYes Asks said_token follows_token ShownToken AnsweredBy SteppedAs SteppedToken Shows
-token_goes (TokenAsk x s) b c a k (old, h) d =
+token_goes (Ok (Ask x s)) b c a k (old, h) d =
     let g = of_call 7 b.state a c h.of d in
     (g.0, record { yields = g.1.yields ∙ ap (λ z. step_token z a) h.state; limits = g.1.limits }, (b.state, g.2))
-token_goes (TokenEnd f) b c a k h d = absurd k
-token_goes (TokenRefused q) b c a k h d = absurd k
+token_goes (Ok (End f)) b c a k h d = absurd k
+token_goes (Err q) b c a k h d = absurd k
 
 token_lasting : (old : State) (t : TokenTold) (b : Block) → stands_token t → ShownToken old t b → IfYes Asks (said_token t) → Lasting b
 unfolding said_token IfYes Asks stands_token
-token_lasting old (TokenAsk x (TokenGoing port take t)) b stands h k =
-    lasting (unmetered_of yes_of) said_token follows_token stands_token ShownToken token_steps_on token_ends token_tells token_goes old (TokenAsk x (TokenGoing port take t)) b (suc (token_after t)) stands tt h (λ js. token_lasts x port take t js stands)
-token_lasting old (TokenAsk x TokenOver) b stands h k = absurd stands
-token_lasting old (TokenEnd f) b stands h k = absurd k
-token_lasting old (TokenRefused q) b stands h k = absurd k
+token_lasting old (Ok (Ask x (Some (port, take, t)))) b stands h k =
+    lasting (unmetered_of yes_of) said_token follows_token stands_token ShownToken token_steps_on token_ends token_tells token_goes old (Ok (Ask x (Some (port, take, t)))) b (suc (token_after t)) stands tt h (λ js. token_lasts x port take t js stands)
+token_lasting old (Ok (Ask x None)) b stands h k = absurd stands
+token_lasting old (Ok (End f)) b stands h k = absurd k
+token_lasting old (Err q) b stands h k = absurd k
 
 pub token_seen_lem : (o : Asked (Prog (R Bool))) (over : State) (b : Block) (ks : List (Turn Block)) → Shows (TellsToken o) ShownToken over b → Driven itself StepPromise b ks
     → seen itself b ks ≡ asked_seen (unmetered_of yes_of) (run_asked o (answers_in ks))
@@ -723,10 +684,10 @@ lent_here A B n m e d = subst (λ (k : ℕ). choose (eqb k m) A B) e d
 abbrev CommandShown : CommandAt → Held → Type 0
 CommandShown t h = (t.block ≡ h.lent) × ShownBy ShownCommand t.told h.block
 
-byte_is : (v : Byte) → byte_of v ≡ result_of ended_of blank (byte v)
-unfolding byte_of result_of byte failed_of failure_of
-byte_is (ByteOk v) = refl
-byte_is (ByteErr e) = refl
+byte_is : (v : (Result ℕ Error)) → byte_of v ≡ result_of ended_of blank (reply v)
+unfolding byte_of result_of reply failed_of failure_of
+byte_is (Ok v) = refl
+byte_is (Err e) = refl
 
 command_ends : (v : Left) → names_end (left_of v) ≡ true
 unfolding names_end names_access ended_of next_of
@@ -734,22 +695,22 @@ command_ends v = result_ends ended_of (λ n m. refl) blank v.status
 
 command_tells : (t : CommandTold) (words : List ℕ) (b : Block) → stands_command t words → ShownBy ShownCommand t b → b.next ≡ prompt left_of (asked (said_command t words))
 unfolding stands_command ShownCommand said_command asked prompt prompt_in refused_block
-command_tells (CommandAsk x (CommandGoing port s)) words b stands (old, h) = h.shows
-command_tells (CommandAsk x CommandOver) words b stands (old, h) = absurd stands
-command_tells (CommandEnd v) words b stands (old, h) = h.shows ∙ byte_is v
-command_tells (CommandRefused q) words b stands (old, h) = ap (λ (c : Block). c.next) h
+command_tells (Ok (Ask x (Some (port, s)))) words b stands (old, h) = h.shows
+command_tells (Ok (Ask x None)) words b stands (old, h) = absurd stands
+command_tells (Ok (End v)) words b stands (old, h) = h.shows ∙ byte_is v
+command_tells (Err q) words b stands (old, h) = ap (λ (c : Block). c.next) h
 
-command_goes : (t : CommandTold) (words : List ℕ) (h k : Held) (a : Answer) → IfYes Asks (asked (said_command t words)) → words ≡ h.lent → ShownBy ShownCommand t h.block → CommandPromise (Known a) h k
+command_goes : (t : CommandTold) (words : List ℕ) (h k : Held) (a : Answer) → IfYes Asks (asked (said_command t words)) → words ≡ h.lent → ShownBy ShownCommand t h.block → CommandPromise (Some a) h k
     → (u : CommandAt) × follows_block t words a u.told u.block × CommandShown u k
 unfolding IfYes Asks said_command asked follows_block ShownCommand LentBy CommandStepped Shows
-command_goes (CommandAsk x s) words h k a q e (old, v) d =
+command_goes (Ok (Ask x s)) words h k a q e (old, v) d =
     let g = lent_here _ _ h.block.state.call 8 v.of d.0 in (
       record { told = g.0; block = k.lent },
       (record { yields = g.1.yields ∙ ap (λ z. step_command z h.lent a) v.state ∙ ap (λ l. step_command s l a) (sym e); limits = g.1.limits }, d.1 ∙ ap length (sym e)),
       (refl, (h.block.state, g.2)),
     )
-command_goes (CommandEnd v) words h k a q e w d = absurd q
-command_goes (CommandRefused r) words h k a q e w d = absurd q
+command_goes (Ok (End v)) words h k a q e w d = absurd q
+command_goes (Err r) words h k a q e w d = absurd q
 
 unfit : {A : Type 0} (words : List ℕ) (o : Asked Port) (e : Bool) (p : Port → Prog A) → e ≡ false → Refuses (asked (lent words (and_then o (λ port. question e 8 (yes (p port))))))
 unfolding lent asked and_then question Refuses
@@ -758,15 +719,15 @@ unfit words (yes port) e p h = rw h tt
 
 command_leaves_so : (t : CommandTold) (words : List ℕ) (v : Left) → Ended (asked (said_command t words)) [] v → words ≡ v.block
 unfolding said_command asked Ended run on_answer
-command_leaves_so (CommandAsk x (CommandGoing port s)) words v e = no_end e
-command_leaves_so (CommandAsk x CommandOver) words v e = absurd e
-command_leaves_so (CommandEnd b) words v e = ap (λ (l : Left). l.block) (same_end e)
-command_leaves_so (CommandRefused q) words v e = absurd e
+command_leaves_so (Ok (Ask x (Some (port, s)))) words v e = no_end e
+command_leaves_so (Ok (Ask x None)) words v e = absurd e
+command_leaves_so (Ok (End b)) words v e = ap (λ (l : Left). l.block) (same_end e)
+command_leaves_so (Err q) words v e = absurd e
 
 command_tells_at : (t : CommandAt) (h : Held) → stands_command_at t → CommandShown t h → h.block.next ≡ prompt left_of (said_command_at t)
 command_tells_at t h s v = command_tells t.told t.block h.block s.0 v.1
 
-command_goes_at : (t : CommandAt) (h k : Held) (a : Answer) → IfYes Asks (said_command_at t) → CommandShown t h → CommandPromise (Known a) h k → (u : CommandAt) × follows_command t a u × CommandShown u k
+command_goes_at : (t : CommandAt) (h k : Held) (a : Answer) → IfYes Asks (said_command_at t) → CommandShown t h → CommandPromise (Some a) h k → (u : CommandAt) × follows_command t a u × CommandShown u k
 command_goes_at t h k a q v d = command_goes t.told t.block h k a q v.0 v.1 d
 
 module _ (family device lan : ℕ) (words : List ℕ) (over : State) (b : Block) (ks : List (Turn Held)) (opened : Shows (TellsCommandOpen family device lan words) ShownCommand over b) (d : Driven block_of_held CommandPromise (record { block = b; lent = words }) ks) where
@@ -803,10 +764,10 @@ PageShown t h = (t.buffer ≡ h.lent) × ShownBy ShownPage t.told h.block
 
 paged_is : (p : Paged) (m : Meter) → paged_of p m ≡ result_of done_of m (result_in p)
 unfolding paged_of result_of result_in failed_of failure_of
-paged_is PagedOk m = refl
-paged_is FirstSum m = refl
-paged_is SecondSum m = refl
-paged_is (PagedErr e) m = refl
+paged_is (Ok tt) m = refl
+paged_is (Err FirstSum) m = refl
+paged_is (Err SecondSum) m = refl
+paged_is (Err (Bus e)) m = refl
 
 page_ends : (v : Counted Filled) → names_end (filled_of v) ≡ true
 unfolding names_end names_access ended_of next_of
@@ -814,31 +775,31 @@ page_ends v = result_ends done_of (λ n m. refl) v.meter v.result.result
 
 page_tells : (t : PageTold) (bytes : List ℕ) (b : Block) → stands_page t → ShownBy ShownPage t b → b.next ≡ prompt filled_of (asked (said_page t bytes))
 unfolding stands_page ShownPage said_page asked prompt prompt_in refused_block
-page_tells (PageAsk x (PageGoing port q form tries m s)) bytes b stands (old, h) = h.shows
-page_tells (PageAsk x PageOver) bytes b stands (old, h) = absurd stands
-page_tells (PageEnd p m) bytes b stands (old, h) = h.shows ∙ paged_is p m
-page_tells (PageRefused q) bytes b stands (old, h) = ap (λ (c : Block). c.next) h
+page_tells (Ok (Ask x (Some (port, q, form, tries, m, s)))) bytes b stands (old, h) = h.shows
+page_tells (Ok (Ask x None)) bytes b stands (old, h) = absurd stands
+page_tells (Ok (End (p, m))) bytes b stands (old, h) = h.shows ∙ paged_is p m
+page_tells (Err q) bytes b stands (old, h) = ap (λ (c : Block). c.next) h
 
 -- what a step promises of what it told, u, and of the bytes after it
 abbrev PageKept : PageTold → List ℕ → Answer → PageCall → List ℕ → Type 0
 PageKept u after a s before = Fills (said_page u after ≡ step_page s before a) (stands_page u) (after ≡ buffer_after s before a) (FilledAs u after (λ l. filled_call s before (a ∷ l)))
 
-page_goes : (t : PageTold) (bytes : List ℕ) (h k : Held) (a : Answer) → IfYes Asks (asked (said_page t bytes)) → bytes ≡ h.lent → ShownBy ShownPage t h.block → PagePromise (Known a) h k
+page_goes : (t : PageTold) (bytes : List ℕ) (h k : Held) (a : Answer) → IfYes Asks (asked (said_page t bytes)) → bytes ≡ h.lent → ShownBy ShownPage t h.block → PagePromise (Some a) h k
     → (u : PageAt) × follows_buffer t bytes a u.told u.buffer × PageShown u k
 unfolding IfYes Asks said_page asked follows_buffer ShownPage LentBy PageStepped Shows
-page_goes (PageAsk x s) bytes h k a q e (old, v) d =
+page_goes (Ok (Ask x s)) bytes h k a q e (old, v) d =
     let g = lent_here _ _ h.block.state.call 10 v.of d in (
       record { told = g.0; buffer = k.lent },
       subst (λ (l : List ℕ). PageKept g.0 k.lent a s l) (sym e) (subst (λ (z : PageCall). PageKept g.0 k.lent a z h.lent) v.state g.1),
       (refl, (h.block.state, g.2)),
     )
-page_goes (PageEnd p m) bytes h k a q e w d = absurd q
-page_goes (PageRefused r) bytes h k a q e w d = absurd q
+page_goes (Ok (End (p, m))) bytes h k a q e w d = absurd q
+page_goes (Err r) bytes h k a q e w d = absurd q
 
 page_tells_at : (t : PageAt) (h : Held) → stands_page_at t → PageShown t h → h.block.next ≡ prompt filled_of (said_page_at t)
 page_tells_at t h s v = page_tells t.told t.buffer h.block s.0 v.1
 
-page_goes_at : (t : PageAt) (h k : Held) (a : Answer) → IfYes Asks (said_page_at t) → PageShown t h → PagePromise (Known a) h k → (u : PageAt) × follows_page t a u × PageShown u k
+page_goes_at : (t : PageAt) (h k : Held) (a : Answer) → IfYes Asks (said_page_at t) → PageShown t h → PagePromise (Some a) h k → (u : PageAt) × follows_page t a u × PageShown u k
 page_goes_at t h k a q v d = page_goes t.told t.buffer h k a q v.0 v.1 d
 
 too_short : {A : Type 0} (bytes : List ℕ) (o : Asked Port) (e f : Bool) (p : Port → Prog A) → f ≡ false → Refuses (asked (lent bytes (and_then o (λ port. question e 4 (question f 9 (yes (p port)))))))
@@ -849,10 +810,10 @@ too_short bytes (yes port) false f p h = tt
 
 page_leaves_so : (t : PageTold) (bytes : List ℕ) (v : Counted Filled) → Ended (asked (said_page t bytes)) [] v → bytes ≡ v.result.buffer
 unfolding said_page asked Ended run on_answer
-page_leaves_so (PageAsk x (PageGoing port q form tries m s)) bytes v e = no_end e
-page_leaves_so (PageAsk x PageOver) bytes v e = absurd e
-page_leaves_so (PageEnd p m) bytes v e = ap (λ (c : Counted Filled). c.result.buffer) (same_end e)
-page_leaves_so (PageRefused q) bytes v e = absurd e
+page_leaves_so (Ok (Ask x (Some (port, q, form, tries, m, s)))) bytes v e = no_end e
+page_leaves_so (Ok (Ask x None)) bytes v e = absurd e
+page_leaves_so (Ok (End (p, m))) bytes v e = ap (λ (c : Counted Filled). c.result.buffer) (same_end e)
+page_leaves_so (Err q) bytes v e = absurd e
 
 -- by the form of the page; what the opening says then
 module _ (form : Form) (family device lan attempts : ℕ) (bytes : List ℕ) where
@@ -864,10 +825,10 @@ module _ (form : Form) (family device lan attempts : ℕ) (bytes : List ℕ) whe
   refuses_bytes q e = too_short bytes (open_port family device lan) _ (buffer_fits bytes) _ e
 
   module _ (over : State) (b : Block) (ks : List (Turn Held)) (d : Driven block_of_held PagePromise (record { block = b; lent = bytes }) ks) where
-    form_seen : (g : Named) → OpenedBy g (λ q. Shows (TellsPageOpen (opens q) q family device lan form attempts bytes) ShownPage over) over b
+    form_seen : (g : (Option Sequence)) → OpenedBy g (λ q. Shows (TellsPageOpen (opens q) q family device lan form attempts bytes) ShownPage over) over b
         → seen block_of_held (record { block = b; lent = bytes }) ks ≡ named_seen g (λ q. asked_seen filled_of (run_asked (asked (opens q)) (answers_in ks)))
     unfolding OpenedBy named_seen Shows refused_block prompt asked_seen run_asked Refuses
-    form_seen (NamedKnown q) (t, k, h) = by (buffer_fits bytes) refl
+    form_seen (Some q) (t, k, h) = by (buffer_fits bytes) refl
       where
         by : (f : Bool) → buffer_fits bytes ≡ f → seen block_of_held (record { block = b; lent = bytes }) ks ≡ asked_seen filled_of (run_asked (asked (opens q)) (answers_in ks))
         by true e =
@@ -876,7 +837,7 @@ module _ (form : Form) (family device lan attempts : ℕ) (bytes : List ℕ) whe
         by false e =
             not_stepped filled_of block_of_held PagePromise (asked (opens q)) (record { block = b; lent = bytes }) ks (refuses_bytes q e)
             (page_tells t bytes b k.limits (over, h) ∙ ap (λ q. prompt filled_of (asked q)) k.yields) d
-    form_seen NamedUnknown h =
+    form_seen None h =
         not_stepped filled_of block_of_held PagePromise (no 13) (record { block = b; lent = bytes }) ks tt (ap (λ (c : Block). c.next) h) d
 
     form_leaves : (q : Sequence) → Shows (TellsPageOpen (opens q) q family device lan form attempts bytes) ShownPage over b → (v : Counted Filled) → Ended (asked (opens q)) (answers_in ks) v
@@ -963,10 +924,10 @@ handed_one (Read r) v l = handed_by v l
 handed_one (Write r w) v l = handed_by v l
 handed_one (Wait t) v l = handed_by v l
 
-handed_ended : (o : Outcome) (m : Meter) (l : List ℕ) → and_handed (outcome_of o m) l ≡ l
+handed_ended : (o : (Result (Unit {0}) Error)) (m : Meter) (l : List ℕ) → and_handed (outcome_of o m) l ≡ l
 unfolding and_handed outcome_of ended_of failed_of next_of names_access
-handed_ended OutcomeOk m l = refl
-handed_ended (OutcomeErr e) m l = refl
+handed_ended (Ok tt) m l = refl
+handed_ended (Err e) m l = refl
 
 -- a script, the same at each step: the accesses and the end
 bare_asked : (x : Access) (handed : ℕ) → bare (asked_of x handed) ≡ asked_of x 0
@@ -975,10 +936,10 @@ bare_asked (Read r) handed = refl
 bare_asked (Write r v) handed = refl
 bare_asked (Wait t) handed = refl
 
-bare_outcome : (o : Outcome) (m : Meter) → bare (outcome_of o m) ≡ outcome_of o m
+bare_outcome : (o : (Result (Unit {0}) Error)) (m : Meter) → bare (outcome_of o m) ≡ outcome_of o m
 unfolding bare outcome_of ended_of failed_of next_of names_access
-bare_outcome OutcomeOk m = refl
-bare_outcome (OutcomeErr e) m = refl
+bare_outcome (Ok tt) m = refl
+bare_outcome (Err e) m = refl
 
 bare_refused : (n : ℕ) → bare (refused_of n) ≡ refused_of n
 unfolding bare refused_of next_of names_access
@@ -995,33 +956,33 @@ ScriptKept script u a c = Bounds (said_script u script ≡ step_script c script 
 module _ (script : List ℕ) where
   script_tells : (t : ScriptTold) (b : Block) → stands_script t script → ShownBy ShownScript t b → bare b.next ≡ prompt (metered_of done_of) (said_script t script)
   unfolding stands_script ShownScript said_script prompt prompt_in refused_block
-  script_tells (ScriptAsk x (ScriptGoing port m s)) b stands (old, h) = ap bare h.shows ∙ bare_asked x 0
-  script_tells (ScriptAsk x ScriptOver) b stands (old, h) = absurd stands
-  script_tells (ScriptRead v x (ScriptGoing port m s)) b stands (old, h) = ap bare h.shows ∙ bare_asked x _
-  script_tells (ScriptRead v x ScriptOver) b stands (old, h) = absurd stands
-  script_tells (ScriptEnd o m) b stands (old, h) = ap bare h.shows ∙ bare_outcome o m ∙ outcome_is o m
-  script_tells (ScriptRefused q) b stands (old, h) = ap (λ (c : Block). bare c.next) h ∙ bare_refused _
+  script_tells (Ok (SaidAsk x (Some (port, m, s)))) b stands (old, h) = ap bare h.shows ∙ bare_asked x 0
+  script_tells (Ok (SaidAsk x None)) b stands (old, h) = absurd stands
+  script_tells (Ok (SaidRead v x (Some (port, m, s)))) b stands (old, h) = ap bare h.shows ∙ bare_asked x _
+  script_tells (Ok (SaidRead v x None)) b stands (old, h) = absurd stands
+  script_tells (Ok (SaidEnd o m)) b stands (old, h) = ap bare h.shows ∙ bare_outcome o m ∙ outcome_is o m
+  script_tells (Err q) b stands (old, h) = ap (λ (c : Block). bare c.next) h ∙ bare_refused _
 
-  script_goes : (t : ScriptTold) (b c : Block) (a : Answer) → IfYes Asks (said_script t script) → ShownBy ShownScript t b → ScriptPromise script (Known a) b c → (u : ScriptTold) × follows_script script t a u × ShownBy ShownScript u c
+  script_goes : (t : ScriptTold) (b c : Block) (a : Answer) → IfYes Asks (said_script t script) → ShownBy ShownScript t b → ScriptPromise script (Some a) b c → (u : ScriptTold) × follows_script script t a u × ShownBy ShownScript u c
   unfolding IfYes Asks said_script follows_script ShownScript AnsweredBy ScriptStepped Shows
-  script_goes (ScriptAsk x s) b c a k (old, h) d =
+  script_goes (Ok (SaidAsk x s)) b c a k (old, h) d =
       let g = lent_here _ _ b.state.call 9 h.of d in
       (g.0, subst (λ (z : ScriptCall). ScriptKept script g.0 a z) h.state g.1, (b.state, g.2))
-  script_goes (ScriptRead v x s) b c a k (old, h) d =
+  script_goes (Ok (SaidRead v x s)) b c a k (old, h) d =
       let g = lent_here _ _ b.state.call 9 h.of d in
       (g.0, subst (λ (z : ScriptCall). ScriptKept script g.0 a z) h.state g.1, (b.state, g.2))
-  script_goes (ScriptEnd o m) b c a k h d = absurd k
-  script_goes (ScriptRefused q) b c a k h d = absurd k
+  script_goes (Ok (SaidEnd o m)) b c a k h d = absurd k
+  script_goes (Err q) b c a k h d = absurd k
 
   -- the byte that goes with a block
   handed_now : (t : ScriptTold) (b : Block) (l : List ℕ) → stands_script t script → ShownBy ShownScript t b → and_handed b.next l ≡ given_at (said_script t script) l
   unfolding stands_script ShownScript said_script and_handed given_at given_in names_access asked_of outcome_of ended_of failed_of refused_of next_of refused_block
-  handed_now (ScriptAsk x (ScriptGoing port m s)) b l stands (old, h) = ap (λ n. and_handed n l) h.shows ∙ handed_none x l
-  handed_now (ScriptAsk x ScriptOver) b l stands (old, h) = absurd stands
-  handed_now (ScriptRead v x (ScriptGoing port m s)) b l stands (old, h) = ap (λ n. and_handed n l) h.shows ∙ handed_one x v l
-  handed_now (ScriptRead v x ScriptOver) b l stands (old, h) = absurd stands
-  handed_now (ScriptEnd o m) b l stands (old, h) = ap (λ n. and_handed n l) h.shows ∙ handed_ended o m l
-  handed_now (ScriptRefused q) b l stands (old, h) = ap (λ (c : Block). and_handed c.next l) h
+  handed_now (Ok (SaidAsk x (Some (port, m, s)))) b l stands (old, h) = ap (λ n. and_handed n l) h.shows ∙ handed_none x l
+  handed_now (Ok (SaidAsk x None)) b l stands (old, h) = absurd stands
+  handed_now (Ok (SaidRead v x (Some (port, m, s)))) b l stands (old, h) = ap (λ n. and_handed n l) h.shows ∙ handed_one x v l
+  handed_now (Ok (SaidRead v x None)) b l stands (old, h) = absurd stands
+  handed_now (Ok (SaidEnd o m)) b l stands (old, h) = ap (λ n. and_handed n l) h.shows ∙ handed_ended o m l
+  handed_now (Err q) b l stands (old, h) = ap (λ (c : Block). and_handed c.next l) h
 
   module _ (j : judged script ≡ 0) where
     told_hands : (t : ScriptTold) (b : Block) (ks : List (Turn Block)) → stands_script t script → ShownBy ShownScript t b → Driven bare_block (ScriptPromise script) b ks → handed_in b ks ≡ bytes_of (run_asked (said_script t script) (answers_in ks))
@@ -1034,7 +995,7 @@ module _ (script : List ℕ) where
         ∙ given_first (said_script t script) i.given.answer (answers_in ks) i.asked
         ∙ ap (λ g. bytes_of (run_asked (said_script t script) (and_given g (answers_in ks)))) (sym i.given.is)
 
-handed_refused : {A : Type 0} (N : A → Next) (Promise : Given → Block → Block → Type 0) (b : Block) (q : Asked (Prog A)) (ks : List (Turn Block)) → Refuses q → bare b.next ≡ prompt N q → and_handed b.next [] ≡ given_at q [] → Driven bare_block Promise b ks → handed_in b ks ≡ bytes_of (run_asked q (answers_in ks))
+handed_refused : {A : Type 0} (N : A → Next) (Promise : (Option Answer) → Block → Block → Type 0) (b : Block) (q : Asked (Prog A)) (ks : List (Turn Block)) → Refuses q → bare b.next ≡ prompt N q → and_handed b.next [] ≡ given_at q [] → Driven bare_block Promise b ks → handed_in b ks ≡ bytes_of (run_asked q (answers_in ks))
 unfolding Refuses handed_in answers_in Driven prompt names_access refused_of next_of
 handed_refused N Promise b (yes p) ks r e g d = absurd r
 handed_refused N Promise b (no n) [] r e g d = g ∙ given_last (no n)

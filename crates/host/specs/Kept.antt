@@ -1,27 +1,20 @@
 -- A command gives its lock back after its body failed: the body's failure is the result's, whatever fails there.
-use Rattle.std.specs.Prelude.{ℕ, Bool, true, false, eqb}
-use Rattle.hardware.specs.declared.Byte.{Byte}
-use Rattle.hardware.specs.declared.Byte.TheVariants.{Ok, Err}
+use Rattle.std.specs.Prelude.{ℕ, Bool, true, false, eqb, Ok, Err, Result, Some, None}
 use Rattle.hostif.specs.declared.command.Command.{Command}
 use Rattle.hostif.specs.declared.command.Command.TheVariants.{Acquiring, Requesting, Responding, Releasing}
-use Rattle.hostif.specs.declared.calls.CommandCall.{CommandCall}
-use Rattle.hostif.specs.declared.calls.CommandCall.TheVariants.{Going as CommandGoing, Over as CommandOver}
-use Rattle.hostif.specs.declared.calls.TokenCall.{TokenCall}
-use Rattle.hostif.specs.declared.calls.TokenCall.TheVariants.{Going as TokenGoing, Over as TokenOver}
 use Rattle.acquire.specs.declared.acquire.Stage.{Stage}
 use Rattle.acquire.specs.declared.acquire.Stage.TheVariants.{Bits as StageBits, Token as StageToken, Releasing as StageReleasing, Waiting as StageWaiting}
 use Rattle.acquire.specs.declared.release.Release.{Release}
 use Rattle.acquire.specs.declared.release.Release.TheVariants.{Token as ReleaseToken, Bits as ReleaseBits}
-use Rattle.acquire.specs.declared.calls.AcquireCall.{AcquireCall}
-use Rattle.acquire.specs.declared.calls.AcquireCall.TheVariants.{Going as AcquireGoing, Over as AcquireOver}
-use Rattle.acquire.specs.declared.calls.ReleaseCall.{ReleaseCall}
-use Rattle.acquire.specs.declared.calls.ReleaseCall.TheVariants.{Going as ReleaseGoing, Over as ReleaseOver}
 use Rattle.flat.specs.declared.State.{State}
 use Rattle.flat.specs.Pick.{pick}
 use Rattle.flat.specs.Hostif.{the_command_call, the_token_call}
 use Rattle.flat.specs.Acquire.{the_acquire_call, the_release_call}
+use Rattle.hardware.specs.declared.Error.{Error}
+use Rattle.hostif.specs.Aliases.{CommandCall, TokenCall}
+use Rattle.acquire.specs.Aliases.{ReleaseCall, AcquireCall}
 
-unfoldable pub failed : Byte → Bool
+unfoldable pub failed : (Result ℕ Error) → Bool
 failed (Ok b) = false
 failed (Err e) = true
 
@@ -43,20 +36,20 @@ in_release (ReleaseToken t) = in_command t.command
 in_release (ReleaseBits s o) = false
 
 unfoldable pub in_command_call : CommandCall → Bool
-in_command_call (CommandGoing port t) = in_command t
-in_command_call CommandOver = false
+in_command_call (Some (port, t)) = in_command t
+in_command_call None = false
 
 unfoldable pub in_token_call : TokenCall → Bool
-in_token_call (TokenGoing port take t) = in_command t.command
-in_token_call TokenOver = false
+in_token_call (Some (port, take, t)) = in_command t.command
+in_token_call None = false
 
 unfoldable pub in_acquire_call : AcquireCall → Bool
-in_acquire_call (AcquireGoing port mask t) = in_stage t.stage
-in_acquire_call AcquireOver = false
+in_acquire_call (Some (port, mask, t)) = in_stage t.stage
+in_acquire_call None = false
 
 unfoldable pub in_release_call : ReleaseCall → Bool
-in_release_call (ReleaseGoing port mask t) = in_release t
-in_release_call ReleaseOver = false
+in_release_call (Some (port, mask, t)) = in_release t
+in_release_call None = false
 
 unfoldable pub kept_as : ℕ → State → Bool
 kept_as call s =

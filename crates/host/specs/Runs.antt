@@ -1,5 +1,5 @@
 -- Whole calls as a host drives them through the exports: what it sees and what it gives is numbers.
-use Rattle.std.specs.Prelude.{ℕ, ◌-◌, ◌<◌, ◌≤◌, ◌^◌, ◌≡◌, Bool, true, false, List, [], ◌∷◌, T, eqb, leb, ltb, get_or, length}
+use Rattle.std.specs.Prelude.{ℕ, ◌-◌, ◌<◌, ◌≤◌, ◌^◌, ◌≡◌, Bool, true, false, List, [], ◌∷◌, T, eqb, leb, ltb, get_or, length, Some, None, Option}
 use Rattle.hardware.specs.declared.Access.{Access}
 use Rattle.hardware.specs.declared.Answer.{Answer}
 use Rattle.hardware.specs.declared.Answer.TheVariants.{Value, Done, Failed}
@@ -13,10 +13,6 @@ use Rattle.transfer.specs.declared.attempt.Sequence.{Sequence}
 use Rattle.flat.specs.Pick.{bit, pick}
 use Rattle.host.specs.declared.Block.{Block}
 use Rattle.host.specs.declared.Next.{Next}
-use Rattle.host.specs.declared.open.Named.{Named}
-use Rattle.host.specs.declared.open.Named.TheVariants.{Known as NamedKnown, Unknown as NamedUnknown}
-use Rattle.host.specs.declared.step.Given.{Given}
-use Rattle.host.specs.declared.step.Given.TheVariants.{Known, Unknown}
 use Rattle.host.specs.Next.{asked_of, ended_of, next_of, refused_of}
 use Rattle.host.specs.Step.{answered, AnsweredBy, CommandStepped, LentBy, PageStepped, ScriptStepped, Stepped}
 
@@ -69,9 +65,9 @@ Ended (no n) l v = ⊥
 Ended (yes p) l v = (run p l).status ≡ ended v
 
 -- of an opening whose sequence has a number
-unfoldable pub named_seen : Named → (Sequence → List Next) → List Next
-named_seen (NamedKnown q) s = s q
-named_seen NamedUnknown s = refused_of 13 ∷ []
+unfoldable pub named_seen : (Option Sequence) → (Sequence → List Next) → List Next
+named_seen (Some q) s = s q
+named_seen None s = refused_of 13 ∷ []
 
 -- A step as its host makes it: the answer, by its kind and value, and what the host holds after it
 pub record Turn (Host : Type 0) : Type 0 where
@@ -94,9 +90,9 @@ last_held h [] = h
 last_held h (k ∷ ks) = last_held k.after ks
 
 -- the answers that it gives; a kind that is none is none
-unfoldable pub and_given : Given → List Answer → List Answer
-and_given (Known a) l = a ∷ l
-and_given Unknown l = l
+unfoldable pub and_given : (Option Answer) → List Answer → List Answer
+and_given (Some a) l = a ∷ l
+and_given None l = l
 
 unfoldable pub answers_in : {Host : Type 0} → List (Turn Host) → List Answer
 answers_in [] = []
@@ -115,34 +111,34 @@ awaits kind (Value v) = eqb kind 0
 awaits kind Done = ltb 0 kind
 awaits kind Failed = ltb kind 2
 
-unfoldable pub Awaits : ℕ → Given → Type 0
-Awaits kind (Known a) = T (awaits kind a)
-Awaits kind Unknown = ⊥
+unfoldable pub Awaits : ℕ → (Option Answer) → Type 0
+Awaits kind (Some a) = T (awaits kind a)
+Awaits kind None = ⊥
 
 -- the host steps where an access is next, with an answer of the awaited kind, and the step keeps the promise of its export
-pub record Drives {Host : Type 0} (blockIn : Host → Block) (Promise : Given → Host → Host → Type 0) (h : Host) (k : Turn Host) : Type 0 where
+pub record Drives {Host : Type 0} (blockIn : Host → Block) (Promise : (Option Answer) → Host → Host → Type 0) (h : Host) (k : Turn Host) : Type 0 where
   pub names : T (names_access (blockIn h).next)
   pub fits : Awaits (blockIn h).next.kind (answered k.kind k.value)
   pub typed : k.value < 2 ^ 32
   pub promised : Promise (answered k.kind k.value) h k.after
 
-unfoldable pub Driven : {Host : Type 0} → (Host → Block) → (Given → Host → Host → Type 0) → Host → List (Turn Host) → Type 0
+unfoldable pub Driven : {Host : Type 0} → (Host → Block) → ((Option Answer) → Host → Host → Type 0) → Host → List (Turn Host) → Type 0
 Driven blockIn Promise h [] = Unit {0}
 Driven blockIn Promise h (k ∷ ks) = Drives blockIn Promise h k × Driven blockIn Promise k.after ks
 
 -- the promises of `sulfryk_step`, of `sulfryk_script_step`, which is lent the same script each time, of `sulfryk_command_step`,
 -- where the lent block keeps its length, and of `sulfryk_page_step`
-abbrev pub StepPromise : Given → Block → Block → Type 0
+abbrev pub StepPromise : (Option Answer) → Block → Block → Type 0
 StepPromise g b c = AnsweredBy g (λ a. Stepped b.state a) b.state c
 
-abbrev pub ScriptPromise : List ℕ → Given → Block → Block → Type 0
+abbrev pub ScriptPromise : List ℕ → (Option Answer) → Block → Block → Type 0
 ScriptPromise script g b c = AnsweredBy g (λ a. ScriptStepped b.state script a) b.state c
 
-abbrev pub CommandPromise : Given → Held → Held → Type 0
+abbrev pub CommandPromise : (Option Answer) → Held → Held → Type 0
 CommandPromise g h k =
     LentBy g (λ a. CommandStepped h.block.state h.lent k.lent a) h.block.state h.lent k.lent k.block × (length k.lent ≡ length h.lent)
 
-abbrev pub PagePromise : Given → Held → Held → Type 0
+abbrev pub PagePromise : (Option Answer) → Held → Held → Type 0
 PagePromise g h k = LentBy g (λ a. PageStepped h.block.state h.lent k.lent a) h.block.state h.lent k.lent k.block
 
 abbrev pub itself : Block → Block

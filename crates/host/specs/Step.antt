@@ -1,5 +1,5 @@
 -- What a step gives: by the number of the state's call the block shows what that call's step tells.
-use Rattle.std.specs.Prelude.{ℕ, ◌≤◌, ◌-◌, ◌≡◌, Bool, true, false, List, ◌∷◌, eqb}
+use Rattle.std.specs.Prelude.{ℕ, ◌≤◌, ◌-◌, ◌≡◌, Bool, true, false, List, ◌∷◌, eqb, Some, None, Option}
 use Rattle.hardware.specs.declared.Answer.{Answer}
 use Rattle.hardware.specs.declared.Answer.TheVariants.{Value, Done, Failed}
 use Rattle.hardware.specs.Promise.{Bounds}
@@ -31,24 +31,22 @@ use Rattle.transfer.specs.Left.{call_left, script_left}
 use Rattle.page.specs.Walk.{Fills}
 use Rattle.page.specs.Calls.{said_page, stands_page, step_page, buffer_after, FilledAs, filled_call}
 use Rattle.host.specs.declared.Block.{Block}
-use Rattle.host.specs.declared.step.Given.{Given}
-use Rattle.host.specs.declared.step.Given.TheVariants.{Known, Unknown}
 use Rattle.host.specs.Shown.{Shows, refused_block, ShownTransfer, ShownSetup, ShownIdentify, ShownRate, ShownLight, ShownAcquire, ShownRelease, ShownToken, ShownCommand, ShownScript, ShownPage}
 use Rattle.host.specs.Tells.{TellsTransfer, TellsSetup, TellsIdentify, TellsRate, TellsLight, TellsAcquire, TellsRelease, TellsToken}
 
 -- an answer by numbers
-unfoldable pub answered : ℕ → ℕ → Given
-answered kind value = pick (eqb kind 0) (Known (Value value)) (pick (eqb kind 1) (Known Done) (pick (eqb kind 2) (Known Failed) Unknown))
+unfoldable pub answered : ℕ → ℕ → (Option Answer)
+answered kind value = pick (eqb kind 0) (Some (Value value)) (pick (eqb kind 1) (Some Done) (pick (eqb kind 2) (Some Failed) None))
 
 -- 12: the kind is that of an answer
-unfoldable pub AnsweredBy : Given → (Answer → Block → Type 0) → State → Block → Type 0
-AnsweredBy (Known a) Steps old b = Steps a b
-AnsweredBy Unknown Steps old b = b ≡ refused_block 12 old
+unfoldable pub AnsweredBy : (Option Answer) → (Answer → Block → Type 0) → State → Block → Type 0
+AnsweredBy (Some a) Steps old b = Steps a b
+AnsweredBy None Steps old b = b ≡ refused_block 12 old
 
 -- the same where a buffer is lent: a refusal leaves it as it was
-unfoldable pub LentBy : Given → (Answer → Block → Type 0) → State → List ℕ → List ℕ → Block → Type 0
-LentBy (Known a) Steps old before after b = Steps a b
-LentBy Unknown Steps old before after b = (b ≡ refused_block 12 old) × (after ≡ before)
+unfoldable pub LentBy : (Option Answer) → (Answer → Block → Type 0) → State → List ℕ → List ℕ → Block → Type 0
+LentBy (Some a) Steps old before after b = Steps a b
+LentBy None Steps old before after b = (b ≡ refused_block 12 old) × (after ≡ before)
 
 abbrev pub choose : Bool → Type 0 → Type 0 → Type 0
 choose true A B = A

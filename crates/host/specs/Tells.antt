@@ -6,35 +6,32 @@ use Rattle.hardware.specs.Lent.{Lent}
 use Rattle.hardware.specs.Promise.{Keeps, Bounds, Stores}
 use Rattle.hardware.specs.Prog.{Prog, R, Counted}
 use Rattle.transfer.specs.declared.attempt.Sequence.{Sequence}
-use Rattle.transfer.specs.declared.calls.ScriptTold.{ScriptTold}
 use Rattle.transfer.specs.Calls.{open_script, said_script, stands_script}
 use Rattle.transfer.specs.Left.{COMMANDS_STEPS, script_left}
-use Rattle.hostif.specs.declared.calls.CommandTold.{CommandTold}
 use Rattle.hostif.specs.Calls.{open_command, said_command, stands_command}
 use Rattle.hostif.specs.Left.{opened_left, told_left}
 use Rattle.page.specs.declared.walk.Form.{Form}
-use Rattle.page.specs.declared.calls.PageTold.{PageTold}
 use Rattle.page.specs.Page.{Filled}
 use Rattle.page.specs.Walk.{filled_from}
 use Rattle.page.specs.Calls.{FilledAs, said_page, stands_page}
 use Rattle.sfp.specs.declared.Identity.{Identity}
 use Rattle.light.specs.declared.sensed.Measures.{Measures}
-use Rattle.i2c.specs.declared.calls.TransferTold.{TransferTold}
 use Rattle.i2c.specs.Calls.{said_transfer, stands_transfer}
-use Rattle.i2c.specs.declared.calls.SetupTold.{SetupTold}
 use Rattle.i2c.specs.Calls.{said_setup, stands_setup}
-use Rattle.identify.specs.declared.calls.IdentifyTold.{IdentifyTold}
 use Rattle.identify.specs.Calls.{said_identify, stands_identify}
-use Rattle.softrate.specs.declared.calls.RateTold.{RateTold}
 use Rattle.softrate.specs.Calls.{said_rate, stands_rate}
-use Rattle.light.specs.declared.calls.LightTold.{LightTold}
 use Rattle.light.specs.Calls.{said_light, stands_light}
-use Rattle.acquire.specs.declared.calls.AcquireTold.{AcquireTold}
 use Rattle.acquire.specs.Calls.{said_acquire, stands_acquire}
-use Rattle.acquire.specs.declared.calls.ReleaseTold.{ReleaseTold}
 use Rattle.acquire.specs.Calls.{said_release, stands_release}
-use Rattle.hostif.specs.declared.calls.TokenTold.{TokenTold}
 use Rattle.hostif.specs.Calls.{said_token, stands_token}
+use Rattle.hostif.specs.Aliases.{CommandTold, TokenTold}
+use Rattle.light.specs.Aliases.{LightTold}
+use Rattle.acquire.specs.Aliases.{AcquireTold, ReleaseTold}
+use Rattle.i2c.specs.Aliases.{TransferTold, SetupTold}
+use Rattle.softrate.specs.Aliases.{RateTold}
+use Rattle.identify.specs.Aliases.{IdentifyTold}
+use Rattle.transfer.specs.Aliases.{ScriptTold}
+use Rattle.page.specs.Aliases.{PageTold}
 
 abbrev pub TellsTransfer : Asked (Prog (Counted (R ℕ))) → TransferTold → Type 0
 TellsTransfer p t = Keeps (said_transfer t ≡ p) (stands_transfer t)

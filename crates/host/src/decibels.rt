@@ -2,8 +2,6 @@
 ghost use Rattle.std.specs.Prelude.{◌≡◌};
 ghost use Rattle.host.specs.Decibels.{Levelled, decibels_of};
 
-use level::dbm::Level;
-
 // tenths: the level in tenths of a dBm. number: 0, or 30 where the count is 0, which has no level.
 #[repr(C)]
 #[derive(Clone, Copy)]
@@ -13,15 +11,15 @@ pub struct Decibels {
 }
 
 #[tactic(auto, unfolding(crate::specs::Decibels::decibels_of))]
-fn shown(l: Level) -> Decibels
+fn shown(l: Option<i16>) -> Decibels
     ensures { result ≡ decibels_of l }
 {
     match l {
-        Level::Tenths(t) => Decibels {
+        Some(t) => Decibels {
             number: 0,
             tenths: t,
         },
-        Level::None => Decibels {
+        None => Decibels {
             number: 30,
             tenths: 0,
         },

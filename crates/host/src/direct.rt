@@ -1,20 +1,18 @@
 // The direct way through a step that stays inside a command, from the numbers of a state: it reads what such a step goes by, and
-// puts back the job alone. It never refuses: where it says `Slow`, the step goes the plain way.
+// puts back the job alone. It never refuses: where it says `None`, the step goes the plain way.
 ghost use Rattle.std.specs.Prelude.{◌≡◌};
 ghost use Rattle.bus.specs.Quick.{MovedBy};
 ghost use Rattle.host.specs.Direct.{shape, port_in, meter_in, job_in, with_job, moved_block, TransferTerms, IdentifyTerms, RateTerms, TermsOf};
 ghost use Rattle.host.specs.Step.{AnsweredBy, Stepped};
 
-use crate::step::Given;
 use bus::job::Job;
-use bus::quick::Moved;
 use flat::State;
 use flat::of_bus::JobFlat;
 use flat::of_hardware::{MeterFlat, PortFlat};
 use flat::of_i2c::RequestFlat;
 use flat::of_identify::PlaceFlat;
 use flat::of_softrate::SpotFlat;
-use hardware::{Answer, Meter, Port};
+use hardware::{Access, Answer, Meter, Port};
 use i2c::once::Request;
 
 // A call's request with its limits. held: the rest of what question 10 asks of the call's state.
@@ -168,7 +166,7 @@ fn terms_of(p: Port, m: Meter, s: State) -> Terms
 
 // A step with an answer of a kind that there is.
 #[tactic(auto, unfolding(bus::specs::Quick::MovedBy))]
-fn inside(s: State, a: Answer) -> Moved
+fn inside(s: State, a: Answer) -> Option<(Access, Job)>
     ensures { MovedBy (λ x next. Stepped s a (moved_block s x next)) result }
 {
     if shaped(s) {
@@ -182,15 +180,12 @@ fn inside(s: State, a: Answer) -> Moved
             }
         }
     }
-    Moved::Slow
+    None
 }
 
 #[tactic(auto, unfolding(crate::specs::Step::AnsweredBy, bus::specs::Quick::MovedBy))]
-pub fn moved(s: State, g: Given) -> Moved
+pub fn moved(s: State, g: Option<Answer>) -> Option<(Access, Job)>
     ensures { MovedBy (λ x next. AnsweredBy g (λ a. Stepped s a) s (moved_block s x next)) result }
 {
-    match g {
-        Given::Known(a) => inside(s, a),
-        Given::Unknown => Moved::Slow,
-    }
+    inside(s, g?)
 }

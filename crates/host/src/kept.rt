@@ -7,18 +7,18 @@ use acquire::acquire::Stage;
 use acquire::calls::{AcquireCall, ReleaseCall};
 use acquire::release::Release;
 use flat::State;
-use hardware::Byte;
+use hardware::R;
 use hostif::calls::{CommandCall, TokenCall};
 use hostif::command::Command;
 use hostif::token::Token;
 
 #[tactic(auto, unfolding(crate::specs::Kept::failed))]
-fn failed(b: Byte) -> bool
+fn failed(b: R<u8>) -> bool
     ensures { result ≡ failed b }
 {
     match b {
-        Byte::Ok(_) => false,
-        Byte::Err(_) => true,
+        Ok(_) => false,
+        Err(_) => true,
     }
 }
 
@@ -68,8 +68,8 @@ fn in_command_call(c: CommandCall) -> bool
     ensures { result ≡ in_command_call c }
 {
     match c {
-        CommandCall::Going(_, t) => in_command(t),
-        CommandCall::Over => false,
+        Some((_, t)) => in_command(t),
+        None => false,
     }
 }
 
@@ -78,8 +78,8 @@ fn in_token_call(c: TokenCall) -> bool
     ensures { result ≡ in_token_call c }
 {
     match c {
-        TokenCall::Going(_, _, t) => in_token(t),
-        TokenCall::Over => false,
+        Some((_, _, t)) => in_token(t),
+        None => false,
     }
 }
 
@@ -88,11 +88,11 @@ fn in_acquire_call(c: AcquireCall) -> bool
     ensures { result ≡ in_acquire_call c }
 {
     match c {
-        AcquireCall::Going(_, _, t) => {
+        Some((_, _, t)) => {
             let s = t.stage;
             in_stage(s)
         }
-        AcquireCall::Over => false,
+        None => false,
     }
 }
 
@@ -101,8 +101,8 @@ fn in_release_call(c: ReleaseCall) -> bool
     ensures { result ≡ in_release_call c }
 {
     match c {
-        ReleaseCall::Going(_, _, t) => in_release(t),
-        ReleaseCall::Over => false,
+        Some((_, _, t)) => in_release(t),
+        None => false,
     }
 }
 

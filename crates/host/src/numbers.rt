@@ -3,11 +3,10 @@ ghost use Rattle.std.specs.Prelude.{◌≡◌};
 ghost use Rattle.host.specs.Next.{next_of, asked_of, refused_of, failed_of, ended_of, word_of, outcome_of, byte_of, flag_of, identity_of, identified_of, paged_of, reading_kind, reading_count, measures_of, measured_of};
 
 use crate::Next;
-use hardware::{Access, BLANK, Byte, Error, Flag, Meter, Outcome, Refusal, Word};
-use identify::walk::Identified;
-use light::power::Reading;
-use light::sensed::{Measured, Measures};
-use page::sums::Paged;
+use hardware::{Access, BLANK, Error, Meter, R, Refusal};
+use light::power::{PowerError, Reading};
+use light::sensed::{LightError, Measured, Measures};
+use page::sums::{PageError, Paged};
 use sfp::Identity;
 
 // The kinds of what is next.
@@ -81,43 +80,43 @@ fn ended(value: u32, m: Meter) -> Next
 }
 
 #[tactic(auto, unfolding(crate::specs::Next::word_of))]
-pub fn word(w: Word, m: Meter) -> Next
+pub fn word(w: R<u32>, m: Meter) -> Next
     ensures { result ≡ word_of w m }
 {
     match w {
-        Word::Ok(v) => ended(v, m),
-        Word::Err(e) => failed(e, m),
+        Ok(v) => ended(v, m),
+        Err(e) => failed(e, m),
     }
 }
 
 #[tactic(auto, unfolding(crate::specs::Next::outcome_of))]
-pub fn outcome(o: Outcome, m: Meter) -> Next
+pub fn outcome(o: R<()>, m: Meter) -> Next
     ensures { result ≡ outcome_of o m }
 {
     match o {
-        Outcome::Ok => ended(0, m),
-        Outcome::Err(e) => failed(e, m),
+        Ok(()) => ended(0, m),
+        Err(e) => failed(e, m),
     }
 }
 
 #[tactic(auto, unfolding(crate::specs::Next::byte_of))]
-pub fn byte(b: Byte) -> Next
+pub fn byte(b: R<u8>) -> Next
     ensures { result ≡ byte_of b }
 {
     match b {
-        Byte::Ok(v) => ended(v as u32, BLANK),
-        Byte::Err(e) => failed(e, BLANK),
+        Ok(v) => ended(v as u32, BLANK),
+        Err(e) => failed(e, BLANK),
     }
 }
 
 // 1 for true.
 #[tactic(auto, unfolding(crate::specs::Next::flag_of))]
-pub fn flag(f: Flag, m: Meter) -> Next
+pub fn flag(f: R<bool>, m: Meter) -> Next
     ensures { result ≡ flag_of f m }
 {
     match f {
-        Flag::Ok(b) => ended(flat::bit(b) as u32, m),
-        Flag::Err(e) => failed(e, m),
+        Ok(b) => ended(flat::bit(b) as u32, m),
+        Err(e) => failed(e, m),
     }
 }
 
@@ -142,12 +141,12 @@ fn identity(i: Identity, m: Meter) -> Next
 }
 
 #[tactic(auto, unfolding(crate::specs::Next::identified_of))]
-pub fn identified(f: Identified, m: Meter) -> Next
+pub fn identified(f: R<Identity>, m: Meter) -> Next
     ensures { result ≡ identified_of f m }
 {
     match f {
-        Identified::Ok(i) => identity(i, m),
-        Identified::Err(e) => failed(e, m),
+        Ok(i) => identity(i, m),
+        Err(e) => failed(e, m),
     }
 }
 
@@ -156,10 +155,10 @@ pub fn paged(p: Paged, m: Meter) -> Next
     ensures { result ≡ paged_of p m }
 {
     match p {
-        Paged::Ok => ended(0, m),
-        Paged::FirstSum => made(FAILED, 26, 0, 0, m),
-        Paged::SecondSum => made(FAILED, 27, 0, 0, m),
-        Paged::Err(e) => failed(e, m),
+        Ok(()) => ended(0, m),
+        Err(PageError::FirstSum) => made(FAILED, 26, 0, 0, m),
+        Err(PageError::SecondSum) => made(FAILED, 27, 0, 0, m),
+        Err(PageError::Bus(e)) => failed(e, m),
     }
 }
 
@@ -211,9 +210,9 @@ pub fn measured(r: Measured, m: Meter) -> Next
     ensures { result ≡ measured_of r m }
 {
     match r {
-        Measured::Ok(v) => measures(v, m),
-        Measured::Coefficient => made(FAILED, 28, 0, 0, m),
-        Measured::Result => made(FAILED, 29, 0, 0, m),
-        Measured::Err(e) => failed(e, m),
+        Ok(v) => measures(v, m),
+        Err(LightError::Power(PowerError::Coefficient)) => made(FAILED, 28, 0, 0, m),
+        Err(LightError::Power(PowerError::Power)) => made(FAILED, 29, 0, 0, m),
+        Err(LightError::Bus(e)) => failed(e, m),
     }
 }

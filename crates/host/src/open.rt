@@ -21,21 +21,15 @@ ghost use Rattle.host.specs.Open.{named, OpenedBy};
 use crate::Block;
 use transfer::attempt::Sequence;
 
-#[derive(Clone, Copy)]
-pub enum Named {
-    Known(Sequence),
-    Unknown,
-}
-
 #[tactic(auto, unfolding(crate::specs::Open::named))]
-fn by_number(sequence: u32) -> Named
+fn by_number(sequence: u32) -> Option<Sequence>
     ensures { result ≡ named sequence }
 {
     match sequence {
-        0 => Named::Known(i2c::standard()),
-        1 => Named::Known(Sequence::Pulses),
-        2 => Named::Known(Sequence::Rounds),
-        _ => Named::Unknown,
+        0 => Some(i2c::standard()),
+        1 => Some(Sequence::Pulses),
+        2 => Some(Sequence::Rounds),
+        _ => None,
     }
 }
 
@@ -55,13 +49,13 @@ pub extern "C" fn sulfryk_read_byte_open(
 {
     let over = crate::shown::transfer_over();
     match by_number(sequence) {
-        Named::Known(q) => crate::shown::transfer(
+        Some(q) => crate::shown::transfer(
             over,
             i2c::calls::read_byte_open_with(
                 family, device, lan, address, offset, attempts, lock, q,
             ),
         ),
-        Named::Unknown => crate::shown::refused(13, over),
+        None => crate::shown::refused(13, over),
     }
 }
 
@@ -81,11 +75,11 @@ pub extern "C" fn sulfryk_write_byte_open(
 {
     let over = crate::shown::transfer_over();
     match by_number(sequence) {
-        Named::Known(q) => crate::shown::transfer(
+        Some(q) => crate::shown::transfer(
             over,
             i2c::calls::write_byte_open_with(family, device, lan, address, offset, value, lock, q),
         ),
-        Named::Unknown => crate::shown::refused(13, over),
+        None => crate::shown::refused(13, over),
     }
 }
 
@@ -104,11 +98,11 @@ pub extern "C" fn sulfryk_read_combined_open(
 {
     let over = crate::shown::transfer_over();
     match by_number(sequence) {
-        Named::Known(q) => crate::shown::transfer(
+        Some(q) => crate::shown::transfer(
             over,
             i2c::calls::read_combined_open_with(family, device, lan, address, reg, lock, q),
         ),
-        Named::Unknown => crate::shown::refused(13, over),
+        None => crate::shown::refused(13, over),
     }
 }
 
@@ -128,11 +122,11 @@ pub extern "C" fn sulfryk_write_combined_open(
 {
     let over = crate::shown::transfer_over();
     match by_number(sequence) {
-        Named::Known(q) => crate::shown::transfer(
+        Some(q) => crate::shown::transfer(
             over,
             i2c::calls::write_combined_open_with(family, device, lan, address, reg, value, lock, q),
         ),
-        Named::Unknown => crate::shown::refused(13, over),
+        None => crate::shown::refused(13, over),
     }
 }
 
@@ -150,11 +144,11 @@ pub extern "C" fn sulfryk_identify_open(family: u32, device: u16, lan: u32, sequ
 {
     let over = crate::shown::identify_over();
     match by_number(sequence) {
-        Named::Known(q) => crate::shown::identify(
+        Some(q) => crate::shown::identify(
             over,
             identify::calls::identify_open_with(family, device, lan, q),
         ),
-        Named::Unknown => crate::shown::refused(13, over),
+        None => crate::shown::refused(13, over),
     }
 }
 
@@ -170,11 +164,11 @@ pub extern "C" fn sulfryk_identify_qsfp_open(
 {
     let over = crate::shown::identify_over();
     match by_number(sequence) {
-        Named::Known(q) => crate::shown::identify(
+        Some(q) => crate::shown::identify(
             over,
             identify::calls::identify_qsfp_open_with(family, device, lan, q),
         ),
-        Named::Unknown => crate::shown::refused(13, over),
+        None => crate::shown::refused(13, over),
     }
 }
 
@@ -191,11 +185,11 @@ pub extern "C" fn sulfryk_soft_rate_select_open(
 {
     let over = crate::shown::rate_over();
     match by_number(sequence) {
-        Named::Known(q) => crate::shown::rate(
+        Some(q) => crate::shown::rate(
             over,
             softrate::calls::soft_rate_select_open_with(family, device, lan, ten, q),
         ),
-        Named::Unknown => crate::shown::refused(13, over),
+        None => crate::shown::refused(13, over),
     }
 }
 
@@ -212,11 +206,11 @@ pub extern "C" fn sulfryk_light_open(
 {
     let over = crate::shown::light_over();
     match by_number(sequence) {
-        Named::Known(q) => crate::shown::light(
+        Some(q) => crate::shown::light(
             over,
             light::calls::light_open_with(family, device, lan, attempts, q),
         ),
-        Named::Unknown => crate::shown::refused(13, over),
+        None => crate::shown::refused(13, over),
     }
 }
 
@@ -284,11 +278,11 @@ pub extern "C" fn sulfryk_page_open(
 {
     let over = crate::shown::page_over();
     match by_number(sequence) {
-        Named::Known(q) => crate::shown::page(
+        Some(q) => crate::shown::page(
             over,
             page::calls::page_open_with(family, device, lan, attempts, buffer, q),
         ),
-        Named::Unknown => crate::shown::refused(13, over),
+        None => crate::shown::refused(13, over),
     }
 }
 
@@ -306,10 +300,10 @@ pub extern "C" fn sulfryk_qsfp_page_open(
 {
     let over = crate::shown::page_over();
     match by_number(sequence) {
-        Named::Known(q) => crate::shown::page(
+        Some(q) => crate::shown::page(
             over,
             page::calls::qsfp_page_open_with(family, device, lan, attempts, buffer, q),
         ),
-        Named::Unknown => crate::shown::refused(13, over),
+        None => crate::shown::refused(13, over),
     }
 }

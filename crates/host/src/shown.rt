@@ -5,17 +5,17 @@ ghost use Rattle.host.specs.Direct.{moved_block};
 ghost use Rattle.host.specs.Shown.{block_of, refused_block, over_transfer, shown_transfer, over_setup, shown_setup, over_identify, shown_identify, over_rate, shown_rate, over_light, shown_light, over_acquire, shown_acquire, over_release, shown_release, over_token, shown_token, over_command, shown_command, over_script, shown_script, over_page, shown_page};
 
 use crate::{Block, Next};
-use acquire::calls::{AcquireCall, AcquireTold, ReleaseCall, ReleaseTold};
+use acquire::calls::{AcquireTold, ReleaseTold};
 use bus::job::Job;
 use flat::State;
-use hardware::{Access, BLANK, Refusal};
-use hostif::calls::{CommandCall, CommandTold, TokenCall, TokenTold};
-use i2c::calls::{SetupCall, SetupTold, TransferCall, TransferTold};
-use identify::calls::{IdentifyCall, IdentifyTold};
-use light::calls::{LightCall, LightTold};
-use page::calls::{PageCall, PageTold};
-use softrate::calls::{RateCall, RateTold};
-use transfer::calls::{ScriptCall, ScriptTold};
+use hardware::{Access, BLANK, Refusal, Told};
+use hostif::calls::{CommandTold, TokenTold};
+use i2c::calls::{SetupTold, TransferTold};
+use identify::calls::IdentifyTold;
+use light::calls::LightTold;
+use page::calls::PageTold;
+use softrate::calls::RateTold;
+use transfer::calls::{Said, ScriptTold};
 
 fn block(next: Next, state: State) -> Block
     ensures { result ≡ block_of next state }
@@ -49,7 +49,7 @@ fn turned(q: Refusal, old: State) -> Block
 pub fn transfer_over() -> State
     ensures { result ≡ over_transfer }
 {
-    flat::of_i2c::of_transfer_call(TransferCall::Over)
+    flat::of_i2c::of_transfer_call(None)
 }
 
 #[tactic(auto, unfolding(crate::specs::Shown::shown_transfer))]
@@ -57,12 +57,12 @@ pub fn transfer(old: State, t: TransferTold) -> Block
     ensures { result ≡ shown_transfer old t }
 {
     match t {
-        TransferTold::Ask(x, s) => block(
+        Ok(Told::Ask(x, s)) => block(
             crate::numbers::asked(x, 0),
             flat::of_i2c::of_transfer_call(s),
         ),
-        TransferTold::End(w, m) => block(crate::numbers::word(w, m), transfer_over()),
-        TransferTold::Refused(q) => turned(q, old),
+        Ok(Told::End((w, m))) => block(crate::numbers::word(w, m), transfer_over()),
+        Err(q) => turned(q, old),
     }
 }
 
@@ -71,7 +71,7 @@ pub fn transfer(old: State, t: TransferTold) -> Block
 pub fn setup_over() -> State
     ensures { result ≡ over_setup }
 {
-    flat::of_i2c::of_setup_call(SetupCall::Over)
+    flat::of_i2c::of_setup_call(None)
 }
 
 #[tactic(auto, unfolding(crate::specs::Shown::shown_setup))]
@@ -79,9 +79,9 @@ pub fn setup(old: State, t: SetupTold) -> Block
     ensures { result ≡ shown_setup old t }
 {
     match t {
-        SetupTold::Ask(x, s) => block(crate::numbers::asked(x, 0), flat::of_i2c::of_setup_call(s)),
-        SetupTold::End(o) => block(crate::numbers::outcome(o, BLANK), setup_over()),
-        SetupTold::Refused(q) => turned(q, old),
+        Ok(Told::Ask(x, s)) => block(crate::numbers::asked(x, 0), flat::of_i2c::of_setup_call(s)),
+        Ok(Told::End(o)) => block(crate::numbers::outcome(o, BLANK), setup_over()),
+        Err(q) => turned(q, old),
     }
 }
 
@@ -90,7 +90,7 @@ pub fn setup(old: State, t: SetupTold) -> Block
 pub fn identify_over() -> State
     ensures { result ≡ over_identify }
 {
-    flat::of_identify::of_identify_call(IdentifyCall::Over)
+    flat::of_identify::of_identify_call(None)
 }
 
 #[tactic(auto, unfolding(crate::specs::Shown::shown_identify))]
@@ -98,12 +98,12 @@ pub fn identify(old: State, t: IdentifyTold) -> Block
     ensures { result ≡ shown_identify old t }
 {
     match t {
-        IdentifyTold::Ask(x, s) => block(
+        Ok(Told::Ask(x, s)) => block(
             crate::numbers::asked(x, 0),
             flat::of_identify::of_identify_call(s),
         ),
-        IdentifyTold::End(f, m) => block(crate::numbers::identified(f, m), identify_over()),
-        IdentifyTold::Refused(q) => turned(q, old),
+        Ok(Told::End((f, m))) => block(crate::numbers::identified(f, m), identify_over()),
+        Err(q) => turned(q, old),
     }
 }
 
@@ -112,7 +112,7 @@ pub fn identify(old: State, t: IdentifyTold) -> Block
 pub fn rate_over() -> State
     ensures { result ≡ over_rate }
 {
-    flat::of_softrate::of_rate_call(RateCall::Over)
+    flat::of_softrate::of_rate_call(None)
 }
 
 #[tactic(auto, unfolding(crate::specs::Shown::shown_rate))]
@@ -120,12 +120,12 @@ pub fn rate(old: State, t: RateTold) -> Block
     ensures { result ≡ shown_rate old t }
 {
     match t {
-        RateTold::Ask(x, s) => block(
+        Ok(Told::Ask(x, s)) => block(
             crate::numbers::asked(x, 0),
             flat::of_softrate::of_rate_call(s),
         ),
-        RateTold::End(f, m) => block(crate::numbers::flag(f, m), rate_over()),
-        RateTold::Refused(q) => turned(q, old),
+        Ok(Told::End((f, m))) => block(crate::numbers::flag(f, m), rate_over()),
+        Err(q) => turned(q, old),
     }
 }
 
@@ -134,7 +134,7 @@ pub fn rate(old: State, t: RateTold) -> Block
 pub fn light_over() -> State
     ensures { result ≡ over_light }
 {
-    flat::of_light::of_light_call(LightCall::Over)
+    flat::of_light::of_light_call(None)
 }
 
 #[tactic(auto, unfolding(crate::specs::Shown::shown_light))]
@@ -142,12 +142,12 @@ pub fn light(old: State, t: LightTold) -> Block
     ensures { result ≡ shown_light old t }
 {
     match t {
-        LightTold::Ask(x, s) => block(
+        Ok(Told::Ask(x, s)) => block(
             crate::numbers::asked(x, 0),
             flat::of_light::of_light_call(s),
         ),
-        LightTold::End(r, m) => block(crate::numbers::measured(r, m), light_over()),
-        LightTold::Refused(q) => turned(q, old),
+        Ok(Told::End((r, m))) => block(crate::numbers::measured(r, m), light_over()),
+        Err(q) => turned(q, old),
     }
 }
 
@@ -156,7 +156,7 @@ pub fn light(old: State, t: LightTold) -> Block
 pub fn acquire_over() -> State
     ensures { result ≡ over_acquire }
 {
-    flat::of_acquire::of_acquire_call(AcquireCall::Over)
+    flat::of_acquire::of_acquire_call(None)
 }
 
 #[tactic(auto, unfolding(crate::specs::Shown::shown_acquire))]
@@ -164,12 +164,12 @@ pub fn acquire(old: State, t: AcquireTold) -> Block
     ensures { result ≡ shown_acquire old t }
 {
     match t {
-        AcquireTold::Ask(x, s) => block(
+        Ok(Told::Ask(x, s)) => block(
             crate::numbers::asked(x, 0),
             flat::of_acquire::of_acquire_call(s),
         ),
-        AcquireTold::End(o) => block(crate::numbers::outcome(o, BLANK), acquire_over()),
-        AcquireTold::Refused(q) => turned(q, old),
+        Ok(Told::End(o)) => block(crate::numbers::outcome(o, BLANK), acquire_over()),
+        Err(q) => turned(q, old),
     }
 }
 
@@ -178,7 +178,7 @@ pub fn acquire(old: State, t: AcquireTold) -> Block
 pub fn release_over() -> State
     ensures { result ≡ over_release }
 {
-    flat::of_acquire::of_release_call(ReleaseCall::Over)
+    flat::of_acquire::of_release_call(None)
 }
 
 #[tactic(auto, unfolding(crate::specs::Shown::shown_release))]
@@ -186,12 +186,12 @@ pub fn release(old: State, t: ReleaseTold) -> Block
     ensures { result ≡ shown_release old t }
 {
     match t {
-        ReleaseTold::Ask(x, s) => block(
+        Ok(Told::Ask(x, s)) => block(
             crate::numbers::asked(x, 0),
             flat::of_acquire::of_release_call(s),
         ),
-        ReleaseTold::End(o) => block(crate::numbers::outcome(o, BLANK), release_over()),
-        ReleaseTold::Refused(q) => turned(q, old),
+        Ok(Told::End(o)) => block(crate::numbers::outcome(o, BLANK), release_over()),
+        Err(q) => turned(q, old),
     }
 }
 
@@ -200,7 +200,7 @@ pub fn release(old: State, t: ReleaseTold) -> Block
 pub fn token_over() -> State
     ensures { result ≡ over_token }
 {
-    flat::of_hostif::of_token_call(TokenCall::Over)
+    flat::of_hostif::of_token_call(None)
 }
 
 #[tactic(auto, unfolding(crate::specs::Shown::shown_token))]
@@ -208,12 +208,12 @@ pub fn token(old: State, t: TokenTold) -> Block
     ensures { result ≡ shown_token old t }
 {
     match t {
-        TokenTold::Ask(x, s) => block(
+        Ok(Told::Ask(x, s)) => block(
             crate::numbers::asked(x, 0),
             flat::of_hostif::of_token_call(s),
         ),
-        TokenTold::End(f) => block(crate::numbers::flag(f, BLANK), token_over()),
-        TokenTold::Refused(q) => turned(q, old),
+        Ok(Told::End(f)) => block(crate::numbers::flag(f, BLANK), token_over()),
+        Err(q) => turned(q, old),
     }
 }
 
@@ -222,7 +222,7 @@ pub fn token(old: State, t: TokenTold) -> Block
 pub fn command_over() -> State
     ensures { result ≡ over_command }
 {
-    flat::of_hostif::of_command_call(CommandCall::Over)
+    flat::of_hostif::of_command_call(None)
 }
 
 #[tactic(auto, unfolding(crate::specs::Shown::shown_command))]
@@ -230,12 +230,12 @@ pub fn command(old: State, t: CommandTold) -> Block
     ensures { result ≡ shown_command old t }
 {
     match t {
-        CommandTold::Ask(x, s) => block(
+        Ok(Told::Ask(x, s)) => block(
             crate::numbers::asked(x, 0),
             flat::of_hostif::of_command_call(s),
         ),
-        CommandTold::End(b) => block(crate::numbers::byte(b), command_over()),
-        CommandTold::Refused(q) => turned(q, old),
+        Ok(Told::End(b)) => block(crate::numbers::byte(b), command_over()),
+        Err(q) => turned(q, old),
     }
 }
 
@@ -244,7 +244,7 @@ pub fn command(old: State, t: CommandTold) -> Block
 pub fn script_over() -> State
     ensures { result ≡ over_script }
 {
-    flat::of_transfer::of_script_call(ScriptCall::Over)
+    flat::of_transfer::of_script_call(None)
 }
 
 #[tactic(auto, unfolding(crate::specs::Shown::shown_script))]
@@ -252,16 +252,16 @@ pub fn script(old: State, t: ScriptTold) -> Block
     ensures { result ≡ shown_script old t }
 {
     match t {
-        ScriptTold::Ask(x, s) => block(
+        Ok(Said::Ask(x, s)) => block(
             crate::numbers::asked(x, 0),
             flat::of_transfer::of_script_call(s),
         ),
-        ScriptTold::Read(b, x, s) => block(
+        Ok(Said::Read(b, x, s)) => block(
             crate::numbers::asked(x, 256 + b as u32),
             flat::of_transfer::of_script_call(s),
         ),
-        ScriptTold::End(o, m) => block(crate::numbers::outcome(o, m), script_over()),
-        ScriptTold::Refused(q) => turned(q, old),
+        Ok(Said::End(o, m)) => block(crate::numbers::outcome(o, m), script_over()),
+        Err(q) => turned(q, old),
     }
 }
 
@@ -270,7 +270,7 @@ pub fn script(old: State, t: ScriptTold) -> Block
 pub fn page_over() -> State
     ensures { result ≡ over_page }
 {
-    flat::of_page::of_page_call(PageCall::Over)
+    flat::of_page::of_page_call(None)
 }
 
 #[tactic(auto, unfolding(crate::specs::Shown::shown_page))]
@@ -278,8 +278,8 @@ pub fn page(old: State, t: PageTold) -> Block
     ensures { result ≡ shown_page old t }
 {
     match t {
-        PageTold::Ask(x, s) => block(crate::numbers::asked(x, 0), flat::of_page::of_page_call(s)),
-        PageTold::End(p, m) => block(crate::numbers::paged(p, m), page_over()),
-        PageTold::Refused(q) => turned(q, old),
+        Ok(Told::Ask(x, s)) => block(crate::numbers::asked(x, 0), flat::of_page::of_page_call(s)),
+        Ok(Told::End((p, m))) => block(crate::numbers::paged(p, m), page_over()),
+        Err(q) => turned(q, old),
     }
 }

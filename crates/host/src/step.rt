@@ -5,25 +5,18 @@ ghost use Rattle.std.specs.Prelude.{◌≡◌};
 ghost use Rattle.host.specs.Step.{answered, AnsweredBy, SteppedTransfer, SteppedSetup, SteppedIdentify, SteppedRate, SteppedLight, SteppedAcquire, SteppedRelease, SteppedToken, LentBy, Stepped, CommandStepped, ScriptStepped, PageStepped};
 
 use crate::Block;
-use bus::quick::Moved;
 use flat::State;
 use hardware::Answer;
 
-#[derive(Clone, Copy)]
-pub enum Given {
-    Known(Answer),
-    Unknown,
-}
-
 #[tactic(auto, unfolding(crate::specs::Step::answered))]
-fn answered(kind: u32, value: u32) -> Given
+fn answered(kind: u32, value: u32) -> Option<Answer>
     ensures { result ≡ answered kind value }
 {
     match kind {
-        0 => Given::Known(Answer::Value(value)),
-        1 => Given::Known(Answer::Done),
-        2 => Given::Known(Answer::Failed),
-        _ => Given::Unknown,
+        0 => Some(Answer::Value(value)),
+        1 => Some(Answer::Done),
+        2 => Some(Answer::Failed),
+        _ => None,
     }
 }
 
@@ -99,7 +92,7 @@ fn stepped(old: State, kind: u32, value: u32) -> Block
     ensures { AnsweredBy (answered kind value) (λ a. Stepped old a) old result }
 {
     match answered(kind, value) {
-        Given::Known(a) => {
+        Some(a) => {
             let call = old.call;
             match call {
                 0 => transfer(old, a),
@@ -113,7 +106,7 @@ fn stepped(old: State, kind: u32, value: u32) -> Block
                 _ => crate::shown::refused(10, old),
             }
         }
-        Given::Unknown => crate::shown::refused(12, old),
+        None => crate::shown::refused(12, old),
     }
 }
 
@@ -125,8 +118,8 @@ pub extern "C" fn sulfryk_step(state: State, kind: u32, value: u32) -> Block
     // The direct way where there is one, else the plain one. The local takes fewer instructions than the call as the arm's
     // value (`docs/MEASURED.md`).
     match crate::direct::moved(state, answered(kind, value)) {
-        Moved::On(x, j) => crate::shown::moved(x, state, j),
-        Moved::Slow => {
+        Some((x, j)) => crate::shown::moved(x, state, j),
+        None => {
             let b = stepped(state, kind, value);
             b
         }
@@ -158,8 +151,8 @@ pub extern "C" fn sulfryk_command_step(
     ensures { LentBy (answered kind value) (λ a. CommandStepped state block.old block.new a) state block.old block.new result }
 {
     match answered(kind, value) {
-        Given::Known(a) => command_on(state, block, a),
-        Given::Unknown => crate::shown::refused(12, state),
+        Some(a) => command_on(state, block, a),
+        None => crate::shown::refused(12, state),
     }
 }
 
@@ -183,8 +176,8 @@ pub extern "C" fn sulfryk_script_step(state: State, script: &[u8], kind: u32, va
     ensures { AnsweredBy (answered kind value) (λ a. ScriptStepped state script.now a) state result }
 {
     match answered(kind, value) {
-        Given::Known(a) => script_on(state, script, a),
-        Given::Unknown => crate::shown::refused(12, state),
+        Some(a) => script_on(state, script, a),
+        None => crate::shown::refused(12, state),
     }
 }
 
@@ -208,7 +201,7 @@ pub extern "C" fn sulfryk_page_step(state: State, buffer: &mut [u8], kind: u32, 
     ensures { LentBy (answered kind value) (λ a. PageStepped state buffer.old buffer.new a) state buffer.old buffer.new result }
 {
     match answered(kind, value) {
-        Given::Known(a) => page_on(state, buffer, a),
-        Given::Unknown => crate::shown::refused(12, state),
+        Some(a) => page_on(state, buffer, a),
+        None => crate::shown::refused(12, state),
     }
 }

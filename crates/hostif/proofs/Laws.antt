@@ -15,25 +15,24 @@ use Rattle.hardware.proofs.Laws.{below, both_true}
 use Rattle.hostif.specs.Calls.{block_fits}
 use Rattle.hostif.specs.Hostif.{len_of, words_of, words, start, fill, access_request, rest_request, request_next, access_response, rest_response, response_next, valid_response}
 use Rattle.hostif.specs.declared.request.Request.TheVariants.{Word, Start}
-use Rattle.hostif.specs.declared.request.RequestNext.TheVariants.{Going as RequestGoing}
 use Rattle.hostif.specs.declared.response.Response.TheVariants.{Rest}
-use Rattle.hostif.specs.declared.response.ResponseNext.TheVariants.{Going as ResponseGoing}
+use Rattle.hardware.specs.declared.Next.TheVariants.{Going}
 
 -- with a word left, the block is written on from it
-pub words_at : (l : List ℕ) (at hicr : ℕ) → at < length l → request_next (RequestGoing (Word hicr at)) l ≡ erase (words at (drop at l) (start hicr))
+pub words_at : (l : List ℕ) (at hicr : ℕ) → at < length l → request_next (Going (Word hicr at)) l ≡ erase (words at (drop at l) (start hicr))
 unfolding words request_next access_request rest_request erase ◌>>=◌
 words_at l at hicr h = rw (drop-cons l at 0, add-one at)
 
 -- with none left, the command is started
-pub words_none : (l : List ℕ) (at hicr : ℕ) → length l ≤ at → request_next (RequestGoing (Start hicr)) l ≡ erase (words at (drop at l) (start hicr))
+pub words_none : (l : List ℕ) (at hicr : ℕ) → length l ≤ at → request_next (Going (Start hicr)) l ≡ erase (words at (drop at l) (start hicr))
 unfolding words start request_next access_request rest_request erase ◌>>=◌
 words_none l at hicr h = rw (drop_of_length-le l h)
 
 -- with a word left, the response is read on
-pub fill_more : (head left : ℕ) (l : List ℕ) → (left ≡ 0 → ⊥) → response_next (ResponseGoing (Rest head (left - 1))) l ≡ erase (fill head left l)
+pub fill_more : (head left : ℕ) (l : List ℕ) → (left ≡ 0 → ⊥) → response_next (Going (Rest head (left - 1))) l ≡ erase (fill head left l)
 unfolding fill response_next access_response rest_response erase ◌>>=◌
 fill_more head zero l h = absurd (h refl)
-fill_more head (suc n) l h = ap (λ m. response_next (ResponseGoing (Rest head m)) l) (sub-one (suc n))
+fill_more head (suc n) l h = ap (λ m. response_next (Going (Rest head m)) l) (sub-one (suc n))
 
 -- a list of two words is its first and its second
 pub two_words : (l : List ℕ) → length l ≡ 2 → get_or l 0 0 ∷ get_or l 1 0 ∷ [] ≡ l

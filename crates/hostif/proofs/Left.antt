@@ -4,14 +4,12 @@ use mathlib.Core.Path.{◌≡◌, refl}
 use native.Mathlib.Omega.{arith}
 use Rattle.hardware.specs.declared.Port.{Port}
 use Rattle.hardware.specs.declared.Update.TheVariants.{Reading}
-use Rattle.hardware.specs.declared.UpdateNext.TheVariants.{Going as UpdateGoing}
 use Rattle.hardware.specs.Change.{change, access_update, rest_update, update_next}
 use Rattle.hardware.specs.Longest.{longest}
 use Rattle.hardware.specs.Poll.{poll_next}
 use Rattle.hardware.specs.Prog.{erase, ◌>>=◌}
 use Rattle.hardware.proofs.Ends.{ends_erase, ask_ends, unflushed_ends, update_after, poll_after, update_rest_ends, poll_rest_ends}
 use Rattle.hardware.proofs.Longest.{longest_few}
-use Rattle.sync.specs.declared.acquire_bits.AcquireBitsNext.TheVariants.{Going as AcquireGoing}
 use Rattle.sync.specs.Regs.{SW_MNG}
 use Rattle.sync.specs.Resource.{acquire_bits_next, release_bits_next}
 use Rattle.sync.proofs.Ends.{RELEASE_BITS_STEPS, acquire_bits_ends, release_bits_ends, acquire_bits_after, release_bits_after, acquire_bits_rest_ends, release_bits_rest_ends}
@@ -24,6 +22,7 @@ use Rattle.hostif.specs.declared.command.Command.TheVariants.{Acquiring, Request
 use Rattle.hostif.specs.Hostif.{set_fwri, len_of, words_of}
 use Rattle.hostif.specs.Left.{request_left, response_left, release_left, respond_left, acquired_left, opened_left, command_left}
 use Rattle.hostif.proofs.Ends.{COMMAND_STEPS, REQUEST_STEPS, RESPOND_STEPS, request_after, response_after, command_after}
+use Rattle.hardware.specs.declared.Next.TheVariants.{Going}
 
 -- with the number of what comes first falls that of the whole, m coming after
 pub sum_falls : {n p q : ℕ} (m : ℕ) → n ≤ p + m → p < q → n < q + m
@@ -59,7 +58,7 @@ command_some port (Releasing t s) = omega arith
 request_left_lem : (s : Request) → request_left s ≤ suc (request_after 64 s)
 unfolding request_left update_next poll_next
 request_left_lem (Fwsts t) =
-    let d : longest (update_next set_fwri (UpdateGoing t)) ≤ suc (update_after t) = longest_few _ _ (ask_ends _ _ (update_after t) (λ a. ends_erase _ _ (update_rest_ends _ t a))) in
+    let d : longest (update_next set_fwri (Going t)) ≤ suc (update_after t) = longest_few _ _ (ask_ends _ _ (update_after t) (λ a. ends_erase _ _ (update_rest_ends _ t a))) in
     omega arith
 request_left_lem Hicr = omega arith
 request_left_lem (Word hicr at) = omega arith
@@ -80,7 +79,7 @@ respond_left_lem port = omega (arith, release_left_lem port)
 acquired_left_lem : (port : Port) → acquired_left port ≤ REQUEST_STEPS 64 + (RESPOND_STEPS 64 + RELEASE_BITS_STEPS)
 unfolding request_left update_next change access_update rest_update erase ◌>>=◌
 acquired_left_lem port =
-    let d : longest (update_next set_fwri (UpdateGoing Reading)) ≤ 2 = longest_few _ _ (ends_erase _ 2 (unflushed_ends set_fwri refl)) in
+    let d : longest (update_next set_fwri (Going Reading)) ≤ 2 = longest_few _ _ (ends_erase _ 2 (unflushed_ends set_fwri refl)) in
     omega (arith, respond_left_lem port)
 
 -- a whole command, with no more words than 64 in the blocks that are lent
@@ -90,7 +89,7 @@ opened_left_lem port = omega (arith, longest_few _ _ (acquire_bits_ends port SW_
 pub command_left_lem : (port : Port) (s : Command) → command_left port s ≤ suc (command_after 64 s)
 unfolding command_left acquire_bits_next release_bits_next
 command_left_lem port (Acquiring t) =
-    let d : longest (acquire_bits_next port SW_MNG (AcquireGoing t)) ≤ suc (acquire_bits_after t) = longest_few _ _ (ask_ends _ _ (acquire_bits_after t) (λ a. ends_erase _ _ (acquire_bits_rest_ends port SW_MNG t a))) in
+    let d : longest (acquire_bits_next port SW_MNG (Going t)) ≤ suc (acquire_bits_after t) = longest_few _ _ (ask_ends _ _ (acquire_bits_after t) (λ a. ends_erase _ _ (acquire_bits_rest_ends port SW_MNG t a))) in
     omega (arith, acquired_left_lem port)
 command_left_lem port (Requesting t) = omega (arith, request_left_lem t, respond_left_lem port)
 command_left_lem port (Responding t) = omega (arith, response_left_lem t, release_left_lem port)

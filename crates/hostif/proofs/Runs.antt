@@ -19,12 +19,6 @@ use Rattle.hardware.proofs.Longest.{Falls, lasting_falls, Accepts, steps_few, nu
 use Rattle.hardware.proofs.Ends.{run_ends, ask_ends, ends_erase}
 use Rattle.hostif.specs.declared.command.Command.{Command}
 use Rattle.hostif.specs.declared.token.Token.{Token}
-use Rattle.hostif.specs.declared.calls.CommandCall.TheVariants.{Going as CommandGoing, Over as CommandOver}
-use Rattle.hostif.specs.declared.calls.CommandTold.{CommandTold}
-use Rattle.hostif.specs.declared.calls.CommandTold.TheVariants.{Ask as CommandAsk, End as CommandEnd, Refused as CommandRefused}
-use Rattle.hostif.specs.declared.calls.TokenCall.TheVariants.{Going as TokenGoing, Over as TokenOver}
-use Rattle.hostif.specs.declared.calls.TokenTold.{TokenTold}
-use Rattle.hostif.specs.declared.calls.TokenTold.TheVariants.{Ask as TokenAsk, End as TokenEnd, Refused as TokenRefused}
 use Rattle.hostif.specs.Hostif.{Left, command, rest_command, token, rest_token}
 use Rattle.hostif.specs.Left.{call_left, told_left}
 use Rattle.hostif.specs.Calls.{block_fits, open_command, stepped, step_command, said_command, stands_command, open_token, step_token, said_token, stands_token, follows_token, CommandAt, said_at, follows_command, follows_block, follows_own, follows_lent}
@@ -33,6 +27,9 @@ use Rattle.hostif.proofs.Ends.{COMMAND_STEPS, command_ends, TOKEN_STEPS, token_e
 use Rattle.hostif.proofs.Left.{command_some, command_left_lem}
 use Rattle.hardware.specs.Promise.{Keeps}
 use Rattle.hardware.proofs.Prog.{run_erase}
+use Rattle.hostif.specs.Aliases.{CommandTold, TokenTold}
+use Rattle.hardware.specs.declared.Told.TheVariants.{Ask, End}
+use Rattle.std.specs.Prelude.{Ok, Err, Some, None}
 
 -- an accepted command goes on as the Rust's, from the first access to the block that it leaves
 pub command_goes : (family device lan : ℕ) (block : List ℕ) (port : Port) (r : CommandTold)
@@ -50,8 +47,8 @@ command_finishes port block l h w = run_ends (command port block) (COMMAND_STEPS
 
 -- a state that was handed out, with its block and any answer of the kind that its access awaits, is not refused
 pub command_accepts : (x : Access) (port : Port) (t : Command) (block : List ℕ) (a : Answer)
-    → stands_command (CommandAsk x (CommandGoing port t)) block → block_fits block ≡ true → fits x a ≡ true
-    → step_command (CommandGoing port t) block a ≡ goes (erase (rest_command port t block a))
+    → stands_command (Ok (Ask x (Some (port, t)))) block → block_fits block ≡ true → fits x a ≡ true
+    → step_command (Some (port, t)) block a ≡ goes (erase (rest_command port t block a))
 unfolding stands_command step_command stepped lent admitting question
 command_accepts x port t block a h b e = rw (b, h.1, ← h.0, e)
 
@@ -63,11 +60,11 @@ block_on : (t : CommandTold) (b : List ℕ) (a : Answer) (u : CommandTold) (c : 
     → AwaitedIn (asked (said_command t b)) (a ∷ [])
     → (asked (said_command u c) ≡ left_asked_after (asked (said_command t b)) a) × (stands_command u c × (block_fits c ≡ true)) × IfYes Asks (asked (said_command t b))
 unfolding follows_block said_command stands_command asked AwaitedIn Awaited left_asked_after left_after block_fits IfYes Asks
-block_on (CommandAsk y (CommandGoing port t)) b a u c h f k w =
+block_on (Ok (Ask y (Some (port, t)))) b a u c h f k w =
     (ap asked (k.0.yields ∙ command_accepts y port t b a h f (is_true (fits y a) w.0)), (k.0.limits, rw k.1 f), tt)
-block_on (CommandAsk y CommandOver) b a u c h f k w = absurd h
-block_on (CommandEnd v) b a u c h f k w = absurd k
-block_on (CommandRefused q) b a u c h f k w = absurd k
+block_on (Ok (Ask y None)) b a u c h f k w = absurd h
+block_on (Ok (End v)) b a u c h f k w = absurd k
+block_on (Err q) b a u c h f k w = absurd k
 
 pub command_steps_on : StepsOn said_at follows_command stands_at
 command_steps_on t u a h k w = block_on t.told t.block a u.told u.block h.0 h.1 k w
@@ -103,18 +100,18 @@ command_driven family device lan block t k ks kept w =
 
 -- from any state that passes question 10, whoever made it, the call takes at most so many steps more, with a block that only
 -- the steps alter
-pub command_lasts : (x : Access) (port : Port) (s : Command) (block : List ℕ) (ks : List (Exchange CommandAt)) → stands_command (CommandAsk x (CommandGoing port s)) block → block_fits block ≡ true
-    → AllKept (Accepts said_at follows_command) (record { told = CommandAsk x (CommandGoing port s); block = block }) ks → Lasts said_at (record { told = CommandAsk x (CommandGoing port s); block = block }) ks (suc (command_after (length block) s))
+pub command_lasts : (x : Access) (port : Port) (s : Command) (block : List ℕ) (ks : List (Exchange CommandAt)) → stands_command (Ok (Ask x (Some (port, s)))) block → block_fits block ≡ true
+    → AllKept (Accepts said_at follows_command) (record { told = Ok (Ask x (Some (port, s))); block = block }) ks → Lasts said_at (record { told = Ok (Ask x (Some (port, s))); block = block }) ks (suc (command_after (length block) s))
 unfolding said_command asked IfYes
 command_lasts x port s block ks h f k =
-    steps_few said_at follows_command stands_at command_steps_on (record { told = CommandAsk x (CommandGoing port s); block = block }) ks (suc (command_after (length block) s)) (h, f) k
+    steps_few said_at follows_command stands_at command_steps_on (record { told = Ok (Ask x (Some (port, s))); block = block }) ks (suc (command_after (length block) s)) (h, f) k
     (ask_ends x _ (command_after (length block) s) (λ a. ends_erase _ _ (command_rest_ends port s block a)))
 
 -- its number falls at every accepted step
 pub command_falls : Falls said_at follows_command stands_at
 command_falls = lasting_falls said_at follows_command stands_at command_steps_on
 
-over_refuses : (b : List ℕ) (a : Answer) → Unrefused (asked (step_command CommandOver b a)) → ⊥
+over_refuses : (b : List ℕ) (a : Answer) → Unrefused (asked (step_command None b a)) → ⊥
 unfolding IfYes asked step_command stepped lent question
 over_refuses b a = by (block_fits b)
   where
@@ -125,17 +122,17 @@ over_refuses b a = by (block_fits b)
 -- Whatever block is lent to each step, the number falls at every one that is accepted: of the finished state none is
 pub own_falls : (t : CommandTold) (a : Answer) (u : CommandTold) (c : List ℕ) → follows_own t a u c → Unrefused (asked (said_command u c)) × (told_left u < told_left t)
 unfolding follows_own told_left call_left
-own_falls (CommandAsk x (CommandGoing port s)) a u c k = (k.0, omega (arith, k.1.1.within, command_some port s))
-own_falls (CommandAsk x CommandOver) a u c k = absurd (over_refuses k.1.0 a (subst (λ q. Unrefused (asked q)) k.1.1.yields k.0))
-own_falls (CommandEnd b) a u c k = absurd k
-own_falls (CommandRefused q) a u c k = absurd k
+own_falls (Ok (Ask x (Some (port, s)))) a u c k = (k.0, omega (arith, k.1.1.within, command_some port s))
+own_falls (Ok (Ask x None)) a u c k = absurd (over_refuses k.1.0 a (subst (λ q. Unrefused (asked q)) k.1.1.yields k.0))
+own_falls (Ok (End b)) a u c k = absurd k
+own_falls (Err q) a u c k = absurd k
 
 own_ends : (t : CommandTold) (b : List ℕ) → Unrefused (asked (said_command t b)) → told_left t ≡ 0 → IfYes (λ p. Asks p → ⊥) (asked (said_command t b))
 unfolding told_left call_left said_command asked IfYes Asks
-own_ends (CommandAsk x (CommandGoing port s)) b g e = absurd (omega (arith, e, command_some port s))
-own_ends (CommandAsk x CommandOver) b g e = absurd g
-own_ends (CommandEnd v) b g e = λ z. z
-own_ends (CommandRefused q) b g e = absurd g
+own_ends (Ok (Ask x (Some (port, s)))) b g e = absurd (omega (arith, e, command_some port s))
+own_ends (Ok (Ask x None)) b g e = absurd g
+own_ends (Ok (End v)) b g e = λ z. z
+own_ends (Err q) b g e = absurd g
 
 -- so with at most n accesses left, as the contract of an opening says of what it tells, the call takes at most n accepted steps more,
 -- each lent a block of its own, and has ended after n
@@ -146,8 +143,8 @@ command_lasts_within t ks n g w k =
 
 -- from any state, whoever made it
 pub command_lasts_lent : (x : Access) (port : Port) (s : Command) (block : List ℕ) (ks : List (Exchange CommandAt))
-    → AllKept follows_lent (record { told = CommandAsk x (CommandGoing port s); block = block }) ks
-    → Lasts said_at (record { told = CommandAsk x (CommandGoing port s); block = block }) ks (suc (command_after 64 s))
+    → AllKept follows_lent (record { told = Ok (Ask x (Some (port, s))); block = block }) ks
+    → Lasts said_at (record { told = Ok (Ask x (Some (port, s))); block = block }) ks (suc (command_after 64 s))
 unfolding IfYes said_command asked told_left call_left
 command_lasts_lent x port s block ks k = command_lasts_within _ ks (suc (command_after 64 s)) tt (command_left_lem port s) k
 
@@ -160,17 +157,17 @@ pub token_finishes : (port : Port) (take : Bool) (l : List Answer) → TOKEN_STE
     → (v : R Bool) × ((run (token port take) l).status ≡ ended v)
 token_finishes port take l h w = run_ends (token port take) (TOKEN_STEPS port.family) l (token_ends port take) h w
 
-pub token_accepts : (x : Access) (port : Port) (take : Bool) (t : Token) (a : Answer) → stands_token (TokenAsk x (TokenGoing port take t))
-    → fits x a ≡ true → step_token (TokenGoing port take t) a ≡ yes (erase (rest_token port take t a))
+pub token_accepts : (x : Access) (port : Port) (take : Bool) (t : Token) (a : Answer) → stands_token (Ok (Ask x (Some (port, take, t))))
+    → fits x a ≡ true → step_token (Some (port, take, t)) a ≡ yes (erase (rest_token port take t a))
 unfolding stands_token step_token admitting question
 token_accepts x port take t a h e = rw (h.1, ← h.0, e)
 
 pub token_steps_on : StepsOn said_token follows_token stands_token
 unfolding follows_token said_token stands_token AwaitedIn Awaited left_asked_after left_after IfYes Asks
-token_steps_on (TokenAsk y (TokenGoing port take t)) u a h k w = (k.yields ∙ token_accepts y port take t a h (is_true (fits y a) w.0), k.limits, tt)
-token_steps_on (TokenAsk y TokenOver) u a h k w = absurd h
-token_steps_on (TokenEnd b) u a h k w = absurd k
-token_steps_on (TokenRefused q) u a h k w = absurd k
+token_steps_on (Ok (Ask y (Some (port, take, t)))) u a h k w = (k.yields ∙ token_accepts y port take t a h (is_true (fits y a) w.0), k.limits, tt)
+token_steps_on (Ok (Ask y None)) u a h k w = absurd h
+token_steps_on (Ok (End b)) u a h k w = absurd k
+token_steps_on (Err q) u a h k w = absurd k
 
 -- its number falls at every accepted step
 pub token_falls : Falls said_token follows_token stands_token
@@ -182,8 +179,8 @@ pub token_driven : (family device lan : ℕ) (take : Bool) (t : TokenTold) → K
 token_driven family device lan take t k ks kept w = opened_runs said_token follows_token stands_token token_steps_on t ks k kept w ∙ token_runs family device lan take t k.yields (answers_of ks)
 
 -- from any state that passes question 10, whoever made it, the call takes at most so many steps more
-pub token_lasts : (x : Access) (port : Port) (take : Bool) (s : Token) (ks : List (Exchange TokenTold)) → stands_token (TokenAsk x (TokenGoing port take s))
-    → AllKept (Accepts said_token follows_token) (TokenAsk x (TokenGoing port take s)) ks → Lasts said_token (TokenAsk x (TokenGoing port take s)) ks (suc (token_after s))
+pub token_lasts : (x : Access) (port : Port) (take : Bool) (s : Token) (ks : List (Exchange TokenTold)) → stands_token (Ok (Ask x (Some (port, take, s))))
+    → AllKept (Accepts said_token follows_token) (Ok (Ask x (Some (port, take, s)))) ks → Lasts said_token (Ok (Ask x (Some (port, take, s)))) ks (suc (token_after s))
 unfolding said_token IfYes
 token_lasts x port take s ks h k =
-    steps_few said_token follows_token stands_token token_steps_on (TokenAsk x (TokenGoing port take s)) ks (suc (token_after s)) h k (ask_ends x _ (token_after s) (λ a. ends_erase _ _ (token_rest_ends port take s a)))
+    steps_few said_token follows_token stands_token token_steps_on (Ok (Ask x (Some (port, take, s)))) ks (suc (token_after s)) h k (ask_ends x _ (token_after s) (λ a. ends_erase _ _ (token_rest_ends port take s a)))

@@ -11,26 +11,20 @@ use Rattle.hardware.specs.declared.change.Change.{Change}
 use Rattle.hardware.specs.declared.change.Bits.TheVariants.{Set}
 use Rattle.hardware.specs.Failures.{HostInterface, Firmware}
 use Rattle.hardware.specs.Prog.{Prog, ret, ask, note, Acquires, Acquired, Released, erase, R, Ok, Err, or_err, ◌>>=◌, ◌>>?◌, pick}
-use Rattle.hardware.specs.Registers.{none_of, read, read_raw, write, checked, raw, written, micros, word, byte, flag}
+use Rattle.hardware.specs.Registers.{none_of, read, read_raw, write, checked, raw, written, micros, reply}
 use Rattle.hardware.specs.Poll.{poll, access_poll, rest_poll, valid_poll}
 use Rattle.hardware.specs.Change.{change, access_update, rest_update}
 use Rattle.hostif.specs.declared.request.Request.{Request}
 use Rattle.hostif.specs.declared.request.Request.TheVariants.{Fwsts, Hicr, Word, Start, Polling}
-use Rattle.hostif.specs.declared.request.RequestNext.{RequestNext}
-use Rattle.hostif.specs.declared.request.RequestNext.TheVariants.{Going as RequestGoing, End as RequestEnd}
 use Rattle.hostif.specs.declared.response.Response.{Response}
 use Rattle.hostif.specs.declared.response.Response.TheVariants.{Head, Rest}
-use Rattle.hostif.specs.declared.response.ResponseNext.{ResponseNext}
-use Rattle.hostif.specs.declared.response.ResponseNext.TheVariants.{Going as ResponseGoing, End as ResponseEnd}
 use Rattle.hostif.specs.declared.command.Command.{Command}
 use Rattle.hostif.specs.declared.command.Command.TheVariants.{Acquiring, Requesting, Responding, Releasing}
-use Rattle.hostif.specs.declared.command.CommandNext.{CommandNext}
-use Rattle.hostif.specs.declared.command.CommandNext.TheVariants.{Going as CommandGoing, End as CommandEnd}
 use Rattle.hostif.specs.declared.token.Token.{Token}
-use Rattle.hostif.specs.declared.token.TokenNext.{TokenNext}
-use Rattle.hostif.specs.declared.token.TokenNext.TheVariants.{Going as TokenGoing, End as TokenEnd}
 use Rattle.sync.specs.Regs.{SW_MNG}
 use Rattle.sync.specs.Resource.{acquire_bits, access_acquire_bits, rest_acquire_bits, valid_acquire_bits, release_bits, access_release_bits, rest_release_bits, valid_release_bits}
+use Rattle.hostif.specs.Aliases.{RequestNext, TokenNext, ResponseNext, CommandNext}
+use Rattle.hardware.specs.declared.Next.TheVariants.{Going, End}
 
 abbrev pub HICR : ℕ
 HICR = 0x15f00
@@ -181,8 +175,8 @@ rest_request (Start hicr) block a = or_err (λ _. polling hicr) (written a)
 rest_request (Polling t) block a = rest_poll hicr_watch t a >>? completed
 
 unfoldable pub request_next : RequestNext → List ℕ → Prog (R ℕ)
-request_next (RequestGoing s) block = ask (access_request s block) (λ a. erase (rest_request s block a))
-request_next (RequestEnd w) block = ret (word w)
+request_next (Going s) block = ask (access_request s block) (λ a. erase (rest_request s block a))
+request_next (End w) block = ret (reply w)
 
 -- a word that is written is one of the block's
 unfoldable pub valid_request : ℕ → Request → Bool
@@ -194,8 +188,8 @@ valid_request n (Polling t) = valid_poll POLLS t
 
 -- what is left keeps within the limits
 unfoldable pub valid_request_next : ℕ → RequestNext → Bool
-valid_request_next n (RequestGoing s) = valid_request n s
-valid_request_next n (RequestEnd w) = true
+valid_request_next n (Going s) = valid_request n s
+valid_request_next n (End w) = true
 
 unfoldable pub access_response : Response → Access
 access_response (Head last) = Read FLEX_MNG
@@ -206,8 +200,8 @@ rest_response (Head last) block a = head_seen last block (raw a)
 rest_response (Rest head left) block a = word_seen (fill head left) (words_of head - left) block (raw a)
 
 unfoldable pub response_next : ResponseNext → List ℕ → Prog Left
-response_next (ResponseGoing s) block = ask (access_response s) (λ a. erase (rest_response s block a))
-response_next (ResponseEnd b) block = ret (record { status = byte b; block = block })
+response_next (Going s) block = ask (access_response s) (λ a. erase (rest_response s block a))
+response_next (End b) block = ret (record { status = reply b; block = block })
 
 -- what is left of a response are words of it, and it fits the block
 unfoldable pub valid_response : ℕ → Response → Bool
@@ -215,8 +209,8 @@ valid_response n (Head last) = true
 valid_response n (Rest head left) = pick (ltb left (words_of head)) (ltb (words_of head) n) false
 
 unfoldable pub valid_response_next : ℕ → ResponseNext → Bool
-valid_response_next n (ResponseGoing s) = valid_response n s
-valid_response_next n (ResponseEnd b) = true
+valid_response_next n (Going s) = valid_response n s
+valid_response_next n (End b) = true
 
 unfoldable pub access_command : Port → Command → List ℕ → Access
 access_command port (Acquiring t) block = access_acquire_bits port SW_MNG t
@@ -228,11 +222,11 @@ unfoldable pub rest_command : Port → Command → List ℕ → Answer → Prog 
 rest_command port (Acquiring t) block a = rest_acquire_bits port SW_MNG t a >>= acquired port block
 rest_command port (Requesting t) block a = rest_request t block a >>= requested port block
 rest_command port (Responding t) block a = rest_response t block a >>= released port
-rest_command port (Releasing t s) block a = rest_release_bits port SW_MNG t a >>= closed (byte s) block
+rest_command port (Releasing t s) block a = rest_release_bits port SW_MNG t a >>= closed (reply s) block
 
 unfoldable pub command_next : Port → CommandNext → List ℕ → Prog Left
-command_next port (CommandGoing s) block = ask (access_command port s block) (λ a. erase (rest_command port s block a))
-command_next port (CommandEnd b) block = ret (record { status = byte b; block = block })
+command_next port (Going s) block = ask (access_command port s block) (λ a. erase (rest_command port s block a))
+command_next port (End b) block = ret (record { status = reply b; block = block })
 
 unfoldable pub valid_command : Port → ℕ → Command → Bool
 valid_command port n (Acquiring t) = valid_acquire_bits port.family t
@@ -241,8 +235,8 @@ valid_command port n (Responding t) = valid_response n t
 valid_command port n (Releasing t s) = valid_release_bits t
 
 unfoldable pub valid_command_next : Port → ℕ → CommandNext → Bool
-valid_command_next port n (CommandGoing s) = valid_command port n s
-valid_command_next port n (CommandEnd b) = true
+valid_command_next port n (Going s) = valid_command port n s
+valid_command_next port n (End b) = true
 
 -- the token's two words stand in its state
 abbrev pub token_words : Token → List ℕ
@@ -255,12 +249,12 @@ unfoldable pub rest_token : Port → Bool → Token → Answer → Prog (R Bool)
 rest_token port take s a = rest_command port s.command (token_words s) a >>= tokened take
 
 unfoldable pub token_next : Port → Bool → TokenNext → Prog (R Bool)
-token_next port take (TokenGoing s) = ask (access_token port s) (λ a. erase (rest_token port take s a))
-token_next port take (TokenEnd b) = ret (flag b)
+token_next port take (Going s) = ask (access_token port s) (λ a. erase (rest_token port take s a))
+token_next port take (End b) = ret (reply b)
 
 unfoldable pub valid_token : Port → Token → Bool
 valid_token port s = valid_command port 2 s.command
 
 unfoldable pub valid_token_next : Port → TokenNext → Bool
-valid_token_next port (TokenGoing s) = valid_token port s
-valid_token_next port (TokenEnd b) = true
+valid_token_next port (Going s) = valid_token port s
+valid_token_next port (End b) = true

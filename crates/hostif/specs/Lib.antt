@@ -3,3 +3,4 @@ pub mod Left
 pub mod Acquire
 pub mod Locked
 pub mod Calls
+pub mod Aliases

@@ -1,5 +1,7 @@
 // The stepwise calls of `command` and `token`. A command's block is lent at its opening and at every step.
-ghost use Rattle.std.specs.Prelude.{ℕ, ◌-◌, ◌<◌, ◌≤◌, ◌≡◌, true, List, length};
+#![tactic(auto, using(hardware::proofs::Laws::opened_valid, hardware::proofs::Laws::admits_fits, hardware::proofs::Laws::admits_typed, hardware::proofs::Laws::admits_no, hardware::proofs::Laws::admits_valid, hardware::proofs::Laws::admits_yes, hardware::proofs::Laws::both_true, crate::proofs::Left::command_some, crate::proofs::Laws::block_fits_lem), unfolding(crate::specs::Calls::block_fits, hardware::specs::Prog::pick, crate::specs::Calls::said_command, crate::specs::Hostif::command_next, crate::specs::Calls::stands_command, crate::specs::Hostif::valid_command_next, crate::specs::Calls::valid_command_call, crate::specs::Left::command_next_left, crate::specs::Left::call_left, crate::specs::Left::told_left, crate::specs::Calls::open_command, hardware::specs::Lent::lent, hardware::specs::Asked::and_then, hardware::specs::Asked::question, hardware::specs::Asked::opened, crate::specs::Calls::stepped, crate::specs::Calls::step_command, crate::specs::Calls::said_token, crate::specs::Hostif::token_next, crate::specs::Calls::stands_token, crate::specs::Hostif::valid_token_next, crate::specs::Calls::valid_token_call, crate::specs::Calls::open_token, crate::specs::Calls::step_token))]
+
+ghost use Rattle.std.specs.Prelude.{ℕ, ◌-◌, ◌<◌, ◌≤◌, ◌≡◌, true, List, length, Some};
 ghost use Rattle.hardware.specs.Asked.{fits as fitsAnswer, yes, open_port, valid_port, InType};
 ghost use Rattle.hardware.specs.Promise.{Keeps, Bounds};
 ghost use Rattle.hardware.specs.Prog.{erase};
@@ -10,36 +12,18 @@ ghost use Rattle.hardware.specs.Lent.{goes, lent};
 
 use crate::command::{Command, CommandNext};
 use crate::token::{Token, TokenNext};
-use hardware::{Access, Admitted, Answer, Byte, Flag, Opening, Port, Refusal};
+use hardware::{Answer, Next, Port, R, Refusal, Told};
 
-#[derive(Clone, Copy)]
-pub enum CommandCall {
-    Going(Port, Command),
-    Over,
-}
+// The state of a call, none once it is over.
+pub type CommandCall = Option<(Port, Command)>;
 
-#[derive(Clone, Copy)]
-pub enum CommandTold {
-    Ask(Access, CommandCall),
-    End(Byte),
-    Refused(Refusal),
-}
+pub type CommandTold = Result<Told<CommandCall, R<u8>>, Refusal>;
 
-// take: whether the token is asked for or given back.
-#[derive(Clone, Copy)]
-pub enum TokenCall {
-    Going(Port, bool, Token),
-    Over,
-}
+// The same. take: whether the token is asked for or given back.
+pub type TokenCall = Option<(Port, bool, Token)>;
 
-#[derive(Clone, Copy)]
-pub enum TokenTold {
-    Ask(Access, TokenCall),
-    End(Flag),
-    Refused(Refusal),
-}
+pub type TokenTold = Result<Told<TokenCall, R<bool>>, Refusal>;
 
-#[tactic(auto, unfolding(crate::specs::Calls::block_fits, hardware::specs::Prog::pick))]
 fn fits(n: usize) -> bool
     ensures { (l : List ℕ) → length l ≡ n → result ≡ block_fits l }
 {
@@ -49,32 +33,23 @@ fn fits(n: usize) -> bool
     false
 }
 
-#[tactic(auto, unfolding(crate::specs::Calls::said_command, crate::specs::Hostif::command_next, crate::specs::Calls::stands_command, crate::specs::Hostif::valid_command_next, crate::specs::Calls::valid_command_call, hardware::specs::Prog::pick, crate::specs::Left::command_next_left, crate::specs::Left::call_left, crate::specs::Left::told_left))]
 fn command_told(port: Port, block: &[u32], n: CommandNext) -> CommandTold
     ensures { Bounds (said_command result block.now ≡ goes (command_next port n block.now)) (valid_port port ≡ true → valid_command_next port (length block.now) n ≡ true → stands_command result block.now) (told_left result ≤ command_next_left port n) }
 {
     match n {
-        CommandNext::Going(t) => CommandTold::Ask(
-            crate::command::access(port, t, block),
-            CommandCall::Going(port, t),
-        ),
-        CommandNext::End(b) => CommandTold::End(b),
+        Next::Going(t) => Ok(Told::Ask(crate::command::access(port, t, block), Some((port, t)))),
+        Next::End(b) => Ok(Told::End(b)),
     }
 }
 
-#[tactic(auto, using(hardware::proofs::Laws::opened_valid), unfolding(crate::specs::Calls::open_command, hardware::specs::Lent::lent, hardware::specs::Asked::and_then, hardware::specs::Asked::question, hardware::specs::Asked::port_opened, crate::specs::Calls::said_command, crate::specs::Calls::stands_command, crate::specs::Left::told_left))]
 pub fn command_open(family: u32, device: u16, lan: u32, block: &[u32]) -> CommandTold
     ensures { Bounds (said_command result block.now ≡ open_command family device lan block.now) (stands_command result block.now) ((port : Port) → open_port family device lan ≡ yes port → told_left result ≤ opened_left port) }
 {
-    match hardware::open_port(family, device, lan) {
-        Opening::Port(p) => {
-            if fits(block.len()) {
-                return command_told(p, block, crate::command::open(p));
-            }
-            CommandTold::Refused(Refusal::Block)
-        }
-        Opening::Refused(q) => CommandTold::Refused(q),
+    let p = hardware::open_port(family, device, lan)?;
+    if fits(block.len()) {
+        return command_told(p, block, crate::command::open(p));
     }
+    Err(Refusal::Block)
 }
 
 fn go(port: Port, t: Command, block: &mut [u32], a: Answer) -> CommandTold
@@ -85,7 +60,6 @@ fn go(port: Port, t: Command, block: &mut [u32], a: Answer) -> CommandTold
     command_told(port, block, n)
 }
 
-#[tactic(auto, unfolding(crate::specs::Calls::valid_command_call, hardware::specs::Prog::pick))]
 fn valid_command(port: Port, n: usize, t: Command) -> bool
     ensures { result ≡ valid_command_call port n t }
 {
@@ -95,55 +69,43 @@ fn valid_command(port: Port, n: usize, t: Command) -> bool
     false
 }
 
-#[tactic(auto, using(hardware::proofs::Laws::admits_fits, hardware::proofs::Laws::admits_typed, hardware::proofs::Laws::admits_no, hardware::proofs::Laws::admits_valid, hardware::proofs::Laws::admits_yes, hardware::proofs::Laws::both_true, crate::proofs::Left::command_some), unfolding(crate::specs::Calls::stepped, hardware::specs::Lent::lent, crate::specs::Calls::valid_command_call, crate::specs::Calls::said_command, crate::specs::Calls::stands_command, crate::specs::Left::told_left))]
 fn command_on(port: Port, t: Command, block: &mut [u32], a: Answer) -> CommandTold
     requires { length block.old ≤ 64 }
-    ensures { Bounds (said_command result block.new ≡ lent block.old (stepped (CommandCall.Going port t) block.old a)) (stands_command result block.new) (told_left result < command_left port t) }
+    ensures { Bounds (said_command result block.new ≡ lent block.old (stepped (Some (port, t)) block.old a)) (stands_command result block.new) (told_left result < command_left port t) }
 {
     let valid = valid_command(port, block.len(), t);
-    match hardware::admit(valid, crate::command::access(port, t, block), a) {
-        Admitted::Yes => go(port, t, block, a),
-        Admitted::No(q) => CommandTold::Refused(q),
-    }
+    hardware::admit(valid, crate::command::access(port, t, block), a)?;
+    go(port, t, block, a)
 }
 
-#[tactic(auto, using(crate::proofs::Laws::block_fits_lem), unfolding(crate::specs::Calls::step_command, hardware::specs::Lent::lent, hardware::specs::Asked::question, crate::specs::Left::call_left, crate::specs::Calls::stepped, crate::specs::Calls::said_command, crate::specs::Calls::stands_command, crate::specs::Left::told_left))]
 pub fn command_step(s: CommandCall, block: &mut [u32], a: Answer) -> CommandTold
     ensures { Bounds (said_command result block.new ≡ step_command s block.old a) (stands_command result block.new) (told_left result ≤ call_left s - 1) }
 {
     if fits(block.len()) {
         return match s {
-            CommandCall::Going(port, t) => command_on(port, t, block, a),
-            CommandCall::Over => CommandTold::Refused(Refusal::Finished),
+            Some((port, t)) => command_on(port, t, block, a),
+            None => Err(Refusal::Finished),
         };
     }
-    CommandTold::Refused(Refusal::Block)
+    Err(Refusal::Block)
 }
 
-#[tactic(auto, unfolding(crate::specs::Calls::said_token, crate::specs::Hostif::token_next, crate::specs::Calls::stands_token, crate::specs::Hostif::valid_token_next, crate::specs::Calls::valid_token_call, hardware::specs::Prog::pick))]
 fn token_told(port: Port, take: bool, n: TokenNext) -> TokenTold
     ensures { Keeps (said_token result ≡ yes (token_next port take n)) (valid_port port ≡ true → valid_token_next port n ≡ true → stands_token result) }
 {
     match n {
-        TokenNext::Going(t) => TokenTold::Ask(
-            crate::token::access(port, t),
-            TokenCall::Going(port, take, t),
-        ),
-        TokenNext::End(b) => TokenTold::End(b),
+        Next::Going(t) => Ok(Told::Ask(crate::token::access(port, t), Some((port, take, t)))),
+        Next::End(b) => Ok(Told::End(b)),
     }
 }
 
-#[tactic(auto, using(hardware::proofs::Laws::opened_valid), unfolding(crate::specs::Calls::open_token, hardware::specs::Asked::and_then, hardware::specs::Asked::port_opened, crate::specs::Calls::said_token, crate::specs::Calls::stands_token))]
 pub fn token_open(family: u32, device: u16, lan: u32, take: bool) -> TokenTold
     ensures { Keeps (said_token result ≡ open_token family device lan take) (stands_token result) }
 {
-    match hardware::open_port(family, device, lan) {
-        Opening::Port(p) => token_told(p, take, crate::token::open(p, take)),
-        Opening::Refused(q) => TokenTold::Refused(q),
-    }
+    let p = hardware::open_port(family, device, lan)?;
+    token_told(p, take, crate::token::open(p, take))
 }
 
-#[tactic(auto, unfolding(crate::specs::Calls::valid_token_call, hardware::specs::Prog::pick))]
 fn valid_token(port: Port, t: Token) -> bool
     ensures { result ≡ valid_token_call port t }
 {
@@ -153,17 +115,10 @@ fn valid_token(port: Port, t: Token) -> bool
     false
 }
 
-#[tactic(auto, using(hardware::proofs::Laws::admits_no, hardware::proofs::Laws::admits_valid, hardware::proofs::Laws::admits_yes, hardware::proofs::Laws::both_true), unfolding(crate::specs::Calls::step_token, crate::specs::Calls::valid_token_call, crate::specs::Calls::said_token, crate::specs::Calls::stands_token))]
 pub fn token_step(s: TokenCall, a: Answer) -> TokenTold
     ensures { Keeps (said_token result ≡ step_token s a) (stands_token result) }
 {
-    match s {
-        TokenCall::Going(port, take, t) => {
-            match hardware::admit(valid_token(port, t), crate::token::access(port, t), a) {
-                Admitted::Yes => token_told(port, take, crate::token::step(port, take, t, a)),
-                Admitted::No(q) => TokenTold::Refused(q),
-            }
-        }
-        TokenCall::Over => TokenTold::Refused(Refusal::Finished),
-    }
+    let (port, take, t) = s.ok_or(Refusal::Finished)?;
+    hardware::admit(valid_token(port, t), crate::token::access(port, t), a)?;
+    token_told(port, take, crate::token::step(port, take, t, a))
 }

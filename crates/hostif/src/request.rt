@@ -1,8 +1,10 @@
 // The first half of a firmware command: FWRI is set, HICR must be enabled, the block is written to FLEX_MNG, HICR.C is
 // set and polled for up to 500 ms, and SV is required.
+#![tactic(auto, using(hardware::proofs::Prog::going, crate::proofs::Laws::words_at, crate::proofs::Laws::words_none, hardware::proofs::Ends::poll_ends, hardware::proofs::Prog::over, hardware::proofs::Longest::longest_opened, hardware::proofs::Longest::longest_next, crate::proofs::Left::sum_falls, hardware::proofs::Prog::fed), unfolding(crate::specs::Hostif::access_request, crate::specs::Hostif::request_next, crate::specs::Hostif::rest_request, hardware::specs::Change::update_next, crate::specs::Hostif::valid_request_next, crate::specs::Hostif::valid_request, crate::specs::Left::request_next_left, crate::specs::Left::request_left, hardware::specs::Prog::followed, hardware::specs::Prog::erase, hardware::specs::Prog::or_err, hardware::specs::Registers::reply, crate::specs::Hostif::start, crate::specs::Hostif::enabled, crate::specs::Hostif::hicr_read, crate::specs::Hostif::request, hardware::specs::Change::change, hardware::specs::Change::access_update, hardware::specs::Change::rest_update, crate::specs::Hostif::words, hardware::specs::Prog::pick, crate::specs::Hostif::completed, hardware::specs::Failures::failure_of, hardware::specs::Poll::poll_next, hardware::specs::Poll::valid_poll_next, crate::specs::Hostif::polling))]
+
 ghost use Rattle.std.specs.Prelude.{ℕ, ◌+◌, ◌*◌, ◌-◌, ◌<◌, ◌≤◌, ◌≡◌, true, List, length, drop, get_or};
 ghost use Rattle.hardware.specs.Prog.{erase, followed, or_err};
-ghost use Rattle.hardware.specs.Registers.{word, outcome};
+ghost use Rattle.hardware.specs.Registers.{reply};
 ghost use Rattle.hardware.specs.Poll.{poll_next, valid_poll_next};
 ghost use Rattle.hardware.specs.Change.{update_next};
 ghost use Rattle.hardware.specs.Asked.{fits, InType};
@@ -13,7 +15,7 @@ ghost use Rattle.hostif.specs.Left.{START_LEFT, HICR_LEFT, request_left, request
 
 use hardware::change::{Bits, Change};
 use hardware::poll::{Poll, PollNext, Watch};
-use hardware::{Access, Answer, Error, Micros, Outcome, Update, UpdateNext, Word};
+use hardware::{Access, Answer, Error, Micros, Next, R, Update, UpdateNext};
 
 pub const HICR: u32 = 0x1_5f00;
 
@@ -41,11 +43,7 @@ pub enum Request {
     Polling(Poll),
 }
 
-#[derive(Clone, Copy)]
-pub enum RequestNext {
-    Going(Request),
-    End(Word),
-}
+pub type RequestNext = Next<Request, R<u32>>;
 
 fn watch() -> Watch
     ensures { result ≡ hicr_watch }
@@ -76,7 +74,6 @@ fn word_at(block: &[u32], at: usize) -> u32
     0
 }
 
-#[tactic(auto, unfolding(crate::specs::Hostif::access_request))]
 pub(crate) fn access(s: Request, block: &[u32]) -> Access
     ensures { result ≡ access_request s block.now }
 {
@@ -92,93 +89,87 @@ pub(crate) fn access(s: Request, block: &[u32]) -> Access
     }
 }
 
-#[tactic(auto, using(hardware::proofs::Prog::going), unfolding(crate::specs::Hostif::request_next, crate::specs::Hostif::access_request, crate::specs::Hostif::rest_request, hardware::specs::Change::update_next, crate::specs::Hostif::valid_request_next, crate::specs::Hostif::valid_request, crate::specs::Left::request_next_left, crate::specs::Left::request_left, hardware::specs::Prog::followed, hardware::specs::Prog::erase, hardware::specs::Prog::or_err, hardware::specs::Registers::outcome, crate::specs::Hostif::start, crate::specs::Hostif::enabled, crate::specs::Hostif::hicr_read, crate::specs::Hostif::request, hardware::specs::Change::change, hardware::specs::Change::access_update, hardware::specs::Change::rest_update, crate::specs::Hostif::words, hardware::specs::Registers::word))]
 fn fwsts(n: UpdateNext) -> RequestNext
     ensures { Bounds ((l : List ℕ) → request_next result l ≡ followed (update_next set_fwri n) (or_err (λ _. hicr_read l))) ((m : ℕ) → valid_request_next m result ≡ true) (request_next_left result ≤ longest (update_next set_fwri n) + HICR_LEFT) }
 {
     match n {
-        UpdateNext::Going(t) => RequestNext::Going(Request::Fwsts(t)),
-        UpdateNext::End(o) => match o {
-            Outcome::Ok => RequestNext::Going(Request::Hicr),
-            Outcome::Err(e) => RequestNext::End(Word::Err(e)),
+        Next::Going(t) => Next::Going(Request::Fwsts(t)),
+        Next::End(o) => match o {
+            Ok(()) => Next::Going(Request::Hicr),
+            Err(e) => Next::End(Err(e)),
         },
     }
 }
 
-#[tactic(auto, using(crate::proofs::Laws::first_word, crate::proofs::Laws::words_at, crate::proofs::Laws::words_none), unfolding(crate::specs::Hostif::request_next, hardware::specs::Prog::erase, hardware::specs::Prog::or_err, hardware::specs::Prog::pick, hardware::specs::Registers::word, crate::specs::Hostif::start, crate::specs::Hostif::enabled, crate::specs::Hostif::hicr_read, crate::specs::Hostif::request, hardware::specs::Change::change, hardware::specs::Change::access_update, hardware::specs::Change::rest_update, crate::specs::Hostif::valid_request, crate::specs::Hostif::words, crate::specs::Hostif::valid_request_next, hardware::specs::Failures::failure_of, crate::specs::Left::request_next_left, crate::specs::Left::request_left))]
-fn hicr(n: usize, w: Word) -> RequestNext
-    ensures { Bounds ((l : List ℕ) → length l ≡ n → request_next result l ≡ erase (or_err (enabled l) (word w))) (valid_request_next n result ≡ true) (request_next_left result ≤ 64 + START_LEFT) }
+#[tactic(auto, using(crate::proofs::Laws::first_word, crate::proofs::Laws::words_at, crate::proofs::Laws::words_none), unfolding(crate::specs::Hostif::request_next, hardware::specs::Prog::erase, hardware::specs::Prog::or_err, hardware::specs::Prog::pick, hardware::specs::Registers::reply, crate::specs::Hostif::start, crate::specs::Hostif::enabled, crate::specs::Hostif::hicr_read, crate::specs::Hostif::request, hardware::specs::Change::change, hardware::specs::Change::access_update, hardware::specs::Change::rest_update, crate::specs::Hostif::valid_request, crate::specs::Hostif::words, crate::specs::Hostif::valid_request_next, hardware::specs::Failures::failure_of, crate::specs::Left::request_next_left, crate::specs::Left::request_left))]
+fn hicr(n: usize, w: R<u32>) -> RequestNext
+    ensures { Bounds ((l : List ℕ) → length l ≡ n → request_next result l ≡ erase (or_err (enabled l) (reply w))) (valid_request_next n result ≡ true) (request_next_left result ≤ 64 + START_LEFT) }
 {
     match w {
-        Word::Ok(v) => {
+        Ok(v) => {
             if hardware::none_of(v, HICR_EN) {
-                return RequestNext::End(Word::Err(Error::HostInterface(v)));
+                return Next::End(Err(Error::HostInterface(v)));
             }
             if n == 0 {
-                return RequestNext::Going(Request::Start(v));
+                return Next::Going(Request::Start(v));
             }
-            RequestNext::Going(Request::Word(v, 0))
+            Next::Going(Request::Word(v, 0))
         }
-        Word::Err(e) => RequestNext::End(Word::Err(e)),
+        Err(e) => Next::End(Err(e)),
     }
 }
 
-#[tactic(auto, using(crate::proofs::Laws::words_at, crate::proofs::Laws::words_none), unfolding(hardware::specs::Registers::outcome, hardware::specs::Prog::or_err, crate::specs::Hostif::valid_request_next, crate::specs::Hostif::valid_request, crate::specs::Left::request_next_left, crate::specs::Left::request_left, crate::specs::Hostif::request_next, hardware::specs::Prog::erase, hardware::specs::Registers::word, crate::specs::Hostif::start, crate::specs::Hostif::enabled, crate::specs::Hostif::hicr_read, crate::specs::Hostif::request, hardware::specs::Change::change, hardware::specs::Change::access_update, hardware::specs::Change::rest_update, crate::specs::Hostif::words))]
-fn written(n: usize, hicr: u32, at: u8, o: Outcome) -> RequestNext
+fn written(n: usize, hicr: u32, at: u8, o: R<()>) -> RequestNext
     requires { n ≤ 64 }
-    ensures { Bounds ((l : List ℕ) → length l ≡ n → request_next result l ≡ erase (or_err (λ _. words (at + 1) (drop (at + 1) l) (start hicr)) (outcome o))) (valid_request_next n result ≡ true) (request_next_left result ≤ 63 - at + START_LEFT) }
+    ensures { Bounds ((l : List ℕ) → length l ≡ n → request_next result l ≡ erase (or_err (λ _. words (at + 1) (drop (at + 1) l) (start hicr)) (reply o))) (valid_request_next n result ≡ true) (request_next_left result ≤ 63 - at + START_LEFT) }
 {
     match o {
-        Outcome::Ok => {
+        Ok(()) => {
             if (at as usize) + 1 < n {
-                return RequestNext::Going(Request::Word(hicr, at + 1));
+                return Next::Going(Request::Word(hicr, at + 1));
             }
-            RequestNext::Going(Request::Start(hicr))
+            Next::Going(Request::Start(hicr))
         }
-        Outcome::Err(e) => RequestNext::End(Word::Err(e)),
+        Err(e) => Next::End(Err(e)),
     }
 }
 
-#[tactic(auto, unfolding(crate::specs::Hostif::request_next, hardware::specs::Prog::erase, hardware::specs::Prog::or_err, hardware::specs::Prog::pick, hardware::specs::Registers::word, crate::specs::Hostif::completed, crate::specs::Hostif::start, crate::specs::Hostif::enabled, crate::specs::Hostif::hicr_read, crate::specs::Hostif::request, hardware::specs::Change::change, hardware::specs::Change::access_update, hardware::specs::Change::rest_update, crate::specs::Hostif::valid_request, crate::specs::Hostif::words, crate::specs::Hostif::valid_request_next, hardware::specs::Failures::failure_of, crate::specs::Left::request_next_left))]
-fn complete(w: Word) -> RequestNext
-    ensures { Bounds ((l : List ℕ) → request_next result l ≡ erase (or_err completed (word w))) ((m : ℕ) → valid_request_next m result ≡ true) (request_next_left result ≡ 0) }
+fn complete(w: R<u32>) -> RequestNext
+    ensures { Bounds ((l : List ℕ) → request_next result l ≡ erase (or_err completed (reply w))) ((m : ℕ) → valid_request_next m result ≡ true) (request_next_left result ≡ 0) }
 {
     match w {
-        Word::Ok(last) => {
+        Ok(last) => {
             if hardware::none_of(last, HICR_C) {
                 if hardware::none_of(last, HICR_SV) {
-                    return RequestNext::End(Word::Err(Error::HostInterface(last)));
+                    return Next::End(Err(Error::HostInterface(last)));
                 }
-                return RequestNext::End(Word::Ok(last));
+                return Next::End(Ok(last));
             }
-            RequestNext::End(Word::Err(Error::HostInterface(last)))
+            Next::End(Err(Error::HostInterface(last)))
         }
-        Word::Err(e) => RequestNext::End(Word::Err(e)),
+        Err(e) => Next::End(Err(e)),
     }
 }
 
-#[tactic(auto, using(hardware::proofs::Prog::going), unfolding(crate::specs::Hostif::request_next, crate::specs::Hostif::access_request, crate::specs::Hostif::rest_request, hardware::specs::Poll::poll_next, crate::specs::Hostif::valid_request_next, crate::specs::Hostif::valid_request, hardware::specs::Poll::valid_poll_next, crate::specs::Left::request_next_left, crate::specs::Left::request_left, hardware::specs::Prog::followed, crate::specs::Hostif::start, crate::specs::Hostif::enabled, crate::specs::Hostif::hicr_read, crate::specs::Hostif::request, hardware::specs::Change::change, hardware::specs::Change::access_update, hardware::specs::Change::rest_update, crate::specs::Hostif::words))]
 fn poll(n: PollNext) -> RequestNext
     ensures { Bounds ((l : List ℕ) → request_next result l ≡ followed (poll_next hicr_watch n) (or_err completed)) ((m : ℕ) → valid_poll_next POLLS n ≡ true → valid_request_next m result ≡ true) (request_next_left result ≤ longest (poll_next hicr_watch n)) }
 {
     match n {
-        PollNext::Going(t) => RequestNext::Going(Request::Polling(t)),
-        PollNext::End(w) => complete(w),
+        Next::Going(t) => Next::Going(Request::Polling(t)),
+        Next::End(w) => complete(w),
     }
 }
 
-#[tactic(auto, using(hardware::proofs::Ends::poll_ends, hardware::proofs::Prog::over, hardware::proofs::Longest::longest_opened), unfolding(hardware::specs::Registers::outcome, hardware::specs::Prog::or_err, crate::specs::Hostif::polling, crate::specs::Hostif::request_next, hardware::specs::Prog::erase, hardware::specs::Registers::word, crate::specs::Hostif::start, crate::specs::Hostif::enabled, crate::specs::Hostif::hicr_read, crate::specs::Hostif::request, hardware::specs::Change::change, hardware::specs::Change::access_update, hardware::specs::Change::rest_update, crate::specs::Hostif::valid_request, crate::specs::Hostif::words, crate::specs::Hostif::valid_request_next, crate::specs::Left::request_next_left))]
-fn started(hicr: u32, o: Outcome) -> RequestNext
-    ensures { Bounds ((l : List ℕ) → request_next result l ≡ erase (or_err (λ _. polling hicr) (outcome o))) ((m : ℕ) → valid_request_next m result ≡ true) (request_next_left result ≤ 2 * POLLS) }
+fn started(hicr: u32, o: R<()>) -> RequestNext
+    ensures { Bounds ((l : List ℕ) → request_next result l ≡ erase (or_err (λ _. polling hicr) (reply o))) ((m : ℕ) → valid_request_next m result ≡ true) (request_next_left result ≤ 2 * POLLS) }
 {
     match o {
-        Outcome::Ok => poll(hardware::poll::open(watch(), POLLS, hicr | HICR_C)),
-        Outcome::Err(e) => RequestNext::End(Word::Err(e)),
+        Ok(()) => poll(hardware::poll::open(watch(), POLLS, hicr | HICR_C)),
+        Err(e) => Next::End(Err(e)),
     }
 }
 
 // n: the number of the block's words.
-#[tactic(auto, using(hardware::proofs::Longest::longest_next, crate::proofs::Left::sum_falls, hardware::proofs::Prog::fed, hardware::proofs::Prog::over), unfolding(crate::specs::Hostif::rest_request, crate::specs::Left::request_left, crate::specs::Hostif::access_request, hardware::specs::Change::update_next, crate::specs::Hostif::valid_request, hardware::specs::Poll::poll_next))]
 pub(crate) fn step(n: usize, s: Request, a: Answer) -> RequestNext
     requires { n ≤ 64 }
     ensures { Bounds ((l : List ℕ) → length l ≡ n → request_next result l ≡ erase (rest_request s l a)) (valid_request n s ≡ true → valid_request_next n result ≡ true) ((l : List ℕ) → fits (access_request s l) a ≡ true → InType a → request_next_left result < request_left s) }
@@ -192,7 +183,6 @@ pub(crate) fn step(n: usize, s: Request, a: Answer) -> RequestNext
     }
 }
 
-#[tactic(auto, unfolding(hardware::specs::Prog::pick, crate::specs::Hostif::valid_request))]
 pub(crate) fn valid(n: usize, s: Request) -> bool
     ensures { result ≡ valid_request n s }
 {

@@ -1,11 +1,13 @@
 // The firmware's PHY token, asked for or given back by a command of two words.
+#![tactic(auto, using(hardware::proofs::Prog::going, hardware::proofs::Prog::over, crate::proofs::Laws::two_words), unfolding(crate::specs::Hostif::tokened, crate::specs::Hostif::header, crate::specs::Hostif::valid_token, hardware::specs::Prog::pick, crate::specs::Hostif::token_second, hardware::specs::Registers::reply, crate::specs::Hostif::token_status, hardware::specs::Failures::failure_of, crate::specs::Hostif::command_next, crate::specs::Hostif::token_next, crate::specs::Hostif::access_token, crate::specs::Hostif::rest_token, crate::specs::Hostif::valid_token_next, crate::specs::Hostif::valid_command_next, hardware::specs::Prog::followed, hardware::specs::Prog::erase, crate::specs::Hostif::token, crate::specs::Hostif::token_block))]
+
 ghost use Rattle.std.specs.Prelude.{◌≡◌, true, [], ◌∷◌};
 ghost use Rattle.hardware.specs.Prog.{erase, followed};
-ghost use Rattle.hardware.specs.Registers.{byte, flag};
+ghost use Rattle.hardware.specs.Registers.{reply};
 ghost use Rattle.hostif.specs.Hostif.{header, command_next, valid_command_next, token_second, token_status, tokened, token, access_token, rest_token, token_next, valid_token, valid_token_next};
 
 use crate::command::{Command, CommandNext};
-use hardware::{Access, Answer, Byte, Error, Flag, Port};
+use hardware::{Access, Answer, Error, Next, Port, R};
 
 pub const TOKEN_COMMAND: u8 = 0x0a;
 
@@ -21,21 +23,15 @@ pub struct Token {
     pub command: Command,
 }
 
-#[derive(Clone, Copy)]
-pub enum TokenNext {
-    Going(Token),
-    End(Flag),
-}
+pub type TokenNext = Next<Token, R<bool>>;
 
 // Byte 3 of a header is FF, byte 1 the length, byte 0 the command.
-#[tactic(auto, unfolding(crate::specs::Hostif::tokened, crate::specs::Hostif::header, crate::specs::Hostif::valid_token))]
 pub fn header(command: u8, len: u8) -> u32
     ensures { result ≡ header command len }
 {
     0xff00_0000 + len as u32 * 256 + command as u32
 }
 
-#[tactic(auto, unfolding(hardware::specs::Prog::pick, crate::specs::Hostif::token_second, crate::specs::Hostif::tokened, crate::specs::Hostif::header, crate::specs::Hostif::valid_token))]
 fn second(port: Port, take: bool) -> u32
     ensures { result ≡ token_second port take }
 {
@@ -45,42 +41,35 @@ fn second(port: Port, take: bool) -> u32
     port.lan as u32 + 256
 }
 
-#[tactic(auto, unfolding(hardware::specs::Prog::pick, hardware::specs::Registers::byte, hardware::specs::Registers::flag, crate::specs::Hostif::token_status, crate::specs::Hostif::tokened, crate::specs::Hostif::header, crate::specs::Hostif::valid_token, hardware::specs::Failures::failure_of))]
-fn status(take: bool, s: Byte) -> Flag
-    ensures { flag result ≡ token_status take (byte s) }
+fn status(take: bool, s: R<u8>) -> R<bool>
+    ensures { reply result ≡ token_status take (reply s) }
 {
-    match s {
-        Byte::Ok(b) => {
-            if b == TOKEN_OK {
-                return Flag::Ok(true);
-            }
-            if b == TOKEN_BUSY {
-                if take {
-                    return Flag::Ok(false);
-                }
-            }
-            Flag::Err(Error::Firmware(TOKEN_COMMAND, b))
-        }
-        Byte::Err(e) => Flag::Err(e),
+    let b = s?;
+    if b == TOKEN_OK {
+        return Ok(true);
     }
+    if b == TOKEN_BUSY {
+        if take {
+            return Ok(false);
+        }
+    }
+    Err(Error::Firmware(TOKEN_COMMAND, b))
 }
 
-#[tactic(auto, using(hardware::proofs::Prog::going), unfolding(crate::specs::Hostif::command_next, crate::specs::Hostif::token_next, crate::specs::Hostif::access_token, crate::specs::Hostif::rest_token, crate::specs::Hostif::valid_token_next, crate::specs::Hostif::valid_token, crate::specs::Hostif::valid_command_next, hardware::specs::Prog::followed, hardware::specs::Prog::erase, crate::specs::Hostif::tokened, crate::specs::Hostif::header))]
 fn commanded(port: Port, take: bool, first: u32, second: u32, n: CommandNext) -> TokenNext
     ensures yields { token_next port take result ≡ followed (command_next port n (first ∷ second ∷ [])) (tokened take) }
     ensures limits { valid_command_next port 2 n ≡ true → valid_token_next port result ≡ true }
 {
     match n {
-        CommandNext::Going(command) => TokenNext::Going(Token {
+        Next::Going(command) => Next::Going(Token {
             first,
             second,
             command,
         }),
-        CommandNext::End(s) => TokenNext::End(status(take, s)),
+        Next::End(s) => Next::End(status(take, s)),
     }
 }
 
-#[tactic(auto, using(hardware::proofs::Prog::over), unfolding(crate::specs::Hostif::token, crate::specs::Hostif::token_block))]
 pub fn open(port: Port, take: bool) -> TokenNext
     ensures yields { token_next port take result ≡ erase (token port take) }
     ensures limits { valid_token_next port result ≡ true }
@@ -94,7 +83,6 @@ pub fn open(port: Port, take: bool) -> TokenNext
     )
 }
 
-#[tactic(auto, unfolding(crate::specs::Hostif::access_token))]
 pub fn access(port: Port, s: Token) -> Access
     ensures { result ≡ access_token port s }
 {
@@ -103,7 +91,6 @@ pub fn access(port: Port, s: Token) -> Access
     crate::command::access(port, command, &block)
 }
 
-#[tactic(auto, using(crate::proofs::Laws::two_words, hardware::proofs::Prog::over), unfolding(crate::specs::Hostif::rest_token, crate::specs::Hostif::valid_token))]
 pub fn step(port: Port, take: bool, s: Token, a: Answer) -> TokenNext
     ensures yields { token_next port take result ≡ erase (rest_token port take s a) }
     ensures limits { valid_token port s ≡ true → valid_token_next port result ≡ true }
@@ -114,7 +101,6 @@ pub fn step(port: Port, take: bool, s: Token, a: Answer) -> TokenNext
     commanded(port, take, block[0], block[1], n)
 }
 
-#[tactic(auto, unfolding(crate::specs::Hostif::valid_token))]
 pub fn valid(port: Port, s: Token) -> bool
     ensures { result ≡ valid_token port s }
 {

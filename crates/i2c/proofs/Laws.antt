@@ -30,7 +30,6 @@ use Rattle.i2c.specs.declared.How.{How}
 use Rattle.i2c.specs.declared.once.Request.{Request}
 use Rattle.i2c.specs.declared.once.Request.TheVariants.{ReadByte, WriteByte, ReadCombined, WriteCombined}
 use Rattle.i2c.specs.declared.retry.Stage.TheVariants.{Trying}
-use Rattle.i2c.specs.declared.retry.RetryNext.TheVariants.{Going}
 use Rattle.i2c.specs.I2c.{mask, attempts, device_of, script_of, is_write, body, failed_i2c, once, when_lock, read_tries, write_tries, given_up, writes, retried, qsfp, ask_bus, granted, given_bus, on_grant, with_bus, handshaken}
 use Rattle.hardware.specs.declared.Update.TheVariants.{Reading}
 use Rattle.hardware.specs.Change.{change, access_update, rest_update}
@@ -38,10 +37,10 @@ use Rattle.hardware.proofs.Laws.{held_on}
 use Rattle.hardware.proofs.Prog.{bind_assoc, bind_ret}
 use Rattle.i2c.specs.declared.handshake.Handshake.{Handshake}
 use Rattle.i2c.specs.declared.handshake.Handshake.TheVariants.{Asking, Granting}
-use Rattle.i2c.specs.declared.handshake.HandshakeNext.TheVariants.{Going as HandshakeGoing}
 use Rattle.i2c.specs.Handshake.{has_handshake, closing, entered, on_granted, awaiting_grant, looked_at, access_handshake, rest_handshake, handshake_next, due_handshake, allows, valid_handshake, valid_request}
 use Rattle.i2c.specs.Calls.{limit_of, tries_of, valid_operands}
 use Rattle.i2c.specs.Retry.{wanted, back_then, after_release, after_read, after_write, after_try, try_now, locked_try, tries_left, access_retry, access_stage, rest_retry, rest_stage, retry_next}
+use Rattle.hardware.specs.declared.Next.TheVariants.{Going}
 
 -- a call's script does what the Rust's closure does
 pub body_is : (l : Layout) (r : Request) → transfer keeping l (device_of r) (commands (script_of r)) none ≡ body l r
@@ -61,7 +60,7 @@ on_start (WriteCombined d reg v) = refl
 
 -- an attempt begins, and is noted
 pub begins : (port : Port) (r : Request) (how : How) (left : ℕ)
-    → retry_next port r how (Going attempt_begins (record { left = left; stage = Trying New })) ≡ erase (try_now port r how left)
+    → retry_next port r how (Going (attempt_begins, (record { left = left; stage = Trying New }))) ≡ erase (try_now port r how left)
 unfolding retry_next marked acknowledged access_retry access_stage access_attempt rest_retry rest_stage rest_attempt try_now once attempt attempting erase ◌>>=◌
 begins port r how left =
     ap (λ f. note Attempt (ask (Read (layout_of port.family).reg) (λ a. erase (or_err (begun how.sequence (layout_of port.family) (device_of r) f) (raw a) >>= after_try port r how left))))
@@ -146,11 +145,11 @@ read_open port r how tries w = rw (w)
 
 -- with a look left, ESDP is read
 pub granted_more : (port : Port) (r : Request) (how : How) (tries left : ℕ) → (left ≡ 0 → ⊥)
-    → handshake_next port r how (HandshakeGoing unmarked (Granting tries (left - 1))) ≡ erase (awaiting_grant port r how tries left)
+    → handshake_next port r how (Going (unmarked, (Granting tries (left - 1)))) ≡ erase (awaiting_grant port r how tries left)
 unfolding handshake_next marked acknowledged access_handshake rest_handshake looked_at awaiting_grant granted erase ◌>>=◌
 granted_more port r how tries zero h = absurd (h refl)
 granted_more port r how tries (suc n) h =
-    ap (λ m. handshake_next port r how (HandshakeGoing unmarked (Granting tries m))) (sub-one (suc n))
+    ap (λ m. handshake_next port r how (Going (unmarked, (Granting tries m)))) (sub-one (suc n))
 
 closing_gives : (port : Port) (r : Request) → has_handshake port r ≡ true → closing port r ≡ given_bus
 unfolding closing pick
@@ -161,7 +160,7 @@ unfolding closing pick
 closing_ends port r h = fun_ext (λ result. rw (h))
 
 asks : (port : Port) (r : Request) (how : How) (tries : ℕ)
-    → handshake_next port r how (HandshakeGoing unmarked (Asking tries Reading)) ≡ erase (change ask_bus >>? λ _. awaiting_grant port r how tries 200)
+    → handshake_next port r how (Going (unmarked, (Asking tries Reading))) ≡ erase (change ask_bus >>? λ _. awaiting_grant port r how tries 200)
 unfolding handshake_next marked acknowledged access_handshake rest_handshake access_update rest_update change erase ◌>>=◌
 asks port r how tries = refl
 
@@ -175,7 +174,7 @@ no_bus port device f h = rw (h)
 
 -- the handshake begins
 pub handshake_opens : (port : Port) (r : Request) (how : How) (tries : ℕ) → has_handshake port r ≡ true
-    → handshake_next port r how (HandshakeGoing unmarked (Asking tries Reading)) ≡ erase (handshaken port r (retried port r how tries))
+    → handshake_next port r how (Going (unmarked, (Asking tries Reading))) ≡ erase (handshaken port r (retried port r how tries))
 unfolding handshaken has_handshake awaiting_grant on_granted on_grant device_of
 handshake_opens port (ReadByte d o) how tries h =
     asks port (ReadByte d o) how tries

@@ -14,7 +14,6 @@ use Rattle.hardware.specs.Prog.{Prog, R, ask, erase, tally, ◌>>=◌}
 use Rattle.hardware.proofs.Prog.{over, heard_on, going_on, going_tally, over_tally}
 use Rattle.bus.specs.declared.Taken.{Taken}
 use Rattle.bus.specs.declared.job.Job.{Job}
-use Rattle.bus.specs.declared.job.JobNext.TheVariants.{Going as JobGoing}
 use Rattle.bus.specs.Bus.{Bus}
 use Rattle.bus.specs.Command.{access_job, heard_job, job_next, rest_job, valid_job}
 use Rattle.bus.specs.Layout.{layout_of}
@@ -28,24 +27,22 @@ use Rattle.i2c.specs.declared.How.{How}
 use Rattle.i2c.specs.declared.once.Request.{Request}
 use Rattle.i2c.specs.declared.retry.Stage.TheVariants.{Trying}
 use Rattle.i2c.specs.declared.handshake.Handshake.{Handshake}
-use Rattle.i2c.specs.declared.handshake.HandshakeNext.TheVariants.{Going}
 use Rattle.i2c.specs.I2c.{device_of, gives_value, script_of}
 use Rattle.i2c.specs.Retry.{access_stage, access_retry, rest_stage, rest_retry, after_try, due_stage, due_retry, valid_stage, valid_retry}
 use Rattle.i2c.specs.Handshake.{access_handshake, rest_handshake, handshake_next, closing, due_handshake, valid_handshake, valid_request}
-use Rattle.i2c.specs.declared.calls.TransferCall.TheVariants.{Going as TransferGoing}
-use Rattle.i2c.specs.declared.calls.TransferTold.TheVariants.{Ask}
-use Rattle.i2c.specs.declared.direct.Went.{Went}
-use Rattle.i2c.specs.declared.direct.Went.TheVariants.{On, Slow}
 use Rattle.i2c.specs.Calls.{limit_of, rest_call, said_transfer, stands_transfer, step_transfer, valid_call, valid_operands}
 use Rattle.i2c.specs.Direct.{carrying, RequestMoves, WentBy}
+use Rattle.hardware.specs.declared.Next.TheVariants.{Going}
+use Rattle.hardware.specs.declared.Told.TheVariants.{Ask}
+use Rattle.std.specs.Prelude.{Ok, Some, None, Option}
 
 module _ (port : Port) (r : Request) (how : How) (left at : ℕ) (taken : Taken) (job next : Job) (a : Answer) where
   -- the job goes on from one to the next
   abbrev JobOn : Type 0
-  JobOn = (k : ℕ → Bus) → job_next (layout_of port.family) (device_of r) (command_at (script_of r) at) (JobGoing next) k ≡ erase (rest_job (layout_of port.family) (device_of r) (command_at (script_of r) at) job a k)
+  JobOn = (k : ℕ → Bus) → job_next (layout_of port.family) (device_of r) (command_at (script_of r) at) (Going next) k ≡ erase (rest_job (layout_of port.family) (device_of r) (command_at (script_of r) at) job a k)
 
   job_on : JobOn
-      → handshake_next port r how (Going (hears (heard_job next)) (carrying left at taken next)) ≡ erase (rest_handshake port r how (carrying left at taken job) a)
+      → handshake_next port r how (Going ((hears (heard_job next)), (carrying left at taken next))) ≡ erase (rest_handshake port r how (carrying left at taken job) a)
   unfolding handshake_next access_handshake rest_handshake access_retry access_stage rest_retry rest_stage access_attempt rest_attempt access_transfer rest_transfer job_next marked
   job_on h =
       over _ (closing port r) (going_on (hears (heard_job next)) (access_handshake port (carrying left at taken next)) (rest_retry port r how (record { left = left; stage = Trying (Moving (record { at = at; taken = taken; job = next })) })) (closing port r))
@@ -93,7 +90,7 @@ admitted v x a p e f = rw (e, f)
 
 pub transfer_on : (port : Port) (r : Request) (how : How) (m : Meter) (h g : Handshake) (a : Answer) (x : Access)
     → valid_operands port r m ≡ true → RequestMoves port r (limit_of r) (limit_of r) m h a x g
-    → Keeps (said_transfer (Ask x (TransferGoing port r how m g)) ≡ step_transfer (TransferGoing port r how m h) a) (stands_transfer (Ask x (TransferGoing port r how m g)))
+    → Keeps (said_transfer (Ok (Ask x (Some (port, r, how, m, g)))) ≡ step_transfer (Some (port, r, how, m, h)) a) (stands_transfer (Ok (Ask x (Some (port, r, how, m, g)))))
 unfolding said_transfer stands_transfer step_transfer valid_call rest_call
 transfer_on port r how m h g a x v d =
     record {
@@ -101,7 +98,7 @@ transfer_on port r how m h g a x v d =
       limits = (d.access, picked _ _ v d.limits);
     }
 
-pub went_map : (P Q : Access → Handshake → Type 0) → ((x : Access) (g : Handshake) → P x g → Q x g) → (w : Went) → WentBy P w → WentBy Q w
+pub went_map : (P Q : Access → Handshake → Type 0) → ((x : Access) (g : Handshake) → P x g → Q x g) → (w : (Option (Access × Handshake))) → WentBy P w → WentBy Q w
 unfolding WentBy
-went_map P Q f (On x g) h = f x g h
-went_map P Q f Slow h = tt
+went_map P Q f (Some (x, g)) h = f x g h
+went_map P Q f None h = tt

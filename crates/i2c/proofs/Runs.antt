@@ -22,9 +22,6 @@ use Rattle.hardware.proofs.Ends.{run_ends, ask_ends, ends_erase, update_after, u
 use Rattle.i2c.specs.declared.How.{How}
 use Rattle.i2c.specs.declared.once.Request.{Request}
 use Rattle.i2c.specs.declared.handshake.Handshake.{Handshake}
-use Rattle.i2c.specs.declared.calls.TransferCall.TheVariants.{Going, Over}
-use Rattle.i2c.specs.declared.calls.TransferTold.{TransferTold}
-use Rattle.i2c.specs.declared.calls.TransferTold.TheVariants.{Ask, End, Refused}
 use Rattle.i2c.specs.I2c.{transferred, setup_bus, gives_value}
 use Rattle.i2c.specs.Calls.{tries_of, even_device, open_transfer, rest_call, step_transfer, said_transfer, stands_transfer, follows_transfer, step_setup, said_setup, stands_setup, follows_setup}
 use Rattle.i2c.proofs.Laws.{upto}
@@ -32,10 +29,10 @@ use Rattle.i2c.proofs.Ends.{TRANSFER_STEPS, transferred_ends, MOST_STEPS, transf
 use Rattle.hardware.specs.Promise.{Keeps}
 use Rattle.hardware.specs.declared.Update.{Update}
 use Rattle.hardware.proofs.Prog.{run_erase}
-use Rattle.i2c.specs.declared.calls.SetupCall.TheVariants.{Going as SetupGoing, Over as SetupOver}
-use Rattle.i2c.specs.declared.calls.SetupTold.{SetupTold}
-use Rattle.i2c.specs.declared.calls.SetupTold.TheVariants.{Ask as SetupAsk, End as SetupEnd, Refused as SetupRefused}
 use native.Mathlib.Omega.{arith}
+use Rattle.i2c.specs.Aliases.{SetupTold, TransferTold}
+use Rattle.hardware.specs.declared.Told.TheVariants.{Ask, End}
+use Rattle.std.specs.Prelude.{Ok, Err, Some, None}
 
 -- an opening's questions and then the run
 asked_runs : (o : Asked Port) (e f : Bool) (p : Port → Prog (R ℕ)) (l : List Answer)
@@ -83,17 +80,17 @@ pub setup_finishes : (l : List Answer) → 3 ≤ length l → Awaited (change se
 setup_finishes l h w = run_ends (change setup_bus) 3 l setup_ends h w
 
 -- a state that was handed out, with any answer of the kind that its access awaits, is not refused
-pub transfer_accepts : (x : Access) (port : Port) (r : Request) (how : How) (m : Meter) (s : Handshake) (a : Answer) → stands_transfer (Ask x (Going port r how m s))
-    → fits x a ≡ true → step_transfer (Going port r how m s) a ≡ yes (tally m (rest_call port r how s a))
+pub transfer_accepts : (x : Access) (port : Port) (r : Request) (how : How) (m : Meter) (s : Handshake) (a : Answer) → stands_transfer (Ok (Ask x (Some (port, r, how, m, s))))
+    → fits x a ≡ true → step_transfer (Some (port, r, how, m, s)) a ≡ yes (tally m (rest_call port r how s a))
 unfolding stands_transfer step_transfer admitting question
 transfer_accepts x port r how m s a h e = rw (h.1, ← h.0, e)
 
 pub transfer_steps_on : StepsOn said_transfer follows_transfer stands_transfer
 unfolding follows_transfer said_transfer stands_transfer AwaitedIn Awaited left_asked_after left_after IfYes Asks
-transfer_steps_on (Ask y (Going port r how m s)) u a h k w = (k.yields ∙ transfer_accepts y port r how m s a h (is_true (fits y a) w.0), k.limits, tt)
-transfer_steps_on (Ask y Over) u a h k w = absurd h
-transfer_steps_on (End v m) u a h k w = absurd k
-transfer_steps_on (Refused q) u a h k w = absurd k
+transfer_steps_on (Ok (Ask y (Some (port, r, how, m, s)))) u a h k w = (k.yields ∙ transfer_accepts y port r how m s a h (is_true (fits y a) w.0), k.limits, tt)
+transfer_steps_on (Ok (Ask y None)) u a h k w = absurd h
+transfer_steps_on (Ok (End (v, m))) u a h k w = absurd k
+transfer_steps_on (Err q) u a h k w = absurd k
 
 -- its number falls at every accepted step
 pub transfer_falls : Falls said_transfer follows_transfer stands_transfer
@@ -106,17 +103,17 @@ pub transfer_driven : (family device lan attempts : ℕ) (r : Request) (how : Ho
     (yes (counted (meter_in blank (transferred port r how (tries_of r attempts)) (answers_of ks)) (run (transferred port r how (tries_of r attempts)) (answers_of ks))))))
 transfer_driven family device lan attempts r how t k ks kept w = opened_runs said_transfer follows_transfer stands_transfer transfer_steps_on t ks k kept w ∙ transfer_runs family device lan attempts r how t k.yields (answers_of ks)
 
-pub setup_accepts : (x : Access) (s : Update) (a : Answer) → stands_setup (SetupAsk x (SetupGoing s)) → fits x a ≡ true
-    → step_setup (SetupGoing s) a ≡ yes (erase (rest_update setup_bus s a))
+pub setup_accepts : (x : Access) (s : Update) (a : Answer) → stands_setup (Ok (Ask x (Some s))) → fits x a ≡ true
+    → step_setup (Some s) a ≡ yes (erase (rest_update setup_bus s a))
 unfolding stands_setup step_setup admitting question
 setup_accepts x s a h e = rw (← h, e)
 
 pub setup_steps_on : StepsOn said_setup follows_setup stands_setup
 unfolding follows_setup said_setup stands_setup AwaitedIn Awaited left_asked_after left_after IfYes Asks
-setup_steps_on (SetupAsk y (SetupGoing s)) u a h k w = (k.yields ∙ setup_accepts y s a h (is_true (fits y a) w.0), k.limits, tt)
-setup_steps_on (SetupAsk y SetupOver) u a h k w = absurd h
-setup_steps_on (SetupEnd o) u a h k w = absurd k
-setup_steps_on (SetupRefused q) u a h k w = absurd k
+setup_steps_on (Ok (Ask y (Some s))) u a h k w = (k.yields ∙ setup_accepts y s a h (is_true (fits y a) w.0), k.limits, tt)
+setup_steps_on (Ok (Ask y None)) u a h k w = absurd h
+setup_steps_on (Ok (End o)) u a h k w = absurd k
+setup_steps_on (Err q) u a h k w = absurd k
 
 pub setup_falls : Falls said_setup follows_setup stands_setup
 setup_falls = lasting_falls said_setup follows_setup stands_setup setup_steps_on
@@ -130,16 +127,16 @@ pub setup_driven : (t : SetupTold) → Keeps (said_setup t ≡ yes (erase (chang
 setup_driven t k ks kept w = opened_runs said_setup follows_setup stands_setup setup_steps_on t ks k kept w ∙ setup_runs t k.yields (answers_of ks)
 
 -- from any state, whoever made it, the call takes at most so many steps more
-pub setup_lasts : (x : Access) (s : Update) (ks : List (Exchange SetupTold)) → stands_setup (SetupAsk x (SetupGoing s)) → AllKept (Accepts said_setup follows_setup) (SetupAsk x (SetupGoing s)) ks → Lasts said_setup (SetupAsk x (SetupGoing s)) ks (suc (update_after s))
+pub setup_lasts : (x : Access) (s : Update) (ks : List (Exchange SetupTold)) → stands_setup (Ok (Ask x (Some s))) → AllKept (Accepts said_setup follows_setup) (Ok (Ask x (Some s))) ks → Lasts said_setup (Ok (Ask x (Some s))) ks (suc (update_after s))
 unfolding said_setup IfYes
 setup_lasts x s ks h k =
-    steps_few said_setup follows_setup stands_setup setup_steps_on (SetupAsk x (SetupGoing s)) ks (suc (update_after s)) h k (ask_ends x _ (update_after s) (λ a. ends_erase _ _ (update_rest_ends setup_bus s a)))
+    steps_few said_setup follows_setup stands_setup setup_steps_on (Ok (Ask x (Some s))) ks (suc (update_after s)) h k (ask_ends x _ (update_after s) (λ a. ends_erase _ _ (update_rest_ends setup_bus s a)))
 
-pub transfer_lasts : (x : Access) (port : Port) (r : Request) (how : How) (m : Meter) (s : Handshake) (ks : List (Exchange TransferTold)) → stands_transfer (Ask x (Going port r how m s))
-    → AllKept (Accepts said_transfer follows_transfer) (Ask x (Going port r how m s)) ks → Lasts said_transfer (Ask x (Going port r how m s)) ks (suc (handshake_after port.family r how.lock s))
+pub transfer_lasts : (x : Access) (port : Port) (r : Request) (how : How) (m : Meter) (s : Handshake) (ks : List (Exchange TransferTold)) → stands_transfer (Ok (Ask x (Some (port, r, how, m, s))))
+    → AllKept (Accepts said_transfer follows_transfer) (Ok (Ask x (Some (port, r, how, m, s)))) ks → Lasts said_transfer (Ok (Ask x (Some (port, r, how, m, s)))) ks (suc (handshake_after port.family r how.lock s))
 unfolding said_transfer rest_call gives_value IfYes
 transfer_lasts x port r how m s ks h k =
-    steps_few said_transfer follows_transfer stands_transfer transfer_steps_on (Ask x (Going port r how m s)) ks (suc (handshake_after port.family r how.lock s)) h k
+    steps_few said_transfer follows_transfer stands_transfer transfer_steps_on (Ok (Ask x (Some (port, r, how, m, s)))) ks (suc (handshake_after port.family r how.lock s)) h k
     (ask_ends x _ (handshake_after port.family r how.lock s)
     (λ a. ends_tally m _ _ (ends_more _ (handshake_after port.family r how.lock s + 0) (handshake_after port.family r how.lock s)
     (ends_bind _ _ (handshake_after port.family r how.lock s) 0 (handshake_rest_ends port r how s a) (λ v. ret_ends _ 0)) (omega arith))))

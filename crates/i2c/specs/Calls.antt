@@ -1,6 +1,6 @@
 -- What the public calls of the four transfers and of `qsfp_setup` yield: a refusal by its number, or what is left of the
 -- call, with the meter beside its result.
-use Rattle.std.specs.Prelude.{ℕ, ◌%◌, ◌≡◌, Bool, true, false, eqb, leb}
+use Rattle.std.specs.Prelude.{ℕ, ◌%◌, ◌≡◌, Bool, true, false, eqb, leb, Ok, Err, Some, None}
 use Rattle.hardware.specs.declared.Answer.{Answer}
 use Rattle.hardware.specs.declared.Meter.{Meter}
 use Rattle.hardware.specs.declared.Port.{Port}
@@ -8,23 +8,17 @@ use Rattle.hardware.specs.Asked.{Asked, yes, no, question, and_then, open_port, 
 use Rattle.hardware.specs.Marks.{valid_held}
 use Rattle.hardware.specs.Numbers.{refusal_number}
 use Rattle.hardware.specs.Prog.{Prog, ret, ask, erase, R, Counted, blank, tally, pick, ◌>>=◌}
-use Rattle.hardware.specs.Registers.{word, outcome}
+use Rattle.hardware.specs.Registers.{reply}
 use Rattle.hardware.specs.Change.{access_update, rest_update}
 use Rattle.i2c.specs.declared.How.{How}
 use Rattle.i2c.specs.declared.once.Request.{Request}
 use Rattle.i2c.specs.declared.once.Request.TheVariants.{ReadByte, WriteByte, ReadCombined, WriteCombined}
 use Rattle.i2c.specs.declared.handshake.Handshake.{Handshake}
-use Rattle.i2c.specs.declared.calls.TransferCall.{TransferCall}
-use Rattle.i2c.specs.declared.calls.TransferCall.TheVariants.{Going, Over}
-use Rattle.i2c.specs.declared.calls.TransferTold.{TransferTold}
-use Rattle.i2c.specs.declared.calls.TransferTold.TheVariants.{Ask, End, Refused}
-use Rattle.i2c.specs.declared.calls.SetupCall.{SetupCall}
-use Rattle.i2c.specs.declared.calls.SetupCall.TheVariants.{Going as SetupGoing, Over as SetupOver}
-use Rattle.i2c.specs.declared.calls.SetupTold.{SetupTold}
-use Rattle.i2c.specs.declared.calls.SetupTold.TheVariants.{Ask as SetupAsk, End as SetupEnd, Refused as SetupRefused}
 use Rattle.i2c.specs.I2c.{device_of, gives_value, transferred, setup_bus}
 use Rattle.i2c.specs.Handshake.{access_handshake, rest_handshake, valid_request}
 use Rattle.hardware.specs.Promise.{Keeps}
+use Rattle.i2c.specs.Aliases.{SetupTold, TransferTold, SetupCall, TransferCall}
+use Rattle.hardware.specs.declared.Told.TheVariants.{Ask, End}
 
 -- the most attempts of a call
 unfoldable pub limit_of : Request → ℕ
@@ -62,46 +56,46 @@ valid_call port r m s = pick (valid_operands port r m) (valid_request port r (li
 
 -- a step: 10, 11, 12
 unfoldable pub step_transfer : TransferCall → Answer → Asked (Prog (Counted (R ℕ)))
-step_transfer (Going port r how m s) a = admitting (valid_call port r m s) (access_handshake port s) a (yes (tally m (rest_call port r how s a)))
-step_transfer Over a = no 11
+step_transfer (Some (port, r, how, m, s)) a = admitting (valid_call port r m s) (access_handshake port s) a (yes (tally m (rest_call port r how s a)))
+step_transfer None a = no 11
 
 unfoldable pub said_transfer : TransferTold → Asked (Prog (Counted (R ℕ)))
-said_transfer (Ask x (Going port r how m s)) = yes (ask x (λ a. tally m (rest_call port r how s a)))
-said_transfer (Ask x Over) = no 0
-said_transfer (End w m) = yes (ret (record { meter = m; result = word w }))
-said_transfer (Refused q) = no (refusal_number q)
+said_transfer (Ok (Ask x (Some (port, r, how, m, s)))) = yes (ask x (λ a. tally m (rest_call port r how s a)))
+said_transfer (Ok (Ask x None)) = no 0
+said_transfer (Ok (End (w, m))) = yes (ret (record { meter = m; result = reply w }))
+said_transfer (Err q) = no (refusal_number q)
 
 -- a state to go on from comes with the access it awaits, and passes question 10
 unfoldable pub stands_transfer : TransferTold → Type 0
-stands_transfer (Ask x (Going port r how m s)) = (x ≡ access_handshake port s) × (valid_call port r m s ≡ true)
-stands_transfer (Ask x Over) = ⊥
-stands_transfer (End w m) = Unit {0}
-stands_transfer (Refused q) = Unit {0}
+stands_transfer (Ok (Ask x (Some (port, r, how, m, s)))) = (x ≡ access_handshake port s) × (valid_call port r m s ≡ true)
+stands_transfer (Ok (Ask x None)) = ⊥
+stands_transfer (Ok (End (w, m))) = Unit {0}
+stands_transfer (Err q) = Unit {0}
 
 -- what a step told, u, follows what was told before it, t: as the step promises
 unfoldable pub follows_transfer : TransferTold → Answer → TransferTold → Type 0
-follows_transfer (Ask x s) a u = Keeps (said_transfer u ≡ step_transfer s a) (stands_transfer u)
-follows_transfer (End w m) a u = ⊥
-follows_transfer (Refused q) a u = ⊥
+follows_transfer (Ok (Ask x s)) a u = Keeps (said_transfer u ≡ step_transfer s a) (stands_transfer u)
+follows_transfer (Ok (End (w, m))) a u = ⊥
+follows_transfer (Err q) a u = ⊥
 
 -- `qsfp_setup` takes no port and asks nothing; its state has no counter
 unfoldable pub step_setup : SetupCall → Answer → Asked (Prog (R (Unit {0})))
-step_setup (SetupGoing u) a = admitting true (access_update setup_bus u) a (yes (erase (rest_update setup_bus u a)))
-step_setup SetupOver a = no 11
+step_setup (Some u) a = admitting true (access_update setup_bus u) a (yes (erase (rest_update setup_bus u a)))
+step_setup None a = no 11
 
 unfoldable pub said_setup : SetupTold → Asked (Prog (R (Unit {0})))
-said_setup (SetupAsk x (SetupGoing u)) = yes (ask x (λ a. erase (rest_update setup_bus u a)))
-said_setup (SetupAsk x SetupOver) = no 0
-said_setup (SetupEnd o) = yes (ret (outcome o))
-said_setup (SetupRefused q) = no (refusal_number q)
+said_setup (Ok (Ask x (Some u))) = yes (ask x (λ a. erase (rest_update setup_bus u a)))
+said_setup (Ok (Ask x None)) = no 0
+said_setup (Ok (End o)) = yes (ret (reply o))
+said_setup (Err q) = no (refusal_number q)
 
 unfoldable pub stands_setup : SetupTold → Type 0
-stands_setup (SetupAsk x (SetupGoing u)) = x ≡ access_update setup_bus u
-stands_setup (SetupAsk x SetupOver) = ⊥
-stands_setup (SetupEnd o) = Unit {0}
-stands_setup (SetupRefused q) = Unit {0}
+stands_setup (Ok (Ask x (Some u))) = x ≡ access_update setup_bus u
+stands_setup (Ok (Ask x None)) = ⊥
+stands_setup (Ok (End o)) = Unit {0}
+stands_setup (Err q) = Unit {0}
 
 unfoldable pub follows_setup : SetupTold → Answer → SetupTold → Type 0
-follows_setup (SetupAsk x s) a u = Keeps (said_setup u ≡ step_setup s a) (stands_setup u)
-follows_setup (SetupEnd o) a u = ⊥
-follows_setup (SetupRefused q) a u = ⊥
+follows_setup (Ok (Ask x s)) a u = Keeps (said_setup u ≡ step_setup s a) (stands_setup u)
+follows_setup (Ok (End o)) a u = ⊥
+follows_setup (Err q) a u = ⊥

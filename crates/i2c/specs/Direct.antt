@@ -1,5 +1,5 @@
 -- The direct way through a step of a request that stays inside a command.
-use Rattle.std.specs.Prelude.{ℕ, ◌+◌, ◌≡◌, Bool, true, false, List, leb, ltb}
+use Rattle.std.specs.Prelude.{ℕ, ◌+◌, ◌≡◌, Bool, true, false, List, leb, ltb, Some, None, Option}
 use Rattle.hardware.specs.declared.Access.{Access}
 use Rattle.hardware.specs.declared.Answer.{Answer}
 use Rattle.hardware.specs.declared.Meter.{Meter}
@@ -7,6 +7,7 @@ use Rattle.hardware.specs.declared.Port.{Port}
 use Rattle.hardware.specs.Asked.{fits}
 use Rattle.hardware.specs.Prog.{ask, erase, pick}
 use Rattle.bus.specs.declared.Taken.{Taken}
+use Rattle.bus.specs.declared.command.Command.{Command}
 use Rattle.bus.specs.declared.job.Job.{Job}
 use Rattle.script.specs.Script.{command_at, on_command}
 use Rattle.transfer.specs.declared.attempt.Attempt.TheVariants.{Moving}
@@ -15,10 +16,6 @@ use Rattle.i2c.specs.declared.once.Request.{Request}
 use Rattle.i2c.specs.declared.retry.Stage.TheVariants.{Trying}
 use Rattle.i2c.specs.declared.handshake.Handshake.{Handshake}
 use Rattle.i2c.specs.declared.handshake.Handshake.TheVariants.{Inside}
-use Rattle.i2c.specs.declared.direct.Found.{Found}
-use Rattle.i2c.specs.declared.direct.Found.TheVariants.{On as FoundOn, Off}
-use Rattle.i2c.specs.declared.direct.Went.{Went}
-use Rattle.i2c.specs.declared.direct.Went.TheVariants.{On, Slow}
 use Rattle.i2c.specs.I2c.{script_of}
 use Rattle.i2c.specs.Handshake.{access_handshake, rest_handshake, valid_request}
 
@@ -27,11 +24,11 @@ abbrev pub carrying : ℕ → ℕ → Taken → Job → Handshake
 carrying left at taken job = Inside (record { left = left; stage = Trying (Moving (record { at = at; taken = taken; job = job })) })
 
 -- the command that a script has at a position
-unfoldable pub FoundIn : List ℕ → ℕ → Found → Type 0
-FoundIn script at (FoundOn c) = (on_command script at ≡ true) × (command_at script at ≡ c)
-FoundIn script at Off = Unit {0}
+unfoldable pub FoundIn : List ℕ → ℕ → Option Command → Type 0
+FoundIn script at (Some c) = (on_command script at ≡ true) × (command_at script at ≡ c)
+FoundIn script at None = Unit {0}
 
-abbrev pub FoundAt : Request → ℕ → Found → Type 0
+abbrev pub FoundAt : Request → ℕ → Option Command → Type 0
 FoundAt r at f = FoundIn (script_of r) at f
 
 unfoldable pub within : ℕ → ℕ → ℕ → ℕ → Bool
@@ -46,6 +43,6 @@ pub record RequestMoves (port : Port) (r : Request) (tries cap : ℕ) (m : Meter
   pub access : x ≡ access_handshake port g
 
 -- the direct way promises something where it goes
-unfoldable pub WentBy : (Access → Handshake → Type 0) → Went → Type 0
-WentBy Goes (On x g) = Goes x g
-WentBy Goes Slow = Unit {0}
+unfoldable pub WentBy : (Access → Handshake → Type 0) → Option (Access × Handshake) → Type 0
+WentBy Goes (Some (x, g)) = Goes x g
+WentBy Goes None = Unit {0}

@@ -8,19 +8,18 @@ use Rattle.hardware.specs.declared.Port.{Port}
 use Rattle.hardware.specs.Failures.{I2c}
 use Rattle.hardware.specs.Prog.{Prog, ret, ask, R, Err, or_err, erase, ◌>>=◌, ◌>>?◌, pick}
 use Rattle.hardware.specs.Marks.{marked, more}
-use Rattle.hardware.specs.Registers.{ESDP, checked, micros}
+use Rattle.hardware.specs.Registers.{ESDP, checked, micros, reply}
 use Rattle.hardware.specs.Change.{access_update, rest_update}
 use Rattle.bus.specs.declared.Taken.{Taken}
-use Rattle.transfer.specs.Attempt.{got}
 use Rattle.i2c.specs.declared.How.{How}
 use Rattle.i2c.specs.declared.once.Request.{Request}
 use Rattle.i2c.specs.declared.once.Request.TheVariants.{ReadByte, WriteByte, ReadCombined, WriteCombined}
 use Rattle.i2c.specs.declared.handshake.Handshake.{Handshake}
 use Rattle.i2c.specs.declared.handshake.Handshake.TheVariants.{Asking, Granting, Waiting, Inside, Giving}
-use Rattle.i2c.specs.declared.handshake.HandshakeNext.{HandshakeNext}
-use Rattle.i2c.specs.declared.handshake.HandshakeNext.TheVariants.{Going, End}
 use Rattle.i2c.specs.I2c.{qsfp, device_of, retried, ask_bus, give_bus, granting, granted, given_bus, value_of}
 use Rattle.i2c.specs.Retry.{wanted, access_retry, rest_retry, due_retry, valid_retry}
+use Rattle.i2c.specs.Aliases.{HandshakeNext}
+use Rattle.hardware.specs.declared.Next.TheVariants.{Going, End}
 
 -- the call has the handshake on this port
 unfoldable pub has_handshake : Port → Request → Bool
@@ -59,7 +58,7 @@ rest_handshake port r how (Asking tries u) a = rest_update ask_bus u a >>? λ _.
 rest_handshake port r how (Granting tries left) a = looked_at port r how tries left (checked a)
 rest_handshake port r how (Waiting tries left) a = awaiting_grant port r how tries left
 rest_handshake port r how (Inside t) a = rest_retry port r how t a >>= closing port r
-rest_handshake port r how (Giving g u) a = rest_update give_bus u a >>? λ _. ret (got g)
+rest_handshake port r how (Giving g u) a = rest_update give_bus u a >>? λ _. ret (reply g)
 
 -- a call makes f of the value of its request
 unfoldable pub valued : {A : Type 0} → Request → (R ℕ → Prog A) → R Taken → Prog A
@@ -70,8 +69,8 @@ unfoldable pub rest_request : {A : Type 0} → Port → Request → How → (R �
 rest_request port r how f s a = rest_handshake port r how s a >>= valued r f
 
 unfoldable pub handshake_next : Port → Request → How → HandshakeNext → Prog (R Taken)
-handshake_next port r how (Going k s) = marked k (ask (access_handshake port s) (λ a. erase (rest_handshake port r how s a)))
-handshake_next port r how (End g) = ret (got g)
+handshake_next port r how (Going (k, s)) = marked k (ask (access_handshake port s) (λ a. erase (rest_handshake port r how s a)))
+handshake_next port r how (End g) = ret (reply g)
 
 -- the most attempts that are to come
 unfoldable pub due_handshake : Request → Handshake → ℕ
@@ -82,7 +81,7 @@ due_handshake r (Inside t) = due_retry t
 due_handshake r (Giving g u) = 0
 
 unfoldable pub due_handshake_next : Request → HandshakeNext → ℕ
-due_handshake_next r (Going k s) = more k.attempt (due_handshake r s)
+due_handshake_next r (Going (k, s)) = more k.attempt (due_handshake r s)
 due_handshake_next r (End g) = 0
 
 -- the number of attempts that stands in the state, and that of those to come, are at most so many; a write makes two
@@ -98,7 +97,7 @@ valid_handshake most port r (Inside t) = valid_retry most port r t
 valid_handshake most port r (Giving g u) = true
 
 unfoldable pub valid_handshake_next : ℕ → Port → Request → HandshakeNext → Bool
-valid_handshake_next most port r (Going k s) = valid_handshake most port r s
+valid_handshake_next most port r (Going (k, s)) = valid_handshake most port r s
 valid_handshake_next most port r (End g) = true
 
 -- a call's request within its limits: those of its attempts, and with the transfers made those to come are at most cap

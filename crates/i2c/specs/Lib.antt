@@ -5,3 +5,4 @@ pub mod Calls
 pub mod Direct
 pub mod Paired
 pub mod Shown
+pub mod Aliases

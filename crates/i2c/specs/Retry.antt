@@ -8,21 +8,21 @@ use Rattle.hardware.specs.declared.Port.{Port}
 use Rattle.hardware.specs.Failures.{I2c}
 use Rattle.hardware.specs.Prog.{Prog, ret, ask, R, Err, erase, ◌>>=◌, ◌>>?◌, pick}
 use Rattle.hardware.specs.Marks.{marked, more}
-use Rattle.hardware.specs.Registers.{micros}
+use Rattle.hardware.specs.Registers.{micros, reply}
 use Rattle.sync.specs.Resource.{access_acquire_bits, rest_acquire_bits, valid_acquire_bits, access_release_bits, rest_release_bits, valid_release_bits}
 use Rattle.hostif.specs.Acquire.{acquire, release}
 use Rattle.bus.specs.declared.Taken.{Taken}
 use Rattle.bus.specs.Layout.{layout_of}
 use Rattle.transfer.specs.Transfer.{keeping}
-use Rattle.transfer.specs.Attempt.{got, access_attempt, rest_attempt, valid_attempt}
+use Rattle.transfer.specs.Attempt.{access_attempt, rest_attempt, valid_attempt}
 use Rattle.i2c.specs.declared.How.{How}
 use Rattle.i2c.specs.declared.once.Request.{Request}
 use Rattle.i2c.specs.declared.retry.Stage.{Stage}
 use Rattle.i2c.specs.declared.retry.Stage.TheVariants.{Acquiring, Trying, Releasing, Pausing}
 use Rattle.i2c.specs.declared.retry.Retry.{Retry}
-use Rattle.i2c.specs.declared.retry.RetryNext.{RetryNext}
-use Rattle.i2c.specs.declared.retry.RetryNext.TheVariants.{Going, End}
 use Rattle.i2c.specs.I2c.{mask, device_of, script_of, is_write, failed_i2c, once, when_lock, read_judged, read_tries, write_tries, given_up}
+use Rattle.i2c.specs.Aliases.{RetryNext}
+use Rattle.hardware.specs.declared.Next.TheVariants.{Going, End}
 
 -- the attempts that a call may make
 unfoldable pub wanted : Request → ℕ → ℕ
@@ -72,15 +72,15 @@ rest_stage port r how left (Acquiring s) a = rest_acquire_bits port (mask port) 
 rest_stage port r how left (Trying s) a =
     rest_attempt keeping how.sequence (layout_of port.family) (device_of r) (script_of r) s a >>= after_try port r how left
 rest_stage port r how left (Releasing g s) a =
-    rest_release_bits port (mask port) s a >>? λ _. after_release port r how left (got g)
+    rest_release_bits port (mask port) s a >>? λ _. after_release port r how left (reply g)
 rest_stage port r how left Pausing a = tries_left port r how left
 
 unfoldable pub rest_retry : Port → Request → How → Retry → Answer → Prog (R Taken)
 rest_retry port r how t a = rest_stage port r how t.left t.stage a
 
 unfoldable pub retry_next : Port → Request → How → RetryNext → Prog (R Taken)
-retry_next port r how (Going k t) = marked k (ask (access_retry port t) (λ a. erase (rest_retry port r how t a)))
-retry_next port r how (End g) = ret (got g)
+retry_next port r how (Going (k, t)) = marked k (ask (access_retry port t) (λ a. erase (rest_retry port r how t a)))
+retry_next port r how (End g) = ret (reply g)
 
 -- the most attempts that are to come
 unfoldable pub due_stage : ℕ → Stage → ℕ
@@ -94,7 +94,7 @@ due_retry t = due_stage t.left t.stage
 
 -- with the one that begins
 unfoldable pub due_retry_next : RetryNext → ℕ
-due_retry_next (Going k t) = more k.attempt (due_retry t)
+due_retry_next (Going (k, t)) = more k.attempt (due_retry t)
 due_retry_next (End g) = 0
 
 unfoldable pub valid_stage : Port → Request → Stage → Bool
@@ -108,5 +108,5 @@ unfoldable pub valid_retry : ℕ → Port → Request → Retry → Bool
 valid_retry tries port r t = pick (ltb t.left tries) (valid_stage port r t.stage) false
 
 unfoldable pub valid_retry_next : ℕ → Port → Request → RetryNext → Bool
-valid_retry_next tries port r (Going k t) = valid_retry tries port r t
+valid_retry_next tries port r (Going (k, t)) = valid_retry tries port r t
 valid_retry_next tries port r (End g) = true

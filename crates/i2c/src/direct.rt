@@ -1,5 +1,7 @@
 // The direct way through a step of a request that stays inside a command: only the job moves. It never refuses: where it says
-// `Slow`, the step goes the plain way.
+// `None`, the step goes the plain way.
+#![tactic(auto, using(bus::proofs::Laws::moved_map, bus::proofs::Laws::picked_first, bus::proofs::Laws::picked_second, crate::proofs::Moves::carrying_on), unfolding(crate::specs::Direct::FoundIn, script::specs::Script::on_command, script::specs::Script::starts, script::specs::Script::command_at, script::specs::Script::head_command, script::specs::Script::head_sends, script::specs::Script::alone, crate::specs::I2c::script_of, script::specs::Scripts::read_byte_script, hardware::specs::Prog::pick, script::specs::Scripts::write_byte_script, crate::specs::Direct::within, bus::specs::Quick::MovedBy, crate::specs::Direct::WentBy))]
+
 ghost use Rattle.std.specs.Prelude.{◌≡◌};
 ghost use Rattle.bus.specs.Quick.{MovedBy};
 ghost use Rattle.i2c.specs.Direct.{carrying, FoundAt, FoundIn, within, RequestMoves, WentBy};
@@ -10,67 +12,49 @@ use crate::retry::{Retry, Stage};
 use bus::Taken;
 use bus::command::Command;
 use bus::job::Job;
-use bus::quick::Moved;
 use hardware::{Access, Answer, Meter, Port};
 use transfer::attempt::Attempt;
 use transfer::transfer::Transfer;
 
-#[derive(Clone, Copy)]
-pub enum Found {
-    On(Command),
-    Off,
-}
-
-// On: the next access, and the request that awaits its answer.
-#[derive(Clone, Copy)]
-pub enum Went {
-    On(Access, Handshake),
-    Slow,
-}
-
 // The command at a position of a request's script.
-#[tactic(auto, unfolding(crate::specs::Direct::FoundIn, script::specs::Script::on_command, script::specs::Script::starts, script::specs::Script::command_at, script::specs::Script::head_command, script::specs::Script::head_sends, script::specs::Script::alone, crate::specs::I2c::script_of, script::specs::Scripts::read_byte_script, hardware::specs::Prog::pick))]
-fn read_byte(device: u8, offset: u8, at: usize) -> Found
+fn read_byte(device: u8, offset: u8, at: usize) -> Option<Command>
     ensures { FoundAt (Request.ReadByte device offset) at result }
 {
     match at {
-        0 => Found::On(Command::Start),
-        1 => Found::On(Command::Send(device)),
-        3 => Found::On(Command::Send(offset)),
-        5 => Found::On(Command::Start),
-        6 => Found::On(Command::Send(device | 1)),
-        8 => Found::On(Command::Read(true)),
-        9 => Found::On(Command::Stop),
-        _ => Found::Off,
+        0 => Some(Command::Start),
+        1 => Some(Command::Send(device)),
+        3 => Some(Command::Send(offset)),
+        5 => Some(Command::Start),
+        6 => Some(Command::Send(device | 1)),
+        8 => Some(Command::Read(true)),
+        9 => Some(Command::Stop),
+        _ => None,
     }
 }
 
-#[tactic(auto, unfolding(crate::specs::Direct::FoundIn, script::specs::Script::on_command, script::specs::Script::starts, script::specs::Script::command_at, script::specs::Script::head_command, script::specs::Script::head_sends, script::specs::Script::alone, crate::specs::I2c::script_of, script::specs::Scripts::write_byte_script, hardware::specs::Prog::pick))]
-fn write_byte(device: u8, offset: u8, value: u8, at: usize) -> Found
+fn write_byte(device: u8, offset: u8, value: u8, at: usize) -> Option<Command>
     ensures { FoundAt (Request.WriteByte device offset value) at result }
 {
     match at {
-        0 => Found::On(Command::Start),
-        1 => Found::On(Command::Send(device)),
-        3 => Found::On(Command::Send(offset)),
-        5 => Found::On(Command::Send(value)),
-        7 => Found::On(Command::Stop),
-        _ => Found::Off,
+        0 => Some(Command::Start),
+        1 => Some(Command::Send(device)),
+        3 => Some(Command::Send(offset)),
+        5 => Some(Command::Send(value)),
+        7 => Some(Command::Stop),
+        _ => None,
     }
 }
 
-#[tactic(auto, unfolding(crate::specs::Direct::FoundIn))]
-fn scripted(script: &[u8], at: usize) -> Found
+fn scripted(script: &[u8], at: usize) -> Option<Command>
     ensures { FoundIn script.now at result }
 {
     if script::cursor::on_command(script, at) {
-        return Found::On(script::cursor::command(script, at));
+        return Some(script::cursor::command(script, at));
     }
-    Found::Off
+    None
 }
 
-#[tactic(auto, unfolding(crate::specs::I2c::script_of))]
-fn command(r: Request, at: usize) -> Found
+fn command(r: Request, at: usize) -> Option<Command>
     ensures { FoundAt r at result }
 {
     match r {
@@ -88,7 +72,6 @@ fn command(r: Request, at: usize) -> Found
 }
 
 // Whether so many attempts are within the limits.
-#[tactic(auto, unfolding(crate::specs::Direct::within, hardware::specs::Prog::pick))]
 fn within(tries: u32, cap: u32, made: u32, left: u8) -> bool
     ensures { result ≡ within tries cap made left }
 {
@@ -99,7 +82,6 @@ fn within(tries: u32, cap: u32, made: u32, left: u8) -> bool
 }
 
 // A step of the job at a position of the script, with so many attempts left. tries, cap: the limits of the request.
-#[tactic(auto, using(bus::proofs::Laws::moved_map, bus::proofs::Laws::picked_first, bus::proofs::Laws::picked_second, crate::proofs::Moves::carrying_on), unfolding(crate::specs::Direct::within, crate::specs::Direct::FoundIn, bus::specs::Quick::MovedBy))]
 pub fn job(
     port: Port,
     r: Request,
@@ -110,23 +92,18 @@ pub fn job(
     at: usize,
     j: Job,
     a: Answer,
-) -> Moved
+) -> Option<(Access, Job)>
     ensures { MovedBy (λ x next. (taken : Taken) → RequestMoves port r tries cap m (carrying left at taken j) a x (carrying left at taken next)) result }
 {
     if within(tries, cap, m.transfers, left) {
         let family = port.family;
-        match command(r, at) {
-            Found::On(c) => {
-                return bus::quick::job(bus::layout_of(family), c, j, a);
-            }
-            Found::Off => {}
-        }
+        let c = command(r, at)?;
+        return bus::quick::job(bus::layout_of(family), c, j, a);
     }
-    Moved::Slow
+    None
 }
 
 // A step of an attempt that carries out its script.
-#[tactic(auto, unfolding(crate::specs::Direct::WentBy, bus::specs::Quick::MovedBy))]
 fn moving(
     port: Port,
     r: Request,
@@ -136,26 +113,23 @@ fn moving(
     left: u8,
     s: Transfer,
     a: Answer,
-) -> Went
+) -> Option<(Access, Handshake)>
     ensures { WentBy (RequestMoves port r tries cap m (carrying left s.at s.taken s.job) a) result }
 {
     let at = s.at;
     let taken = s.taken;
     let j = s.job;
-    match job(port, r, tries, cap, m, left, at, j, a) {
-        Moved::On(x, job) => Went::On(
-            x,
-            Handshake::Inside(Retry {
-                left,
-                stage: Stage::Trying(Attempt::Moving(Transfer { at, taken, job })),
-            }),
-        ),
-        Moved::Slow => Went::Slow,
-    }
+    let (x, job) = job(port, r, tries, cap, m, left, at, j, a)?;
+    Some((
+        x,
+        Handshake::Inside(Retry {
+            left,
+            stage: Stage::Trying(Attempt::Moving(Transfer { at, taken, job })),
+        }),
+    ))
 }
 
 // A step of a request.
-#[tactic(auto, unfolding(crate::specs::Direct::WentBy))]
 pub fn request(
     port: Port,
     r: Request,
@@ -164,7 +138,7 @@ pub fn request(
     m: Meter,
     h: Handshake,
     a: Answer,
-) -> Went
+) -> Option<(Access, Handshake)>
     ensures { WentBy (RequestMoves port r tries cap m h a) result }
 {
     match h {
@@ -188,5 +162,5 @@ pub fn request(
         Handshake::Waiting(_, _) => {}
         Handshake::Giving(_, _) => {}
     }
-    Went::Slow
+    None
 }

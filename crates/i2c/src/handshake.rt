@@ -1,11 +1,12 @@
 // A whole call: on the 82599 with PCI device 1558 `read_byte` and `write_byte` ask for the bus first and give it back
 // in the end.
+#![tactic(auto, using(hardware::proofs::Prog::going, hardware::proofs::Prog::going_on, crate::proofs::Laws::allows_wanted, crate::proofs::Laws::upto, hardware::proofs::Prog::over, bus::proofs::Laws::picked, crate::proofs::Laws::no_handshake, crate::proofs::Laws::handshake_opens, bus::proofs::Laws::picked_first, bus::proofs::Laws::picked_second, crate::proofs::Laws::less), unfolding(crate::specs::Handshake::has_handshake, hardware::specs::Marks::marked, hardware::specs::Marks::acknowledged, crate::specs::Handshake::handshake_next, crate::specs::Handshake::access_handshake, crate::specs::Handshake::rest_handshake, crate::specs::Handshake::valid_handshake_next, crate::specs::Handshake::valid_handshake, crate::specs::Handshake::due_handshake_next, crate::specs::Handshake::due_handshake, hardware::specs::Marks::more, hardware::specs::Prog::pick, hardware::specs::Change::update_next, hardware::specs::Prog::followed, hardware::specs::Prog::or_err, hardware::specs::Registers::reply, hardware::specs::Prog::erase, crate::specs::Handshake::closing, crate::specs::I2c::given_bus, hardware::specs::Change::change, hardware::specs::Change::access_update, hardware::specs::Change::rest_update, crate::specs::Retry::retry_next, crate::specs::Retry::valid_retry_next, crate::specs::Retry::due_retry_next, crate::specs::Handshake::entered, crate::specs::Handshake::looked_at, crate::specs::I2c::granting, crate::specs::Handshake::awaiting_grant, crate::specs::Handshake::on_granted, crate::specs::Retry::wanted, crate::specs::Handshake::allows, crate::specs::Handshake::valid_request))]
+
 ghost use Rattle.std.specs.Prelude.{ℕ, ◌<◌, ◌≤◌, ◌≡◌, true, false, ltb};
 ghost use Rattle.hardware.specs.Promise.{Counts};
 ghost use Rattle.hardware.specs.Prog.{erase, followed, or_err, ret, pick};
-ghost use Rattle.hardware.specs.Registers.{word};
+ghost use Rattle.hardware.specs.Registers.{reply};
 ghost use Rattle.hardware.specs.Change.{update_next};
-ghost use Rattle.transfer.specs.Attempt.{got};
 ghost use Rattle.i2c.specs.I2c.{ask_bus, give_bus, retried, handshaken};
 ghost use Rattle.i2c.specs.Retry.{wanted, retry_next, due_retry_next, valid_retry_next};
 ghost use Rattle.i2c.specs.Handshake.{has_handshake, closing, entered, awaiting_grant, looked_at, access_handshake, rest_handshake, handshake_next, due_handshake, due_handshake_next, allows, valid_handshake, valid_handshake_next, valid_request};
@@ -13,12 +14,11 @@ ghost use Rattle.i2c.specs.Handshake.{has_handshake, closing, entered, awaiting_
 use crate::How;
 use crate::once::Request;
 use crate::retry::{Retry, RetryNext};
+use bus::Taken;
 use hardware::change::{Bits, Change};
 use hardware::{
-    Access, Answer, ESDP, Error, Marks, Meter, Millis, Outcome, Port, UNMARKED, Update, UpdateNext,
-    Word,
+    Access, Answer, ESDP, Error, Marks, Meter, Millis, Next, Port, R, UNMARKED, Update, UpdateNext,
 };
-use transfer::attempt::Got;
 
 // Asking, Granting, Waiting: with the attempts to come. Granting, Waiting: then the looks left after this one. Giving: with
 // how the attempts ended.
@@ -28,14 +28,10 @@ pub enum Handshake {
     Granting(u8, u8),
     Waiting(u8, u8),
     Inside(Retry),
-    Giving(Got, Update),
+    Giving(R<Taken>, Update),
 }
 
-#[derive(Clone, Copy)]
-pub enum HandshakeNext {
-    Going(Marks, Handshake),
-    End(Got),
-}
+pub type HandshakeNext = Next<(Marks, Handshake), R<Taken>>;
 
 fn ask_bus() -> Change
     ensures { result ≡ ask_bus }
@@ -57,7 +53,6 @@ fn give_bus() -> Change
     }
 }
 
-#[tactic(auto, unfolding(crate::specs::Handshake::has_handshake))]
 pub fn has_handshake(port: Port, r: Request) -> bool
     ensures { result ≡ has_handshake port r }
 {
@@ -69,40 +64,36 @@ pub fn has_handshake(port: Port, r: Request) -> bool
     }
 }
 
-#[tactic(auto, using(hardware::proofs::Prog::going), unfolding(hardware::specs::Marks::marked, hardware::specs::Marks::acknowledged, crate::specs::Handshake::handshake_next, crate::specs::Handshake::access_handshake, crate::specs::Handshake::rest_handshake, crate::specs::Handshake::valid_handshake_next, crate::specs::Handshake::valid_handshake, crate::specs::Handshake::due_handshake_next, crate::specs::Handshake::due_handshake, hardware::specs::Marks::more, hardware::specs::Prog::pick, hardware::specs::Change::update_next, hardware::specs::Prog::followed, hardware::specs::Prog::or_err, hardware::specs::Registers::outcome, hardware::specs::Prog::erase, transfer::specs::Attempt::got))]
-fn given(g: Got, n: UpdateNext) -> HandshakeNext
-    ensures { Counts ((port : Port) (r : Request) (how : How) → handshake_next port r how result ≡ followed (update_next give_bus n) (or_err (λ _. ret (got g)))) ((most : ℕ) (port : Port) (r : Request) → valid_handshake_next most port r result ≡ true) ((r : Request) → due_handshake_next r result ≡ 0) }
+fn given(g: R<Taken>, n: UpdateNext) -> HandshakeNext
+    ensures { Counts ((port : Port) (r : Request) (how : How) → handshake_next port r how result ≡ followed (update_next give_bus n) (or_err (λ _. ret (reply g)))) ((most : ℕ) (port : Port) (r : Request) → valid_handshake_next most port r result ≡ true) ((r : Request) → due_handshake_next r result ≡ 0) }
 {
     match n {
-        UpdateNext::Going(u) => HandshakeNext::Going(UNMARKED, Handshake::Giving(g, u)),
-        UpdateNext::End(o) => match o {
-            Outcome::Ok => HandshakeNext::End(g),
-            Outcome::Err(e) => HandshakeNext::End(Got::Err(e)),
+        Next::Going(u) => Next::Going((UNMARKED, Handshake::Giving(g, u))),
+        Next::End(o) => match o {
+            Ok(()) => Next::End(g),
+            Err(e) => Next::End(Err(e)),
         },
     }
 }
 
-#[tactic(auto, unfolding(crate::specs::Handshake::handshake_next, crate::specs::Handshake::access_handshake, crate::specs::Handshake::rest_handshake, hardware::specs::Marks::marked, hardware::specs::Marks::acknowledged, crate::specs::Handshake::valid_handshake_next, crate::specs::Handshake::valid_handshake, crate::specs::Handshake::due_handshake_next, crate::specs::Handshake::due_handshake, hardware::specs::Marks::more, hardware::specs::Prog::pick, crate::specs::Handshake::closing, crate::specs::I2c::given_bus, hardware::specs::Change::change, hardware::specs::Change::access_update, hardware::specs::Change::rest_update, hardware::specs::Prog::erase))]
-fn close(port: Port, r: Request, g: Got) -> HandshakeNext
-    ensures { Counts ((how : How) → handshake_next port r how result ≡ erase (closing port r (got g))) ((most : ℕ) → valid_handshake_next most port r result ≡ true) (due_handshake_next r result ≡ 0) }
+fn close(port: Port, r: Request, g: R<Taken>) -> HandshakeNext
+    ensures { Counts ((how : How) → handshake_next port r how result ≡ erase (closing port r (reply g))) ((most : ℕ) → valid_handshake_next most port r result ≡ true) (due_handshake_next r result ≡ 0) }
 {
     if has_handshake(port, r) {
-        return HandshakeNext::Going(UNMARKED, Handshake::Giving(g, Update::Reading));
+        return Next::Going((UNMARKED, Handshake::Giving(g, Update::Reading)));
     }
-    HandshakeNext::End(g)
+    Next::End(g)
 }
 
-#[tactic(auto, using(hardware::proofs::Prog::going_on), unfolding(crate::specs::Handshake::handshake_next, crate::specs::Handshake::access_handshake, crate::specs::Handshake::rest_handshake, crate::specs::Handshake::valid_handshake_next, crate::specs::Handshake::valid_handshake, crate::specs::Handshake::due_handshake_next, crate::specs::Handshake::due_handshake, crate::specs::Retry::retry_next, crate::specs::Retry::valid_retry_next, crate::specs::Retry::due_retry_next, hardware::specs::Prog::followed))]
 fn inside(port: Port, r: Request, n: RetryNext) -> HandshakeNext
     ensures { Counts ((how : How) → handshake_next port r how result ≡ followed (retry_next port r how n) (closing port r)) ((most : ℕ) → valid_retry_next most port r n ≡ true → valid_handshake_next most port r result ≡ true) (due_handshake_next r result ≤ due_retry_next n) }
 {
     match n {
-        RetryNext::Going(k, t) => HandshakeNext::Going(k, Handshake::Inside(t)),
-        RetryNext::End(g) => close(port, r, g),
+        Next::Going((k, t)) => Next::Going((k, Handshake::Inside(t))),
+        Next::End(g) => close(port, r, g),
     }
 }
 
-#[tactic(auto, using(crate::proofs::Laws::allows_wanted, crate::proofs::Laws::upto, hardware::proofs::Prog::over), unfolding(crate::specs::Handshake::entered))]
 fn enter(port: Port, r: Request, how: How, tries: u8) -> HandshakeNext
     ensures { Counts (handshake_next port r how result ≡ erase (entered port r how tries)) ((most : ℕ) → allows most r tries ≡ true → valid_handshake_next most port r result ≡ true) (due_handshake_next r result ≤ wanted r tries) }
 {
@@ -110,56 +101,52 @@ fn enter(port: Port, r: Request, how: How, tries: u8) -> HandshakeNext
 }
 
 // The looks for the grant that are left.
-#[tactic(auto, using(bus::proofs::Laws::picked, crate::proofs::Laws::granted_more), unfolding(crate::specs::Handshake::awaiting_grant, crate::specs::I2c::granted, crate::specs::Handshake::on_granted, hardware::specs::Prog::erase, hardware::specs::Prog::or_err, hardware::specs::Prog::pick, transfer::specs::Attempt::got, hardware::specs::Failures::failure_of, crate::specs::Handshake::valid_handshake_next, crate::specs::Handshake::valid_handshake, crate::specs::Handshake::due_handshake_next, crate::specs::Handshake::due_handshake, hardware::specs::Marks::more))]
+#[tactic(auto, using(bus::proofs::Laws::picked, crate::proofs::Laws::granted_more), unfolding(crate::specs::Handshake::awaiting_grant, crate::specs::I2c::granted, crate::specs::Handshake::on_granted, hardware::specs::Prog::erase, hardware::specs::Prog::or_err, hardware::specs::Prog::pick, hardware::specs::Registers::reply, hardware::specs::Failures::failure_of, crate::specs::Handshake::valid_handshake_next, crate::specs::Handshake::valid_handshake, crate::specs::Handshake::due_handshake_next, crate::specs::Handshake::due_handshake, hardware::specs::Marks::more))]
 fn grant(port: Port, r: Request, tries: u8, left: u8) -> HandshakeNext
     ensures { Counts ((how : How) → handshake_next port r how result ≡ erase (awaiting_grant port r how tries left)) ((most : ℕ) → left ≤ 200 → allows most r tries ≡ true → valid_handshake_next most port r result ≡ true) (due_handshake_next r result ≤ wanted r tries) }
 {
     if left == 0 {
-        return close(port, r, Got::Err(Error::I2c(crate::once::device(r))));
+        return close(port, r, Err(Error::I2c(crate::once::device(r))));
     }
     let after = left - 1;
-    HandshakeNext::Going(UNMARKED, Handshake::Granting(tries, after))
+    Next::Going((UNMARKED, Handshake::Granting(tries, after)))
 }
 
-#[tactic(auto, using(bus::proofs::Laws::picked), unfolding(crate::specs::Handshake::handshake_next, crate::specs::Handshake::access_handshake, crate::specs::Handshake::rest_handshake, hardware::specs::Marks::marked, hardware::specs::Marks::acknowledged, crate::specs::Handshake::valid_handshake_next, crate::specs::Handshake::valid_handshake, crate::specs::Handshake::due_handshake_next, crate::specs::Handshake::due_handshake, hardware::specs::Marks::more, hardware::specs::Prog::pick, crate::specs::Handshake::looked_at, hardware::specs::Registers::word, hardware::specs::Prog::or_err, crate::specs::I2c::granting, hardware::specs::Prog::erase, crate::specs::Handshake::awaiting_grant, crate::specs::Handshake::on_granted, crate::specs::Handshake::entered, transfer::specs::Attempt::got))]
-fn looked(port: Port, r: Request, how: How, tries: u8, left: u8, w: Word) -> HandshakeNext
-    ensures { Counts (handshake_next port r how result ≡ erase (looked_at port r how tries left (word w))) ((most : ℕ) → left < 200 → allows most r tries ≡ true → valid_handshake_next most port r result ≡ true) (due_handshake_next r result ≤ wanted r tries) }
+fn looked(port: Port, r: Request, how: How, tries: u8, left: u8, w: R<u32>) -> HandshakeNext
+    ensures { Counts (handshake_next port r how result ≡ erase (looked_at port r how tries left (reply w))) ((most : ℕ) → left < 200 → allows most r tries ≡ true → valid_handshake_next most port r result ≡ true) (due_handshake_next r result ≤ wanted r tries) }
 {
     match w {
-        Word::Ok(v) => {
+        Ok(v) => {
             if hardware::none_of(v, 2) {
-                return HandshakeNext::Going(UNMARKED, Handshake::Waiting(tries, left));
+                return Next::Going((UNMARKED, Handshake::Waiting(tries, left)));
             }
             enter(port, r, how, tries)
         }
-        Word::Err(e) => HandshakeNext::End(Got::Err(e)),
+        Err(e) => Next::End(Err(e)),
     }
 }
 
-#[tactic(auto, using(hardware::proofs::Prog::going), unfolding(hardware::specs::Marks::marked, hardware::specs::Marks::acknowledged, crate::specs::Handshake::handshake_next, crate::specs::Handshake::access_handshake, crate::specs::Handshake::rest_handshake, crate::specs::Handshake::valid_handshake_next, crate::specs::Handshake::valid_handshake, crate::specs::Handshake::due_handshake_next, crate::specs::Handshake::due_handshake, hardware::specs::Marks::more, hardware::specs::Prog::pick, hardware::specs::Change::update_next, hardware::specs::Prog::followed, hardware::specs::Prog::or_err, hardware::specs::Registers::outcome, hardware::specs::Prog::erase, transfer::specs::Attempt::got))]
 fn asked(port: Port, r: Request, tries: u8, n: UpdateNext) -> HandshakeNext
     ensures { Counts ((how : How) → handshake_next port r how result ≡ followed (update_next ask_bus n) (or_err (λ _. awaiting_grant port r how tries 200))) ((most : ℕ) → allows most r tries ≡ true → valid_handshake_next most port r result ≡ true) (due_handshake_next r result ≤ wanted r tries) }
 {
     match n {
-        UpdateNext::Going(u) => HandshakeNext::Going(UNMARKED, Handshake::Asking(tries, u)),
-        UpdateNext::End(o) => match o {
-            Outcome::Ok => grant(port, r, tries, 200),
-            Outcome::Err(e) => HandshakeNext::End(Got::Err(e)),
+        Next::Going(u) => Next::Going((UNMARKED, Handshake::Asking(tries, u))),
+        Next::End(o) => match o {
+            Ok(()) => grant(port, r, tries, 200),
+            Err(e) => Next::End(Err(e)),
         },
     }
 }
 
-#[tactic(auto, using(crate::proofs::Laws::no_handshake, crate::proofs::Laws::handshake_opens), unfolding(crate::specs::Handshake::valid_handshake_next, crate::specs::Handshake::valid_handshake, crate::specs::Handshake::due_handshake_next, crate::specs::Handshake::due_handshake, hardware::specs::Marks::more, hardware::specs::Prog::pick))]
 pub fn open(port: Port, r: Request, how: How, tries: u8) -> HandshakeNext
     ensures { Counts (handshake_next port r how result ≡ erase (handshaken port r (retried port r how tries))) ((most : ℕ) → allows most r tries ≡ true → valid_handshake_next most port r result ≡ true) (due_handshake_next r result ≤ wanted r tries) }
 {
     if has_handshake(port, r) {
-        return HandshakeNext::Going(UNMARKED, Handshake::Asking(tries, Update::Reading));
+        return Next::Going((UNMARKED, Handshake::Asking(tries, Update::Reading)));
     }
     enter(port, r, how, tries)
 }
 
-#[tactic(auto, unfolding(crate::specs::Handshake::access_handshake))]
 pub fn access(port: Port, s: Handshake) -> Access
     ensures { result ≡ access_handshake port s }
 {
@@ -172,7 +159,6 @@ pub fn access(port: Port, s: Handshake) -> Access
     }
 }
 
-#[tactic(auto, using(bus::proofs::Laws::picked_first, bus::proofs::Laws::picked_second, crate::proofs::Laws::less, crate::proofs::Laws::upto, hardware::proofs::Prog::over), unfolding(crate::specs::Handshake::rest_handshake, crate::specs::Handshake::valid_handshake, crate::specs::Handshake::due_handshake))]
 pub fn step(port: Port, r: Request, how: How, s: Handshake, a: Answer) -> HandshakeNext
     ensures { Counts (handshake_next port r how result ≡ erase (rest_handshake port r how s a)) ((most : ℕ) → valid_handshake most port r s ≡ true → valid_handshake_next most port r result ≡ true) (due_handshake_next r result ≤ due_handshake r s) }
 {
@@ -190,7 +176,6 @@ pub fn step(port: Port, r: Request, how: How, s: Handshake, a: Answer) -> Handsh
     }
 }
 
-#[tactic(auto, unfolding(crate::specs::Retry::wanted, hardware::specs::Prog::pick))]
 fn wanted(r: Request, tries: u8) -> u32
     ensures { result ≡ wanted r tries }
 {
@@ -201,7 +186,6 @@ fn wanted(r: Request, tries: u8) -> u32
 }
 
 // The most attempts that are to come.
-#[tactic(auto, unfolding(crate::specs::Handshake::due_handshake))]
 pub fn due(r: Request, s: Handshake) -> u32
     ensures { result ≡ due_handshake r s }
 {
@@ -214,7 +198,6 @@ pub fn due(r: Request, s: Handshake) -> u32
     }
 }
 
-#[tactic(auto, unfolding(crate::specs::Handshake::allows, hardware::specs::Prog::pick))]
 fn allows(most: u32, r: Request, tries: u8) -> bool
     ensures { result ≡ allows most r tries }
 {
@@ -224,7 +207,6 @@ fn allows(most: u32, r: Request, tries: u8) -> bool
     false
 }
 
-#[tactic(auto, unfolding(hardware::specs::Prog::pick))]
 fn valid_looks(most: u32, r: Request, tries: u8, left: u8) -> bool
     ensures { result ≡ pick (allows most r tries) (ltb left 200) false }
 {
@@ -235,7 +217,6 @@ fn valid_looks(most: u32, r: Request, tries: u8, left: u8) -> bool
 }
 
 // The counters of a request that has so many attempts.
-#[tactic(auto, unfolding(crate::specs::Handshake::valid_handshake))]
 pub fn valid(most: u32, port: Port, r: Request, s: Handshake) -> bool
     ensures { result ≡ valid_handshake most port r s }
 {
@@ -249,7 +230,6 @@ pub fn valid(most: u32, port: Port, r: Request, s: Handshake) -> bool
 }
 
 // A call's request within its limits: those of its attempts, and with the transfers made those to come are at most cap.
-#[tactic(auto, unfolding(crate::specs::Handshake::valid_request, hardware::specs::Prog::pick))]
 pub fn valid_request(port: Port, r: Request, tries: u32, cap: u32, m: Meter, s: Handshake) -> bool
     ensures { result ≡ valid_request port r tries cap m s }
 {

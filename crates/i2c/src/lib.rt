@@ -1,5 +1,5 @@
 // `read_byte`, `write_byte`, `read_combined` and `write_combined`: attempts under the lock and the QSFP handshake.
-#![tactic(auto)]
+#![tactic(auto, unfolding(crate::specs::I2c::mask, hardware::specs::Prog::pick, crate::specs::I2c::attempts, crate::specs::I2c::qsfp))]
 
 ghost use Rattle.std.specs.Prelude.{◌≡◌};
 ghost use Rattle.i2c.specs.I2c.{mask, attempts, qsfp, standard};
@@ -31,7 +31,6 @@ pub fn standard() -> Sequence
 }
 
 // The bits that guard the port's bus.
-#[tactic(auto, unfolding(crate::specs::I2c::mask, hardware::specs::Prog::pick))]
 pub fn mask(port: Port) -> u32
     ensures { result ≡ mask port }
 {
@@ -43,7 +42,6 @@ pub fn mask(port: Port) -> u32
 }
 
 // Read attempts for a byte.
-#[tactic(auto, unfolding(crate::specs::I2c::attempts, hardware::specs::Prog::pick))]
 pub fn attempts(port: Port) -> u32
     ensures { result ≡ attempts port }
 {
@@ -55,12 +53,11 @@ pub fn attempts(port: Port) -> u32
 }
 
 // The 82599 with PCI device 1558: its bus is shared by the ports.
-#[tactic(auto, unfolding(crate::specs::I2c::qsfp, hardware::specs::Prog::pick))]
 pub fn qsfp(port: Port) -> bool
     ensures { result ≡ qsfp port }
 {
     let family = port.family;
-    if hardware::same(family, Family::F82599) {
+    if family.is(Family::F82599) {
         return port.device == QSFP_DEVICE;
     }
     false

@@ -1,15 +1,17 @@
 // One of the four calls, and its one transfer: the script that its attempts run.
-ghost use Rattle.std.specs.Prelude.{◌+◌, ◌*◌, ◌≡◌, true};
+#![tactic(auto, using(crate::proofs::Laws::on_start), unfolding(crate::specs::I2c::device_of, crate::specs::I2c::is_write, crate::specs::I2c::failed_i2c, hardware::specs::Registers::reply, crate::specs::I2c::value_of, crate::specs::I2c::read_off, crate::specs::I2c::script_of))]
+
+ghost use Rattle.std.specs.Prelude.{◌+◌, ◌*◌, ◌≡◌, true, Ok};
 ghost use Rattle.hardware.specs.Promise.{Keeps};
 ghost use Rattle.hardware.specs.Prog.{erase};
-ghost use Rattle.hardware.specs.Registers.{word};
+ghost use Rattle.hardware.specs.Registers.{reply};
 ghost use Rattle.transfer.specs.Transfer.{keeping};
-ghost use Rattle.transfer.specs.Attempt.{got, attempt_next, rest_attempt, valid_attempt, valid_attempt_next};
+ghost use Rattle.transfer.specs.Attempt.{attempt_next, rest_attempt, valid_attempt, valid_attempt_next};
 ghost use Rattle.i2c.specs.I2c.{device_of, script_of, is_write, failed_i2c, value_of};
 
 use bus::{Layout, Taken};
-use hardware::{Answer, Word};
-use transfer::attempt::{Attempt, AttemptNext, Got, Sequence};
+use hardware::{Answer, R};
+use transfer::attempt::{Attempt, AttemptNext, Sequence};
 
 // The I2C device first; then the offset or the register; then the value written.
 #[derive(Clone, Copy)]
@@ -20,7 +22,6 @@ pub enum Request {
     WriteCombined(u8, u16, u16),
 }
 
-#[tactic(auto, unfolding(crate::specs::I2c::device_of))]
 pub fn device(r: Request) -> u8
     ensures { result ≡ device_of r }
 {
@@ -32,7 +33,6 @@ pub fn device(r: Request) -> u8
     }
 }
 
-#[tactic(auto, unfolding(crate::specs::I2c::is_write))]
 pub fn is_write(r: Request) -> bool
     ensures { result ≡ is_write r }
 {
@@ -45,40 +45,35 @@ pub fn is_write(r: Request) -> bool
 }
 
 // Whether an attempt ended in I2c.
-#[tactic(auto, unfolding(crate::specs::I2c::failed_i2c, transfer::specs::Attempt::got))]
-pub fn failed(g: Got) -> bool
-    ensures { result ≡ failed_i2c (got g) }
+pub fn failed(g: R<Taken>) -> bool
+    ensures { result ≡ failed_i2c (reply g) }
 {
     match g {
-        Got::Ok(_) => false,
-        Got::Err(e) => bus::is_i2c(e),
+        Ok(_) => false,
+        Err(e) => bus::is_i2c(e),
     }
 }
 
 // The two bytes of a register. The check byte, the last one read, is not compared.
-fn combined(t: Taken) -> Word
-    ensures { result ≡ Word.Ok (t.high * 256 + t.low) }
+fn combined(t: Taken) -> R<u32>
+    ensures { result ≡ Ok (t.high * 256 + t.low) }
 {
-    Word::Ok(t.high as u32 * 256 + t.low as u32)
+    Ok(t.high as u32 * 256 + t.low as u32)
 }
 
 // What the Rust gives for the bytes read; 0 stands for its `()`.
-#[tactic(auto, unfolding(crate::specs::I2c::value_of, transfer::specs::Attempt::got, crate::specs::I2c::read_off, hardware::specs::Registers::word))]
-pub fn value(r: Request, g: Got) -> Word
-    ensures { word result ≡ value_of r (got g) }
+pub fn value(r: Request, g: R<Taken>) -> R<u32>
+    ensures { reply result ≡ value_of r (reply g) }
 {
-    match g {
-        Got::Ok(t) => match r {
-            Request::ReadByte(_, _) => Word::Ok(t.last as u32),
-            Request::WriteByte(_, _, _) => Word::Ok(0),
-            Request::ReadCombined(_, _) => combined(t),
-            Request::WriteCombined(_, _, _) => Word::Ok(0),
-        },
-        Got::Err(e) => Word::Err(e),
+    let t = g?;
+    match r {
+        Request::ReadByte(_, _) => Ok(t.last as u32),
+        Request::WriteByte(_, _, _) => Ok(0),
+        Request::ReadCombined(_, _) => combined(t),
+        Request::WriteCombined(_, _, _) => Ok(0),
     }
 }
 
-#[tactic(auto, using(crate::proofs::Laws::on_start), unfolding(crate::specs::I2c::device_of, crate::specs::I2c::script_of))]
 pub fn step(q: Sequence, l: Layout, r: Request, s: Attempt, a: Answer) -> AttemptNext
     ensures { Keeps (attempt_next keeping q l (device_of r) (script_of r) result ≡ erase (rest_attempt keeping q l (device_of r) (script_of r) s a)) (valid_attempt l (script_of r) s ≡ true → valid_attempt_next l (script_of r) result ≡ true) }
 {
@@ -102,7 +97,6 @@ pub fn step(q: Sequence, l: Layout, r: Request, s: Attempt, a: Answer) -> Attemp
     }
 }
 
-#[tactic(auto, unfolding(crate::specs::I2c::script_of))]
 pub fn valid(l: Layout, r: Request, s: Attempt) -> bool
     ensures { result ≡ valid_attempt l (script_of r) s }
 {

@@ -1,20 +1,26 @@
 // The attempts of a call under its lock: a read takes the lock for each attempt, a write holds it across both.
+#![tactic(auto, using(bus::proofs::Laws::picked, crate::proofs::Laws::begins, hardware::proofs::Prog::going, hardware::proofs::Prog::over, crate::proofs::Laws::when_no, crate::proofs::Laws::when_yes, crate::proofs::Masks::taken_first, crate::proofs::Laws::again_more, crate::proofs::Laws::tries_reads, crate::proofs::Masks::given_first, crate::proofs::Laws::write_again, crate::proofs::Laws::write_done, crate::proofs::Laws::write_last, crate::proofs::Laws::read_done, hardware::proofs::Prog::heard_on, crate::proofs::Laws::read_open, crate::proofs::Laws::write_open), unfolding(crate::specs::Retry::valid_retry_next, crate::specs::Retry::valid_retry, crate::specs::Retry::valid_stage, transfer::specs::Attempt::valid_attempt, crate::specs::Retry::due_retry_next, crate::specs::Retry::due_retry, crate::specs::Retry::due_stage, hardware::specs::Marks::more, hardware::specs::Prog::pick, hardware::specs::Marks::marked, hardware::specs::Marks::acknowledged, crate::specs::Retry::retry_next, crate::specs::Retry::access_retry, crate::specs::Retry::access_stage, crate::specs::Retry::rest_retry, crate::specs::Retry::rest_stage, sync::specs::Resource::acquire_bits_next, sync::specs::Resource::valid_acquire_bits_next, hardware::specs::Prog::followed, hardware::specs::Prog::or_err, hardware::specs::Registers::reply, hardware::specs::Prog::erase, crate::specs::Retry::locked_try, sync::specs::Resource::acquire_bits, crate::specs::Retry::tries_left, hardware::specs::Failures::failure_of, crate::specs::I2c::pauses, crate::specs::I2c::read_judged, crate::specs::Retry::after_release, sync::specs::Resource::release_bits_next, sync::specs::Resource::valid_release_bits_next, crate::specs::Retry::back_then, transfer::specs::Attempt::attempt_next, transfer::specs::Attempt::awaiting, transfer::specs::Attempt::valid_attempt_next, transfer::specs::Transfer::tells, crate::specs::Retry::wanted))]
+
 ghost use Rattle.std.specs.Prelude.{ℕ, ◌<◌, ◌≤◌, suc, ◌≡◌, true, false};
 ghost use Rattle.hardware.specs.Promise.{Counts};
 ghost use Rattle.hardware.specs.Prog.{erase, followed, or_err};
 ghost use Rattle.sync.specs.Resource.{acquire_bits_next, valid_acquire_bits_next, release_bits_next, valid_release_bits_next};
 ghost use Rattle.bus.specs.Layout.{layout_of};
 ghost use Rattle.transfer.specs.Transfer.{keeping};
-ghost use Rattle.transfer.specs.Attempt.{got, attempt_next, valid_attempt_next};
+ghost use Rattle.transfer.specs.Attempt.{attempt_next, valid_attempt_next};
 ghost use Rattle.i2c.specs.I2c.{mask, device_of, script_of, is_write, pauses, read_judged, read_tries, retried};
 ghost use Rattle.i2c.specs.Retry.{wanted, try_now, locked_try, tries_left, after_try, back_then, after_release, access_retry, rest_retry, retry_next, due_retry, due_retry_next, valid_stage, valid_retry, valid_retry_next};
+ghost use Rattle.hardware.specs.Registers.{reply};
+ghost use Rattle.transfer.specs.declared.transfer.Handing.TheVariants.{Going as Goes};
 
 use crate::How;
 use crate::once::Request;
-use hardware::{ATTEMPT_BEGINS, Access, Answer, Error, Marks, Millis, Outcome, Port, UNMARKED};
+use bus::Taken;
+use hardware::{ATTEMPT_BEGINS, Access, Answer, Error, Marks, Millis, Next, Port, R, UNMARKED};
 use sync::acquire_bits::{AcquireBits, AcquireBitsNext};
 use sync::release_bits::{ReleaseBits, ReleaseBitsNext};
-use transfer::attempt::{Attempt, AttemptNext, Got};
+use transfer::attempt::{Attempt, AttemptNext};
+use transfer::transfer::Handing;
 
 // Acquiring, Releasing: no mask of a transfer has TOKEN, so a lock is its bits of SW_FW_SYNC. Releasing: with how the
 // attempt ended.
@@ -22,7 +28,7 @@ use transfer::attempt::{Attempt, AttemptNext, Got};
 pub enum Stage {
     Acquiring(AcquireBits),
     Trying(Attempt),
-    Releasing(Got, ReleaseBits),
+    Releasing(R<Taken>, ReleaseBits),
     Pausing,
 }
 
@@ -33,47 +39,40 @@ pub struct Retry {
     pub stage: Stage,
 }
 
-#[derive(Clone, Copy)]
-pub enum RetryNext {
-    Going(Marks, Retry),
-    End(Got),
-}
+pub type RetryNext = Next<(Marks, Retry), R<Taken>>;
 
 // An attempt begins.
-#[tactic(auto, using(bus::proofs::Laws::picked, crate::proofs::Laws::begins), unfolding(crate::specs::Retry::valid_retry_next, crate::specs::Retry::valid_retry, crate::specs::Retry::valid_stage, transfer::specs::Attempt::valid_attempt, crate::specs::Retry::due_retry_next, crate::specs::Retry::due_retry, crate::specs::Retry::due_stage, hardware::specs::Marks::more, hardware::specs::Prog::pick))]
 fn begin(left: u8) -> RetryNext
     ensures { Counts ((port : Port) (r : Request) (how : How) → retry_next port r how result ≡ erase (try_now port r how left)) ((tries : ℕ) (port : Port) (r : Request) → left < tries → valid_retry_next tries port r result ≡ true) (due_retry_next result ≤ suc left) }
 {
-    RetryNext::Going(
+    Next::Going((
         ATTEMPT_BEGINS,
         Retry {
             left,
             stage: Stage::Trying(Attempt::New),
         },
-    )
+    ))
 }
 
-#[tactic(auto, using(bus::proofs::Laws::picked, hardware::proofs::Prog::going), unfolding(hardware::specs::Marks::marked, hardware::specs::Marks::acknowledged, crate::specs::Retry::retry_next, crate::specs::Retry::access_retry, crate::specs::Retry::access_stage, crate::specs::Retry::rest_retry, crate::specs::Retry::rest_stage, crate::specs::Retry::valid_retry_next, crate::specs::Retry::valid_retry, crate::specs::Retry::valid_stage, crate::specs::Retry::due_retry_next, crate::specs::Retry::due_retry, crate::specs::Retry::due_stage, hardware::specs::Marks::more, hardware::specs::Prog::pick, sync::specs::Resource::acquire_bits_next, sync::specs::Resource::valid_acquire_bits_next, hardware::specs::Prog::followed, hardware::specs::Prog::or_err, hardware::specs::Registers::outcome, transfer::specs::Attempt::got, hardware::specs::Prog::erase))]
 fn acquired(left: u8, n: AcquireBitsNext) -> RetryNext
     ensures { Counts ((port : Port) (r : Request) (how : How) → retry_next port r how result ≡ followed (acquire_bits_next port (mask port) n) (or_err (λ _. try_now port r how left))) ((tries : ℕ) (port : Port) (r : Request) → left < tries → valid_acquire_bits_next port.family n ≡ true → valid_retry_next tries port r result ≡ true) (due_retry_next result ≤ suc left) }
 {
     match n {
-        AcquireBitsNext::Going(s) => RetryNext::Going(
+        Next::Going(s) => Next::Going((
             UNMARKED,
             Retry {
                 left,
                 stage: Stage::Acquiring(s),
             },
-        ),
-        AcquireBitsNext::End(o) => match o {
-            Outcome::Ok => begin(left),
-            Outcome::Err(e) => RetryNext::End(Got::Err(e)),
+        )),
+        Next::End(o) => match o {
+            Ok(()) => begin(left),
+            Err(e) => Next::End(Err(e)),
         },
     }
 }
 
 // An attempt is made, under the lock where it is wanted.
-#[tactic(auto, using(hardware::proofs::Prog::over, crate::proofs::Laws::when_no, crate::proofs::Laws::when_yes, crate::proofs::Masks::taken_first), unfolding(crate::specs::Retry::locked_try, sync::specs::Resource::acquire_bits))]
 fn locked(port: Port, how: How, left: u8) -> RetryNext
     ensures { Counts ((r : Request) → retry_next port r how result ≡ erase (locked_try port r how left)) ((tries : ℕ) (r : Request) → left < tries → valid_retry_next tries port r result ≡ true) (due_retry_next result ≤ suc left) }
 {
@@ -88,17 +87,15 @@ fn locked(port: Port, how: How, left: u8) -> RetryNext
 }
 
 // The attempts that are left.
-#[tactic(auto, using(crate::proofs::Laws::again_more), unfolding(crate::specs::Retry::retry_next, transfer::specs::Attempt::got, crate::specs::Retry::tries_left, hardware::specs::Prog::erase, crate::specs::Retry::valid_retry_next, crate::specs::Retry::due_retry_next, hardware::specs::Failures::failure_of))]
 fn again(port: Port, r: Request, how: How, left: u8) -> RetryNext
     ensures { Counts (retry_next port r how result ≡ erase (tries_left port r how left)) ((tries : ℕ) → left ≤ tries → valid_retry_next tries port r result ≡ true) (due_retry_next result ≤ left) }
 {
     if left == 0 {
-        return RetryNext::End(Got::Err(Error::I2c(crate::once::device(r))));
+        return Next::End(Err(Error::I2c(crate::once::device(r))));
     }
     locked(port, how, left - 1)
 }
 
-#[tactic(auto, unfolding(crate::specs::I2c::pauses))]
 fn pauses(r: Request, lock: bool) -> bool
     ensures { result ≡ pauses r lock }
 {
@@ -110,58 +107,61 @@ fn pauses(r: Request, lock: bool) -> bool
     }
 }
 
-#[tactic(auto, using(bus::proofs::Laws::picked, crate::proofs::Laws::tries_reads), unfolding(crate::specs::I2c::read_judged, crate::specs::Retry::retry_next, crate::specs::Retry::access_retry, crate::specs::Retry::access_stage, crate::specs::Retry::rest_retry, crate::specs::Retry::rest_stage, hardware::specs::Marks::marked, hardware::specs::Marks::acknowledged, crate::specs::Retry::valid_retry_next, crate::specs::Retry::valid_retry, crate::specs::Retry::valid_stage, crate::specs::Retry::due_retry_next, crate::specs::Retry::due_retry, crate::specs::Retry::due_stage, hardware::specs::Marks::more, hardware::specs::Prog::pick, hardware::specs::Prog::erase, hardware::specs::Prog::or_err))]
-fn judge(port: Port, r: Request, how: How, left: u8, g: Got) -> RetryNext
-    ensures { Counts (is_write r ≡ false → retry_next port r how result ≡ erase (read_judged r how.lock (λ _. read_tries port r how left) (got g))) ((tries : ℕ) → left < tries → valid_retry_next tries port r result ≡ true) (due_retry_next result ≤ left) }
+fn judge(port: Port, r: Request, how: How, left: u8, g: R<Taken>) -> RetryNext
+    ensures { Counts (is_write r ≡ false → retry_next port r how result ≡ erase (read_judged r how.lock (λ _. read_tries port r how left) (reply g))) ((tries : ℕ) → left < tries → valid_retry_next tries port r result ≡ true) (due_retry_next result ≤ left) }
 {
     if crate::once::failed(g) {
         if pauses(r, how.lock) {
-            return RetryNext::Going(
+            return Next::Going((
                 UNMARKED,
                 Retry {
                     left,
                     stage: Stage::Pausing,
                 },
-            );
+            ));
         }
         return again(port, r, how, left);
     }
-    RetryNext::End(g)
+    Next::End(g)
 }
 
-#[tactic(auto, unfolding(crate::specs::Retry::after_release, hardware::specs::Prog::pick, crate::specs::Retry::retry_next, hardware::specs::Prog::erase, crate::specs::Retry::valid_retry_next, crate::specs::Retry::due_retry_next))]
-fn after_release(port: Port, r: Request, how: How, left: u8, g: Got) -> RetryNext
-    ensures { Counts (retry_next port r how result ≡ erase (after_release port r how left (got g))) ((tries : ℕ) → left < tries → valid_retry_next tries port r result ≡ true) (due_retry_next result ≤ left) }
+fn after_release(port: Port, r: Request, how: How, left: u8, g: R<Taken>) -> RetryNext
+    ensures { Counts (retry_next port r how result ≡ erase (after_release port r how left (reply g))) ((tries : ℕ) → left < tries → valid_retry_next tries port r result ≡ true) (due_retry_next result ≤ left) }
 {
     if crate::once::is_write(r) {
-        return RetryNext::End(g);
+        return Next::End(g);
     }
     judge(port, r, how, left, g)
 }
 
-#[tactic(auto, using(bus::proofs::Laws::picked, hardware::proofs::Prog::going), unfolding(hardware::specs::Marks::marked, hardware::specs::Marks::acknowledged, crate::specs::Retry::retry_next, crate::specs::Retry::access_retry, crate::specs::Retry::access_stage, crate::specs::Retry::rest_retry, crate::specs::Retry::rest_stage, crate::specs::Retry::valid_retry_next, crate::specs::Retry::valid_retry, crate::specs::Retry::valid_stage, crate::specs::Retry::due_retry_next, crate::specs::Retry::due_retry, crate::specs::Retry::due_stage, hardware::specs::Marks::more, hardware::specs::Prog::pick, sync::specs::Resource::release_bits_next, sync::specs::Resource::valid_release_bits_next, hardware::specs::Prog::followed, hardware::specs::Prog::or_err, hardware::specs::Registers::outcome, transfer::specs::Attempt::got, hardware::specs::Prog::erase))]
-fn released(port: Port, r: Request, how: How, left: u8, g: Got, n: ReleaseBitsNext) -> RetryNext
-    ensures { Counts (retry_next port r how result ≡ followed (release_bits_next port (mask port) n) (or_err (λ _. after_release port r how left (got g)))) ((tries : ℕ) → left < tries → valid_release_bits_next n ≡ true → valid_retry_next tries port r result ≡ true) (due_retry_next result ≤ left) }
+fn released(
+    port: Port,
+    r: Request,
+    how: How,
+    left: u8,
+    g: R<Taken>,
+    n: ReleaseBitsNext,
+) -> RetryNext
+    ensures { Counts (retry_next port r how result ≡ followed (release_bits_next port (mask port) n) (or_err (λ _. after_release port r how left (reply g)))) ((tries : ℕ) → left < tries → valid_release_bits_next n ≡ true → valid_retry_next tries port r result ≡ true) (due_retry_next result ≤ left) }
 {
     match n {
-        ReleaseBitsNext::Going(s) => RetryNext::Going(
+        Next::Going(s) => Next::Going((
             UNMARKED,
             Retry {
                 left,
                 stage: Stage::Releasing(g, s),
             },
-        ),
-        ReleaseBitsNext::End(o) => match o {
-            Outcome::Ok => after_release(port, r, how, left, g),
-            Outcome::Err(e) => RetryNext::End(Got::Err(e)),
+        )),
+        Next::End(o) => match o {
+            Ok(()) => after_release(port, r, how, left, g),
+            Err(e) => Next::End(Err(e)),
         },
     }
 }
 
 // The lock is given back where it was taken.
-#[tactic(auto, using(hardware::proofs::Prog::over, crate::proofs::Laws::when_no, crate::proofs::Laws::when_yes, crate::proofs::Masks::given_first), unfolding(crate::specs::Retry::back_then))]
-fn give_back(port: Port, r: Request, how: How, left: u8, g: Got) -> RetryNext
-    ensures { Counts (retry_next port r how result ≡ erase (back_then port how.lock (after_release port r how left (got g)))) ((tries : ℕ) → left < tries → valid_retry_next tries port r result ≡ true) (due_retry_next result ≤ left) }
+fn give_back(port: Port, r: Request, how: How, left: u8, g: R<Taken>) -> RetryNext
+    ensures { Counts (retry_next port r how result ≡ erase (back_then port how.lock (after_release port r how left (reply g)))) ((tries : ℕ) → left < tries → valid_retry_next tries port r result ≡ true) (due_retry_next result ≤ left) }
 {
     if how.lock {
         return released(
@@ -177,9 +177,8 @@ fn give_back(port: Port, r: Request, how: How, left: u8, g: Got) -> RetryNext
 }
 
 // A write that failed is tried again while an attempt is left.
-#[tactic(auto, using(crate::proofs::Laws::write_again, crate::proofs::Laws::write_done, crate::proofs::Laws::write_last))]
-fn after_write(port: Port, r: Request, how: How, left: u8, g: Got) -> RetryNext
-    ensures { Counts (is_write r ≡ true → retry_next port r how result ≡ erase (after_try port r how left (got g))) ((tries : ℕ) → left < tries → valid_retry_next tries port r result ≡ true) (due_retry_next result ≤ left) }
+fn after_write(port: Port, r: Request, how: How, left: u8, g: R<Taken>) -> RetryNext
+    ensures { Counts (is_write r ≡ true → retry_next port r how result ≡ erase (after_try port r how left (reply g))) ((tries : ℕ) → left < tries → valid_retry_next tries port r result ≡ true) (due_retry_next result ≤ left) }
 {
     if crate::once::failed(g) {
         if left == 0 {
@@ -190,9 +189,8 @@ fn after_write(port: Port, r: Request, how: How, left: u8, g: Got) -> RetryNext
     give_back(port, r, how, left, g)
 }
 
-#[tactic(auto, using(crate::proofs::Laws::read_done))]
-fn after_try(port: Port, r: Request, how: How, left: u8, g: Got) -> RetryNext
-    ensures { Counts (retry_next port r how result ≡ erase (after_try port r how left (got g))) ((tries : ℕ) → left < tries → valid_retry_next tries port r result ≡ true) (due_retry_next result ≤ left) }
+fn after_try(port: Port, r: Request, how: How, left: u8, g: R<Taken>) -> RetryNext
+    ensures { Counts (retry_next port r how result ≡ erase (after_try port r how left (reply g))) ((tries : ℕ) → left < tries → valid_retry_next tries port r result ≡ true) (due_retry_next result ≤ left) }
 {
     if crate::once::is_write(r) {
         return after_write(port, r, how, left, g);
@@ -201,32 +199,29 @@ fn after_try(port: Port, r: Request, how: How, left: u8, g: Got) -> RetryNext
 }
 
 // An attempt goes on, and says whether a byte was acknowledged.
-#[tactic(auto, using(bus::proofs::Laws::picked, hardware::proofs::Prog::heard_on), unfolding(hardware::specs::Marks::marked, crate::specs::Retry::retry_next, crate::specs::Retry::access_retry, crate::specs::Retry::access_stage, crate::specs::Retry::rest_retry, crate::specs::Retry::rest_stage, crate::specs::Retry::valid_retry_next, crate::specs::Retry::valid_retry, crate::specs::Retry::valid_stage, crate::specs::Retry::due_retry_next, crate::specs::Retry::due_retry, crate::specs::Retry::due_stage, hardware::specs::Marks::more, hardware::specs::Prog::pick, transfer::specs::Attempt::attempt_next, transfer::specs::Attempt::awaiting, transfer::specs::Attempt::valid_attempt_next))]
 fn trying(left: u8, s: Attempt) -> RetryNext
-    ensures { Counts ((port : Port) (r : Request) (how : How) → retry_next port r how result ≡ followed (attempt_next keeping how.sequence (layout_of port.family) (device_of r) (script_of r) (AttemptNext.Going s)) (after_try port r how left)) ((tries : ℕ) (port : Port) (r : Request) → left < tries → valid_attempt_next (layout_of port.family) (script_of r) (AttemptNext.Going s) ≡ true → valid_retry_next tries port r result ≡ true) (due_retry_next result ≤ left) }
+    ensures { Counts ((port : Port) (r : Request) (how : How) → retry_next port r how result ≡ followed (attempt_next keeping how.sequence (layout_of port.family) (device_of r) (script_of r) (Goes s)) (after_try port r how left)) ((tries : ℕ) (port : Port) (r : Request) → left < tries → valid_attempt_next (layout_of port.family) (script_of r) (Goes s) ≡ true → valid_retry_next tries port r result ≡ true) (due_retry_next result ≤ left) }
 {
-    RetryNext::Going(
+    Next::Going((
         hardware::hears(transfer::attempt::heard(s)),
         Retry {
             left,
             stage: Stage::Trying(s),
         },
-    )
+    ))
 }
 
-#[tactic(auto, unfolding(transfer::specs::Attempt::attempt_next, transfer::specs::Transfer::tells, transfer::specs::Attempt::valid_attempt_next, hardware::specs::Prog::followed))]
 fn tried(port: Port, r: Request, how: How, left: u8, n: AttemptNext) -> RetryNext
     ensures { Counts (retry_next port r how result ≡ followed (attempt_next keeping how.sequence (layout_of port.family) (device_of r) (script_of r) n) (after_try port r how left)) ((tries : ℕ) → left < tries → valid_attempt_next (layout_of port.family) (script_of r) n ≡ true → valid_retry_next tries port r result ≡ true) (due_retry_next result ≤ left) }
 {
     match n {
-        AttemptNext::Going(s) => trying(left, s),
-        AttemptNext::Read(_, s) => trying(left, s),
-        AttemptNext::End(g) => after_try(port, r, how, left, g),
+        Handing::Going(s) => trying(left, s),
+        Handing::Read(_, s) => trying(left, s),
+        Handing::End(g) => after_try(port, r, how, left, g),
     }
 }
 
 // The attempts of a call, tries of them for a read.
-#[tactic(auto, using(crate::proofs::Laws::read_open, crate::proofs::Laws::tries_reads, crate::proofs::Laws::write_open), unfolding(crate::specs::Retry::wanted, hardware::specs::Prog::pick))]
 pub fn open(port: Port, r: Request, how: How, tries: u8) -> RetryNext
     ensures { Counts (retry_next port r how result ≡ erase (retried port r how tries)) ((most : ℕ) → wanted r tries ≤ most → valid_retry_next most port r result ≡ true) (due_retry_next result ≤ wanted r tries) }
 {
@@ -236,7 +231,6 @@ pub fn open(port: Port, r: Request, how: How, tries: u8) -> RetryNext
     again(port, r, how, tries)
 }
 
-#[tactic(auto, unfolding(crate::specs::Retry::access_retry, crate::specs::Retry::access_stage))]
 pub fn access(port: Port, s: Retry) -> Access
     ensures { result ≡ access_retry port s }
 {
@@ -282,7 +276,6 @@ pub fn step(port: Port, r: Request, how: How, s: Retry, a: Answer) -> RetryNext
 }
 
 // The most attempts that are to come.
-#[tactic(auto, unfolding(crate::specs::Retry::due_retry, crate::specs::Retry::due_stage))]
 pub fn due(s: Retry) -> u32
     ensures { result ≡ due_retry s }
 {
@@ -295,7 +288,6 @@ pub fn due(s: Retry) -> u32
     }
 }
 
-#[tactic(auto, unfolding(crate::specs::Retry::valid_stage))]
 fn valid_stage(port: Port, r: Request, stage: Stage) -> bool
     ensures { result ≡ valid_stage port r stage }
 {
@@ -309,7 +301,6 @@ fn valid_stage(port: Port, r: Request, stage: Stage) -> bool
 }
 
 // Fewer attempts are left than the request has.
-#[tactic(auto, unfolding(crate::specs::Retry::valid_retry, hardware::specs::Prog::pick))]
 pub fn valid(tries: u32, port: Port, r: Request, s: Retry) -> bool
     ensures { result ≡ valid_retry tries port r s }
 {

@@ -16,8 +16,6 @@ use Rattle.transfer.specs.declared.attempt.Sequence.{Sequence}
 use Rattle.i2c.specs.I2c.{attempts, is_write}
 use Rattle.i2c.specs.Retry.{wanted}
 use Rattle.i2c.proofs.Laws.{fits_below, attempts_few}
-use Rattle.sfp.specs.declared.Coded.{Coded}
-use Rattle.sfp.specs.declared.Coded.TheVariants.{Known, Open}
 use Rattle.sfp.specs.declared.Codes.{Codes}
 use Rattle.sfp.specs.declared.Kind.{Kind}
 use Rattle.sfp.specs.declared.Kind.TheVariants.{DaCu, DaActiveLimiting, SrLr, Unknown}
@@ -31,6 +29,7 @@ use Rattle.identify.specs.declared.place.Place.TheVariants.{Identifier, Comp1g, 
 use Rattle.identify.specs.declared.walk.Identify.{Identify}
 use Rattle.identify.specs.Place.{readings_at, requests_at, request_at, tries_at, most, cap_at, valid_place, kinded, on_at, placed}
 use Rattle.identify.specs.Walk.{valid_identify}
+use Rattle.std.specs.Prelude.{Some, None, Option}
 
 -- a place has at least one attempt
 tries_some : (port : Port) (p : Place) → tries_at port p ≡ suc (tries_at port p - 1)
@@ -85,9 +84,9 @@ placed_again q port (suc left) v n = ap (λ k. byte q port 0 11 (on_at q port (I
     less = omega arith
 
 -- what follows the codes: a kind, or the bytes of an active cable
-abbrev on_coded : Coded → (Kind → Prog (R Identity)) → Prog (R Identity) → Prog (R Identity)
-on_coded (Known kind) f other = f kind
-on_coded Open f other = other
+abbrev on_coded : (Option Kind) → (Kind → Prog (R Identity)) → Prog (R Identity) → Prog (R Identity)
+on_coded (Some kind) f other = f kind
+on_coded None f other = other
 
 kinded_is : (q : Sequence) (port : Port) (c : Codes) (bx : Bool)
     → on_coded (coded_by c bx) (λ kind. ret (Ok (recorded SFP c kind))) (placed q port (Active c)) ≡ kinded q port c bx
@@ -95,15 +94,15 @@ unfolding coded_by kinded kind_by placed tries_at on_at pick
 kinded_is q port c bx = by (has c.cable PASSIVE_DA) (has c.cable ACTIVE_DA) (λ kind. ret (Ok (recorded SFP c kind))) (placed q port (Active c)) (fibre_of c bx)
   where
     by : (a b : Bool) (f : Kind → Prog (R Identity)) (other : Prog (R Identity)) (kind : Kind)
-        → on_coded (pick a (Known DaCu) (pick b Open (Known kind))) f other ≡ pick a (f DaCu) (pick b other (f kind))
+        → on_coded (pick a (Some DaCu) (pick b None (Some kind))) f other ≡ pick a (f DaCu) (pick b other (f kind))
     by true b f other kind = refl
     by false true f other kind = refl
     by false false f other kind = refl
 
-pub kinded_known : (q : Sequence) (port : Port) (c : Codes) (bx : Bool) (kind : Kind) → coded_by c bx ≡ Known kind → ret (Ok (recorded SFP c kind)) ≡ kinded q port c bx
+pub kinded_known : (q : Sequence) (port : Port) (c : Codes) (bx : Bool) (kind : Kind) → coded_by c bx ≡ Some kind → ret (Ok (recorded SFP c kind)) ≡ kinded q port c bx
 kinded_known q port c bx kind e = ap (λ r. on_coded r (λ k. ret (Ok (recorded SFP c k))) (placed q port (Active c))) (sym e) ∙ kinded_is q port c bx
 
-pub kinded_open : (q : Sequence) (port : Port) (c : Codes) (bx : Bool) → coded_by c bx ≡ Open → placed q port (Active c) ≡ kinded q port c bx
+pub kinded_open : (q : Sequence) (port : Port) (c : Codes) (bx : Bool) → coded_by c bx ≡ None → placed q port (Active c) ≡ kinded q port c bx
 kinded_open q port c bx e = ap (λ r. on_coded r (λ k. ret (Ok (recorded SFP c k))) (placed q port (Active c))) (sym e) ∙ kinded_is q port c bx
 
 qsfp_is : (q : Sequence) (port : Port) (g10 g1 : ℕ) → on_coded (qsfp_coded g10) (qsfp_found g10 g1) (placed q port (QsfpConnector g10 g1)) ≡ qsfp_classify q port g10 g1
@@ -111,17 +110,17 @@ unfolding qsfp_coded qsfp_classify placed tries_at on_at pick
 qsfp_is q port g10 g1 = by (has g10 0x08) (has g10 0x30) (has g10 0x01) (qsfp_found g10 g1) (placed q port (QsfpConnector g10 g1))
   where
     by : (a b c : Bool) (f : Kind → Prog (R Identity)) (other : Prog (R Identity))
-        → on_coded (pick a (Known DaCu) (pick b (Known SrLr) (pick c (Known DaActiveLimiting) Open))) f other
+        → on_coded (pick a (Some DaCu) (pick b (Some SrLr) (pick c (Some DaActiveLimiting) None))) f other
         ≡ pick a (f DaCu) (pick b (f SrLr) (pick c (f DaActiveLimiting) other))
     by true b c f other = refl
     by false true c f other = refl
     by false false true f other = refl
     by false false false f other = refl
 
-pub qsfp_known_lem : (q : Sequence) (port : Port) (g10 g1 : ℕ) (kind : Kind) → qsfp_coded g10 ≡ Known kind → qsfp_found g10 g1 kind ≡ qsfp_classify q port g10 g1
+pub qsfp_known_lem : (q : Sequence) (port : Port) (g10 g1 : ℕ) (kind : Kind) → qsfp_coded g10 ≡ Some kind → qsfp_found g10 g1 kind ≡ qsfp_classify q port g10 g1
 qsfp_known_lem q port g10 g1 kind e = ap (λ r. on_coded r (qsfp_found g10 g1) (placed q port (QsfpConnector g10 g1))) (sym e) ∙ qsfp_is q port g10 g1
 
-pub qsfp_open : (q : Sequence) (port : Port) (g10 g1 : ℕ) → qsfp_coded g10 ≡ Open → placed q port (QsfpConnector g10 g1) ≡ qsfp_classify q port g10 g1
+pub qsfp_open : (q : Sequence) (port : Port) (g10 g1 : ℕ) → qsfp_coded g10 ≡ None → placed q port (QsfpConnector g10 g1) ≡ qsfp_classify q port g10 g1
 qsfp_open q port g10 g1 e = ap (λ r. on_coded r (qsfp_found g10 g1) (placed q port (QsfpConnector g10 g1))) (sym e) ∙ qsfp_is q port g10 g1
 
 -- a cable by its technology

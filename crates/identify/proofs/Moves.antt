@@ -16,15 +16,15 @@ use Rattle.i2c.specs.Handshake.{rest_request}
 use Rattle.i2c.specs.Direct.{RequestMoves}
 use Rattle.i2c.proofs.Moves.{admitted, request_on}
 use Rattle.identify.specs.declared.place.Place.{Place}
-use Rattle.identify.specs.declared.calls.IdentifyCall.TheVariants.{Going}
-use Rattle.identify.specs.declared.calls.IdentifyTold.TheVariants.{Ask}
 use Rattle.identify.specs.Place.{request_at, tries_at, cap_at, valid_place}
 use Rattle.identify.specs.Walk.{access_identify, rest_identify, valid_identify}
 use Rattle.identify.specs.Calls.{said_identify, stands_identify, step_identify, valid_call}
+use Rattle.hardware.specs.declared.Told.TheVariants.{Ask}
+use Rattle.std.specs.Prelude.{Ok, Some}
 
 pub identify_on : (port : Port) (q : Sequence) (m : Meter) (p : Place) (h g : Handshake) (a : Answer) (x : Access)
     → valid_held port m ≡ true → valid_place p ≡ true → RequestMoves port (request_at p) (tries_at port p) (cap_at port p) m h a x g
-    → Keeps (said_identify (Ask x (Going port q m (record { place = p; request = g }))) ≡ step_identify (Going port q m (record { place = p; request = h })) a) (stands_identify (Ask x (Going port q m (record { place = p; request = g }))))
+    → Keeps (said_identify (Ok (Ask x (Some (port, q, m, (record { place = p; request = g }))))) ≡ step_identify (Some (port, q, m, (record { place = p; request = h }))) a) (stands_identify (Ok (Ask x (Some (port, q, m, (record { place = p; request = g }))))))
 unfolding said_identify stands_identify step_identify valid_call valid_identify access_identify rest_identify rest_request
 identify_on port q m p h g a x held v d =
     record {

@@ -29,14 +29,14 @@ use Rattle.sfp.specs.Qsfp.{identify_qsfp}
 use Rattle.sfp.specs.Steps.{IDENTIFY_STEPS}
 use Rattle.sfp.proofs.Ends.{identify_ends, QSFP_STEPS, qsfp_ends}
 use Rattle.identify.specs.declared.walk.Identify.{Identify}
-use Rattle.identify.specs.declared.calls.IdentifyCall.TheVariants.{Going, Over}
-use Rattle.identify.specs.declared.calls.IdentifyTold.{IdentifyTold}
-use Rattle.identify.specs.declared.calls.IdentifyTold.TheVariants.{Ask, End, Refused}
 use Rattle.identify.specs.Walk.{rest_identify}
 use Rattle.identify.specs.Calls.{open_identify, open_qsfp, step_identify, said_identify, stands_identify, follows_identify}
 use Rattle.hardware.specs.Promise.{Keeps}
 use Rattle.sfp.proofs.Spreads.{Keeping, pairs_spreads, shows_spreads, identify_holds, qsfp_holds}
 use Rattle.identify.proofs.Ends.{identify_after, identify_rest_ends}
+use Rattle.identify.specs.Aliases.{IdentifyTold}
+use Rattle.hardware.specs.declared.Told.TheVariants.{Ask, End}
+use Rattle.std.specs.Prelude.{Ok, Err, Some, None}
 
 pub identify_runs : (q : Sequence) (family device lan : ℕ) (t : IdentifyTold) → said_identify t ≡ open_identify q family device lan → (l : List Answer)
     → run_asked (said_identify t) l ≡ and_then (open_port family device lan) (λ port. yes (counted (meter_in blank (identify q port) l) (run (identify q port) l)))
@@ -58,17 +58,17 @@ pub qsfp_finishes : (q : Sequence) (port : Port) (l : List Answer) → QSFP_STEP
 qsfp_finishes q port l h w = run_ends (identify_qsfp q port) (QSFP_STEPS port.family) l (qsfp_ends q port) h w
 
 -- a state that was handed out, with any answer of the kind that its access awaits, is not refused
-pub identify_accepts : (x : Access) (port : Port) (q : Sequence) (m : Meter) (s : Identify) (a : Answer) → stands_identify (Ask x (Going port q m s)) → fits x a ≡ true
-    → step_identify (Going port q m s) a ≡ yes (tally m (rest_identify q port s a))
+pub identify_accepts : (x : Access) (port : Port) (q : Sequence) (m : Meter) (s : Identify) (a : Answer) → stands_identify (Ok (Ask x (Some (port, q, m, s)))) → fits x a ≡ true
+    → step_identify (Some (port, q, m, s)) a ≡ yes (tally m (rest_identify q port s a))
 unfolding stands_identify step_identify admitting question
 identify_accepts x port q m s a h e = rw (h.1, ← h.0, e)
 
 pub identify_steps_on : StepsOn said_identify follows_identify stands_identify
 unfolding follows_identify said_identify stands_identify AwaitedIn Awaited left_asked_after left_after IfYes Asks
-identify_steps_on (Ask y (Going port q m s)) u a h k w = (k.yields ∙ identify_accepts y port q m s a h (is_true (fits y a) w.0), k.limits, tt)
-identify_steps_on (Ask y Over) u a h k w = absurd h
-identify_steps_on (End f m) u a h k w = absurd k
-identify_steps_on (Refused q) u a h k w = absurd k
+identify_steps_on (Ok (Ask y (Some (port, q, m, s)))) u a h k w = (k.yields ∙ identify_accepts y port q m s a h (is_true (fits y a) w.0), k.limits, tt)
+identify_steps_on (Ok (Ask y None)) u a h k w = absurd h
+identify_steps_on (Ok (End (f, m))) u a h k w = absurd k
+identify_steps_on (Err q) u a h k w = absurd k
 
 -- its number falls at every accepted step
 pub identify_falls : Falls said_identify follows_identify stands_identify
@@ -105,9 +105,9 @@ pub qsfp_shown : (q : Sequence) (port : Port) (l : List Answer) → Shown q (lay
 qsfp_shown q port l = shows_shown _ _ _ _ l (qsfp_holds q port (Showing q port) (shows_spreads q port))
 
 -- from any state that passes question 10, whoever made it, the call takes at most so many steps more
-pub identify_lasts : (x : Access) (port : Port) (q : Sequence) (m : Meter) (s : Identify) (ks : List (Exchange IdentifyTold)) → stands_identify (Ask x (Going port q m s))
-    → AllKept (Accepts said_identify follows_identify) (Ask x (Going port q m s)) ks → Lasts said_identify (Ask x (Going port q m s)) ks (suc (identify_after port.family s))
+pub identify_lasts : (x : Access) (port : Port) (q : Sequence) (m : Meter) (s : Identify) (ks : List (Exchange IdentifyTold)) → stands_identify (Ok (Ask x (Some (port, q, m, s))))
+    → AllKept (Accepts said_identify follows_identify) (Ok (Ask x (Some (port, q, m, s)))) ks → Lasts said_identify (Ok (Ask x (Some (port, q, m, s)))) ks (suc (identify_after port.family s))
 unfolding said_identify IfYes
 identify_lasts x port q m s ks h k =
-    steps_few said_identify follows_identify stands_identify identify_steps_on (Ask x (Going port q m s)) ks (suc (identify_after port.family s)) h k
+    steps_few said_identify follows_identify stands_identify identify_steps_on (Ok (Ask x (Some (port, q, m, s)))) ks (suc (identify_after port.family s)) h k
     (ask_ends x _ (identify_after port.family s) (λ a. ends_tally m _ _ (identify_rest_ends q port s a)))

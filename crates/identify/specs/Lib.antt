@@ -1,3 +1,4 @@
 pub mod Place
 pub mod Walk
 pub mod Calls
+pub mod Aliases

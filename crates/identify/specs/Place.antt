@@ -1,5 +1,5 @@
 -- Where an identification stands: the byte that is requested, and what is left of the call once it was read.
-use Rattle.std.specs.Prelude.{ℕ, ◌+◌, ◌*◌, ◌-◌, ◌≤◌, ◌≡◌, Bool, true, false, ◌||◌, eqb, leb, ltb}
+use Rattle.std.specs.Prelude.{ℕ, ◌+◌, ◌*◌, ◌-◌, ◌≤◌, ◌≡◌, Bool, true, false, ◌||◌, eqb, leb, ltb, Result}
 use Rattle.hardware.specs.declared.Port.{Port}
 use Rattle.hardware.specs.Failures.{failure_of}
 use Rattle.hardware.specs.Prog.{Prog, ret, R, Ok, Err, pick}
@@ -18,8 +18,10 @@ use Rattle.sfp.specs.Qsfp.{qsfp_technology, qsfp_length, qsfp_connector, qsfp_cl
 use Rattle.identify.specs.declared.place.Place.{Place}
 use Rattle.identify.specs.declared.place.Place.TheVariants.{Identifier, Comp1g, Comp10g, Cable, Rate, Km, Hm, Active, QsfpIdentifier, Qsfp10g, Qsfp1g, QsfpConnector, QsfpLength, QsfpTechnology}
 use Rattle.identify.specs.declared.place.Row.{Row}
-use Rattle.identify.specs.declared.place.Then.{Then}
-use Rattle.identify.specs.declared.place.Then.TheVariants.{Request as Requests, Found, Failed}
+use Rattle.hardware.specs.declared.Error.{Error}
+use Rattle.hardware.specs.declared.Next.{Next}
+use Rattle.hardware.specs.declared.Next.TheVariants.{Going, End}
+use Rattle.hardware.specs.Registers.{reply}
 
 -- of a place: the byte's offset; the most readings of byte 0, and how many of them are left; the requests after byte 0, this
 -- one among them
@@ -101,13 +103,11 @@ told_at q port p = valued (request_at p) (or_absent (on_at q port p))
 unfoldable pub placed : Sequence → Port → Place → Prog (R Identity)
 placed q port p = byte q port (offset_at p) (tries_at port p) (on_at q port p)
 
-unfoldable pub rest_then : Sequence → Port → Then → Prog (R Identity)
-rest_then q port (Requests p) = placed q port p
-rest_then q port (Found m) = ret (Ok m)
-rest_then q port (Failed e) = ret (Err (failure_of e))
+unfoldable pub rest_then : Sequence → Port → Next Place (Result Identity Error) → Prog (R Identity)
+rest_then q port (Going p) = placed q port p
+rest_then q port (End r) = ret (reply r)
 
 -- the next request has room for its attempts after n transfers
-unfoldable pub Later : Port → ℕ → Then → Type 0
-Later port n (Requests p) = (valid_place p ≡ true) × (n + tries_at port p ≤ cap_at port p)
-Later port n (Found m) = Unit {0}
-Later port n (Failed e) = Unit {0}
+unfoldable pub Later : Port → ℕ → Next Place (Result Identity Error) → Type 0
+Later port n (Going p) = (valid_place p ≡ true) × (n + tries_at port p ≤ cap_at port p)
+Later port n (End r) = Unit {0}

@@ -1,7 +1,8 @@
 // Where an identification stands, and what a byte leads to.
+#![tactic(auto, using(i2c::proofs::Laws::attempts_few, crate::proofs::Laws::few_requests, crate::proofs::Laws::cap_again, crate::proofs::Laws::cap_first, crate::proofs::Laws::placed_again, crate::proofs::Laws::kinded_known, crate::proofs::Laws::kinded_open, crate::proofs::Laws::qsfp_known_lem, crate::proofs::Laws::qsfp_open, crate::proofs::Laws::technology_is), unfolding(crate::specs::Place::request_at, crate::specs::Place::tries_at, hardware::specs::Prog::pick, crate::specs::Place::cap_at, crate::specs::Place::most, crate::specs::Place::valid_place, crate::specs::Place::rest_then, hardware::specs::Registers::reply, crate::specs::Place::Later, crate::specs::Place::placed, crate::specs::Place::on_at, sfp::specs::Identify::identified, sfp::specs::Identify::known, sfp::specs::Identify::identifier_of, sfp::specs::Identify::classify, sfp::specs::Identify::bx10g_of, crate::specs::Place::kinded, sfp::specs::Bytes::codes_ask_rate, sfp::specs::Identify::reach_of, sfp::specs::Qsfp::qsfp_identified, sfp::specs::Qsfp::qsfp_known, sfp::specs::Qsfp::qsfp_connector, sfp::specs::Qsfp::qsfp_length, sfp::specs::Identify::or_absent, crate::specs::Place::told_at, i2c::specs::Handshake::valued, i2c::specs::I2c::value_of, i2c::specs::I2c::read_off))]
+
 ghost use Rattle.std.specs.Prelude.{ℕ, ◌+◌, ◌≤◌, ◌≡◌, true};
 ghost use Rattle.transfer.specs.declared.attempt.Sequence.{Sequence};
-ghost use Rattle.transfer.specs.Attempt.{got};
 ghost use Rattle.sfp.specs.Identify.{or_absent, recorded, classify};
 ghost use Rattle.hardware.specs.Promise.{Keeps};
 ghost use Rattle.hardware.specs.Failures.{failure_of};
@@ -9,11 +10,12 @@ ghost use Rattle.hardware.specs.Prog.{ret, Ok, Err};
 ghost use Rattle.sfp.specs.Qsfp.{qsfp_classify, qsfp_identified, qsfp_found};
 ghost use Rattle.identify.specs.Place.{row_at, readings_at, request_at, tries_at, most, cap_at, valid_place, on_at, kinded, told_at, rest_then, Later};
 ghost use Rattle.i2c.specs.I2c.{attempts};
+ghost use Rattle.hardware.specs.Registers.{reply};
 
-use hardware::{Error, Port};
+use bus::Taken;
+use hardware::{Error, Next, Port, R};
 use i2c::once::Request;
-use sfp::{Coded, Codes, Identity, Kind, class};
-use transfer::attempt::Got;
+use sfp::{Codes, Identity, Kind, class};
 
 // The byte that is requested, with those read before it. Identifier: with the readings left after this one. The codes of
 // an SFP are bytes 6, 3 and 8; those of a QSFP, in this order, 83 and 86 (hexadecimal).
@@ -35,13 +37,8 @@ pub enum Place {
     QsfpTechnology(u8, u8),
 }
 
-// What is to be done once a byte was read, or not.
-#[derive(Clone, Copy)]
-pub enum Then {
-    Request(Place),
-    Found(Identity),
-    Failed(Error),
-}
+// What is to be done once a byte was read, or not: another request, or the end.
+pub type Then = Next<Place, R<Identity>>;
 
 const EEPROM: u8 = 0xa0;
 
@@ -71,7 +68,6 @@ fn row_at(p: Place) -> Row
     }
 }
 
-#[tactic(auto, unfolding(crate::specs::Place::request_at))]
 pub fn request(p: Place) -> Request
     ensures { result ≡ request_at p }
 {
@@ -90,7 +86,6 @@ fn readings(p: Place) -> u8
 }
 
 // A module's first byte gets the long probe's attempts.
-#[tactic(auto, using(i2c::proofs::Laws::attempts_few), unfolding(crate::specs::Place::tries_at, hardware::specs::Prog::pick))]
 pub fn tries(port: Port, p: Place) -> u8
     ensures { result ≡ tries_at port p }
 {
@@ -101,7 +96,6 @@ pub fn tries(port: Port, p: Place) -> u8
 }
 
 // The most transfers up to this place's end.
-#[tactic(auto, using(crate::proofs::Laws::few_requests), unfolding(crate::specs::Place::cap_at, crate::specs::Place::most))]
 pub fn cap(port: Port, p: Place) -> u32
     ensures { result ≡ cap_at port p }
 {
@@ -109,112 +103,100 @@ pub fn cap(port: Port, p: Place) -> u32
 }
 
 // Byte 0 is requested at most five times.
-#[tactic(auto, unfolding(crate::specs::Place::valid_place))]
 pub fn valid(p: Place) -> bool
     ensures { result ≡ valid_place p }
 {
     0 < readings(p)
 }
 
-#[tactic(auto, unfolding(crate::specs::Place::rest_then, crate::specs::Place::Later))]
 fn found(c: Codes, kind: Kind) -> Then
     ensures { Keeps ((q : Sequence) (port : Port) → rest_then q port result ≡ ret (Ok (recorded 3 c kind))) ((port : Port) (n : ℕ) → Later port n result) }
 {
-    Then::Found(class::recorded(class::SFP, c, kind))
+    Next::End(Ok(class::recorded(class::SFP, c, kind)))
 }
 
-#[tactic(auto, using(crate::proofs::Laws::cap_again, crate::proofs::Laws::cap_first, crate::proofs::Laws::placed_again), unfolding(crate::specs::Place::rest_then, crate::specs::Place::Later, crate::specs::Place::placed, crate::specs::Place::tries_at, crate::specs::Place::valid_place, hardware::specs::Prog::pick, crate::specs::Place::on_at, sfp::specs::Identify::identified, sfp::specs::Identify::known, sfp::specs::Identify::identifier_of))]
 fn after_identifier(left: u8, v: u8) -> Then
     ensures { Keeps ((q : Sequence) (port : Port) → rest_then q port result ≡ on_at q port (Place.Identifier left) v) ((port : Port) → valid_place (Place.Identifier left) ≡ true → Later port (cap_at port (Place.Identifier left)) result) }
 {
     if v == class::SFP {
-        return Then::Request(Place::Comp1g);
+        return Next::Going(Place::Comp1g);
     }
     if left == 0 {
-        return Then::Found(sfp::methods::other(v));
+        return Next::End(Ok(sfp::methods::other(v)));
     }
-    Then::Request(Place::Identifier(left - 1))
+    Next::Going(Place::Identifier(left - 1))
 }
 
 // The kind, or byte 60 for it.
-#[tactic(auto, using(crate::proofs::Laws::kinded_known, crate::proofs::Laws::kinded_open), unfolding(crate::specs::Place::rest_then, crate::specs::Place::Later, crate::specs::Place::tries_at, crate::specs::Place::valid_place, hardware::specs::Prog::pick, crate::specs::Place::cap_at, crate::specs::Place::most))]
 fn kinded(c: Codes, bx: bool) -> Then
     ensures { Keeps ((q : Sequence) (port : Port) → rest_then q port result ≡ kinded q port c bx) ((port : Port) (n : ℕ) → n + attempts port ≤ most port 5 7 → Later port n result) }
 {
     match class::coded(c, bx) {
-        Coded::Known(kind) => found(c, kind),
-        Coded::Open => Then::Request(Place::Active(c)),
+        Some(kind) => found(c, kind),
+        None => Next::Going(Place::Active(c)),
     }
 }
 
-#[tactic(auto, unfolding(crate::specs::Place::rest_then, crate::specs::Place::Later, crate::specs::Place::placed, crate::specs::Place::tries_at, crate::specs::Place::valid_place, hardware::specs::Prog::pick, crate::specs::Place::on_at, sfp::specs::Identify::classify, sfp::specs::Identify::bx10g_of, crate::specs::Place::kinded, sfp::specs::Bytes::codes_ask_rate, crate::specs::Place::cap_at, crate::specs::Place::most))]
 fn after_cable(c: Codes) -> Then
     ensures { Keeps ((q : Sequence) (port : Port) → rest_then q port result ≡ classify q port 3 c) ((port : Port) → Later port (most port 5 3) result) }
 {
     if class::asks_rate(c) {
-        return Then::Request(Place::Rate(c));
+        return Next::Going(Place::Rate(c));
     }
     kinded(c, false)
 }
 
-#[tactic(auto, unfolding(crate::specs::Place::rest_then, crate::specs::Place::Later, crate::specs::Place::placed, crate::specs::Place::tries_at, crate::specs::Place::valid_place, hardware::specs::Prog::pick, crate::specs::Place::on_at, sfp::specs::Identify::reach_of, crate::specs::Place::cap_at, crate::specs::Place::most))]
 fn after_rate(c: Codes, v: u8) -> Then
     ensures { Keeps ((q : Sequence) (port : Port) → rest_then q port result ≡ on_at q port (Place.Rate c) v) ((port : Port) → Later port (most port 5 4) result) }
 {
     if v == class::RATE {
-        return Then::Request(Place::Km(c));
+        return Next::Going(Place::Km(c));
     }
     kinded(c, false)
 }
 
-#[tactic(auto, unfolding(crate::specs::Place::rest_then, crate::specs::Place::Later))]
 fn qsfp_found(g10: u8, g1: u8, kind: Kind) -> Then
     ensures { Keeps ((q : Sequence) (port : Port) → rest_then q port result ≡ qsfp_found g10 g1 kind) ((port : Port) (n : ℕ) → Later port n result) }
 {
-    Then::Found(sfp::qsfp::qsfp_recorded(g10, g1, kind))
+    Next::End(Ok(sfp::qsfp::qsfp_recorded(g10, g1, kind)))
 }
 
-#[tactic(auto, unfolding(crate::specs::Place::rest_then, crate::specs::Place::Later, crate::specs::Place::placed, crate::specs::Place::tries_at, crate::specs::Place::valid_place, hardware::specs::Prog::pick, crate::specs::Place::on_at, sfp::specs::Qsfp::qsfp_identified, sfp::specs::Qsfp::qsfp_known, crate::specs::Place::cap_at, crate::specs::Place::most))]
 fn after_qsfp_identifier(v: u8) -> Then
     ensures { Keeps ((q : Sequence) (port : Port) → rest_then q port result ≡ qsfp_identified q port v) ((port : Port) → Later port (most port 1 0) result) }
 {
     if v == sfp::qsfp::QSFP {
-        return Then::Request(Place::Qsfp10g);
+        return Next::Going(Place::Qsfp10g);
     }
-    Then::Found(sfp::methods::other(v))
+    Next::End(Ok(sfp::methods::other(v)))
 }
 
-#[tactic(auto, using(crate::proofs::Laws::qsfp_known_lem, crate::proofs::Laws::qsfp_open), unfolding(crate::specs::Place::rest_then, crate::specs::Place::Later, crate::specs::Place::tries_at, crate::specs::Place::valid_place, hardware::specs::Prog::pick, crate::specs::Place::cap_at, crate::specs::Place::most))]
 fn qsfp_codes(g10: u8, g1: u8) -> Then
     ensures { Keeps ((q : Sequence) (port : Port) → rest_then q port result ≡ qsfp_classify q port g10 g1) ((port : Port) → Later port (most port 1 2) result) }
 {
     match sfp::qsfp::coded(g10) {
-        Coded::Known(kind) => qsfp_found(g10, g1, kind),
-        Coded::Open => Then::Request(Place::QsfpConnector(g10, g1)),
+        Some(kind) => qsfp_found(g10, g1, kind),
+        None => Next::Going(Place::QsfpConnector(g10, g1)),
     }
 }
 
-#[tactic(auto, unfolding(crate::specs::Place::rest_then, crate::specs::Place::Later, crate::specs::Place::placed, crate::specs::Place::tries_at, crate::specs::Place::valid_place, hardware::specs::Prog::pick, crate::specs::Place::on_at, sfp::specs::Qsfp::qsfp_connector, crate::specs::Place::cap_at, crate::specs::Place::most))]
 fn after_connector(g10: u8, g1: u8, v: u8) -> Then
     ensures { Keeps ((q : Sequence) (port : Port) → rest_then q port result ≡ on_at q port (Place.QsfpConnector g10 g1) v) ((port : Port) → Later port (most port 1 3) result) }
 {
     if sfp::qsfp::fixed(v) {
-        return Then::Request(Place::QsfpLength(g10, g1));
+        return Next::Going(Place::QsfpLength(g10, g1));
     }
     qsfp_found(g10, g1, Kind::Unknown)
 }
 
-#[tactic(auto, unfolding(crate::specs::Place::rest_then, crate::specs::Place::Later, crate::specs::Place::placed, crate::specs::Place::tries_at, crate::specs::Place::valid_place, hardware::specs::Prog::pick, crate::specs::Place::on_at, sfp::specs::Qsfp::qsfp_length, crate::specs::Place::cap_at, crate::specs::Place::most))]
 fn after_length(g10: u8, g1: u8, v: u8) -> Then
     ensures { Keeps ((q : Sequence) (port : Port) → rest_then q port result ≡ on_at q port (Place.QsfpLength g10 g1) v) ((port : Port) → Later port (most port 1 4) result) }
 {
     if sfp::qsfp::measured(v) {
-        return Then::Request(Place::QsfpTechnology(g10, g1));
+        return Next::Going(Place::QsfpTechnology(g10, g1));
     }
     qsfp_found(g10, g1, Kind::Unknown)
 }
 
-#[tactic(auto, using(crate::proofs::Laws::technology_is), unfolding(crate::specs::Place::on_at))]
 fn after_technology(g10: u8, g1: u8, v: u8) -> Then
     ensures { Keeps ((q : Sequence) (port : Port) → rest_then q port result ≡ on_at q port (Place.QsfpTechnology g10 g1) v) ((port : Port) (n : ℕ) → Later port n result) }
 {
@@ -222,21 +204,20 @@ fn after_technology(g10: u8, g1: u8, v: u8) -> Then
 }
 
 // A byte was read.
-#[tactic(auto, unfolding(crate::specs::Place::rest_then, crate::specs::Place::Later, crate::specs::Place::placed, crate::specs::Place::tries_at, crate::specs::Place::valid_place, hardware::specs::Prog::pick, crate::specs::Place::on_at, crate::specs::Place::cap_at, crate::specs::Place::most))]
 fn on(p: Place, v: u8) -> Then
     ensures { Keeps ((q : Sequence) (port : Port) → rest_then q port result ≡ on_at q port p v) ((port : Port) → valid_place p ≡ true → Later port (cap_at port p) result) }
 {
     match p {
         Place::Identifier(left) => after_identifier(left, v),
-        Place::Comp1g => Then::Request(Place::Comp10g(v)),
-        Place::Comp10g(g1) => Then::Request(Place::Cable(g1, v)),
+        Place::Comp1g => Next::Going(Place::Comp10g(v)),
+        Place::Comp10g(g1) => Next::Going(Place::Cable(g1, v)),
         Place::Cable(g1, g10) => after_cable(Codes { g1, g10, cable: v }),
         Place::Rate(c) => after_rate(c, v),
-        Place::Km(c) => Then::Request(Place::Hm(c, v)),
+        Place::Km(c) => Next::Going(Place::Hm(c, v)),
         Place::Hm(c, km) => kinded(c, class::reach(km, v)),
         Place::Active(c) => found(c, class::cable_of(v)),
         Place::QsfpIdentifier => after_qsfp_identifier(v),
-        Place::Qsfp10g => Then::Request(Place::Qsfp1g(v)),
+        Place::Qsfp10g => Next::Going(Place::Qsfp1g(v)),
         Place::Qsfp1g(g10) => qsfp_codes(g10, v),
         Place::QsfpConnector(g10, g1) => after_connector(g10, g1, v),
         Place::QsfpLength(g10, g1) => after_length(g10, g1, v),
@@ -245,23 +226,21 @@ fn on(p: Place, v: u8) -> Then
 }
 
 // Nothing answered; any other failure ends the call.
-#[tactic(auto, unfolding(crate::specs::Place::rest_then, crate::specs::Place::Later, sfp::specs::Identify::or_absent, hardware::specs::Prog::pick))]
 fn failed(e: Error) -> Then
     ensures { Keeps ((q : Sequence) (port : Port) (p : Place) → rest_then q port result ≡ or_absent (on_at q port p) (Err (failure_of e))) ((port : Port) (n : ℕ) → Later port n result) }
 {
     if bus::is_i2c(e) {
-        return Then::Found(sfp::methods::absent());
+        return Next::End(Ok(sfp::methods::absent()));
     }
-    Then::Failed(e)
+    Next::End(Err(e))
 }
 
 // A request has ended.
-#[tactic(auto, unfolding(crate::specs::Place::told_at, i2c::specs::Handshake::valued, transfer::specs::Attempt::got, i2c::specs::I2c::value_of, i2c::specs::I2c::read_off, sfp::specs::Identify::or_absent, crate::specs::Place::request_at))]
-pub fn after(p: Place, g: Got) -> Then
-    ensures { Keeps ((q : Sequence) (port : Port) → rest_then q port result ≡ told_at q port p (got g)) ((port : Port) → valid_place p ≡ true → Later port (cap_at port p) result) }
+pub fn after(p: Place, g: R<Taken>) -> Then
+    ensures { Keeps ((q : Sequence) (port : Port) → rest_then q port result ≡ told_at q port p (reply g)) ((port : Port) → valid_place p ≡ true → Later port (cap_at port p) result) }
 {
     match g {
-        Got::Ok(t) => on(p, t.last),
-        Got::Err(e) => failed(e),
+        Ok(t) => on(p, t.last),
+        Err(e) => failed(e),
     }
 }

@@ -1,4 +1,6 @@
 // One request after another.
+#![tactic(auto, using(bus::proofs::Laws::picked, i2c::proofs::Request::begun_valid, i2c::proofs::Request::own_allows, i2c::proofs::Request::request_asks, i2c::proofs::Request::request_begun, crate::proofs::Laws::cap_most, crate::proofs::Laws::own, hardware::proofs::Prog::going_on, i2c::proofs::Laws::fits_valid, bus::proofs::Laws::picked_first, bus::proofs::Laws::picked_second, i2c::proofs::Laws::valid_fits, hardware::proofs::Prog::over), unfolding(crate::specs::Walk::identify_next, crate::specs::Walk::access_identify, crate::specs::Walk::rest_identify, crate::specs::Place::placed, sfp::specs::Identify::byte, crate::specs::Place::request_at, crate::specs::Walk::valid_identify_next, crate::specs::Walk::valid_identify, crate::specs::Place::rest_then, crate::specs::Place::Later, hardware::specs::Registers::reply, hardware::specs::Prog::erase, i2c::specs::Handshake::rest_request, crate::specs::Place::told_at, i2c::specs::Handshake::handshake_next, i2c::specs::Handshake::valid_handshake_next, i2c::specs::Handshake::due_handshake_next, hardware::specs::Prog::followed, hardware::specs::Prog::pick))]
+
 ghost use Rattle.std.specs.Prelude.{ℕ, ◌+◌, ◌≤◌, ◌≡◌, true};
 ghost use Rattle.hardware.specs.Promise.{Keeps};
 ghost use Rattle.hardware.specs.Prog.{erase, followed};
@@ -8,7 +10,7 @@ ghost use Rattle.identify.specs.Place.{request_at, tries_at, cap_at, valid_place
 ghost use Rattle.identify.specs.Walk.{access_identify, rest_identify, identify_next, valid_identify, valid_identify_next};
 
 use crate::place::{Place, Then};
-use hardware::{Access, Answer, Error, Marks, Meter, Port};
+use hardware::{Access, Answer, Error, Marks, Meter, Next, Port, R};
 use i2c::How;
 use i2c::handshake::{Handshake, HandshakeNext};
 use sfp::Identity;
@@ -20,20 +22,9 @@ pub struct Identify {
     pub request: Handshake,
 }
 
-#[derive(Clone, Copy)]
-pub enum Identified {
-    Ok(Identity),
-    Err(Error),
-}
-
-#[derive(Clone, Copy)]
-pub enum IdentifyNext {
-    Going(Marks, Identify),
-    End(Identified),
-}
+pub type IdentifyNext = Next<(Marks, Identify), R<Identity>>;
 
 // A locked request has an access at once, so that the second arm is never met.
-#[tactic(auto, using(bus::proofs::Laws::picked, i2c::proofs::Request::begun_valid, i2c::proofs::Request::own_allows, i2c::proofs::Request::request_asks, i2c::proofs::Request::request_begun, crate::proofs::Laws::cap_most, crate::proofs::Laws::own), unfolding(crate::specs::Walk::identify_next, crate::specs::Walk::access_identify, crate::specs::Walk::rest_identify, crate::specs::Place::placed, sfp::specs::Identify::byte, crate::specs::Place::request_at, crate::specs::Walk::valid_identify_next, crate::specs::Walk::valid_identify))]
 pub fn begin(port: Port, q: Sequence, p: Place) -> IdentifyNext
     ensures { Keeps (identify_next q port result ≡ erase (placed q port p)) ((m : Meter) → valid_place p ≡ true → m.transfers + tries_at port p ≤ cap_at port p → valid_identify_next port m result ≡ true) }
 {
@@ -46,45 +37,41 @@ pub fn begin(port: Port, q: Sequence, p: Place) -> IdentifyNext
         },
         crate::place::tries(port, p),
     ) {
-        HandshakeNext::Going(k, s) => IdentifyNext::Going(
+        Next::Going((k, s)) => Next::Going((
             k,
             Identify {
                 place: p,
                 request: s,
             },
-        ),
-        HandshakeNext::End(_) => IdentifyNext::End(Identified::Err(Error::Io)),
+        )),
+        Next::End(_) => Next::End(Err(Error::Io)),
     }
 }
 
-#[tactic(auto, unfolding(crate::specs::Place::rest_then, crate::specs::Place::Later, crate::specs::Walk::identify_next, crate::specs::Walk::found_of, hardware::specs::Prog::erase, crate::specs::Walk::valid_identify_next))]
 fn conclude(port: Port, q: Sequence, t: Then) -> IdentifyNext
     ensures { Keeps (identify_next q port result ≡ erase (rest_then q port t)) ((m : Meter) (n : ℕ) → m.transfers ≤ n → Later port n t → valid_identify_next port m result ≡ true) }
 {
     match t {
-        Then::Request(p) => begin(port, q, p),
-        Then::Found(m) => IdentifyNext::End(Identified::Ok(m)),
-        Then::Failed(e) => IdentifyNext::End(Identified::Err(e)),
+        Next::Going(p) => begin(port, q, p),
+        Next::End(r) => Next::End(r),
     }
 }
 
-#[tactic(auto, using(bus::proofs::Laws::picked, hardware::proofs::Prog::going_on, i2c::proofs::Laws::fits_valid, crate::proofs::Laws::cap_most), unfolding(crate::specs::Walk::identify_next, crate::specs::Walk::access_identify, crate::specs::Walk::rest_identify, i2c::specs::Handshake::rest_request, crate::specs::Place::told_at, i2c::specs::Handshake::handshake_next, i2c::specs::Handshake::valid_handshake_next, i2c::specs::Handshake::due_handshake_next, crate::specs::Walk::valid_identify_next, crate::specs::Walk::valid_identify, hardware::specs::Prog::followed))]
 fn from_request(port: Port, q: Sequence, p: Place, n: HandshakeNext) -> IdentifyNext
     ensures { Keeps (identify_next q port result ≡ followed (handshake_next port (request_at p) (locked q) n) (told_at q port p)) ((m : Meter) → valid_place p ≡ true → valid_handshake_next (tries_at port p) port (request_at p) n ≡ true → m.transfers + due_handshake_next (request_at p) n ≤ cap_at port p → valid_identify_next port m result ≡ true) }
 {
     match n {
-        HandshakeNext::Going(k, s) => IdentifyNext::Going(
+        Next::Going((k, s)) => Next::Going((
             k,
             Identify {
                 place: p,
                 request: s,
             },
-        ),
-        HandshakeNext::End(g) => conclude(port, q, crate::place::after(p, g)),
+        )),
+        Next::End(g) => conclude(port, q, crate::place::after(p, g)),
     }
 }
 
-#[tactic(auto, unfolding(crate::specs::Walk::access_identify))]
 pub fn access(port: Port, s: Identify) -> Access
     ensures { result ≡ access_identify port s }
 {
@@ -92,7 +79,6 @@ pub fn access(port: Port, s: Identify) -> Access
     i2c::handshake::access(port, t)
 }
 
-#[tactic(auto, unfolding(crate::specs::Walk::valid_identify, hardware::specs::Prog::pick))]
 pub fn valid(port: Port, m: Meter, s: Identify) -> bool
     ensures { result ≡ valid_identify port m s }
 {
@@ -111,7 +97,6 @@ pub fn valid(port: Port, m: Meter, s: Identify) -> bool
     false
 }
 
-#[tactic(auto, using(bus::proofs::Laws::picked_first, bus::proofs::Laws::picked_second, i2c::proofs::Laws::valid_fits, hardware::proofs::Prog::over), unfolding(crate::specs::Walk::rest_identify, i2c::specs::Handshake::rest_request, crate::specs::Place::told_at, crate::specs::Walk::valid_identify))]
 pub fn step(port: Port, q: Sequence, s: Identify, a: Answer) -> IdentifyNext
     ensures { Keeps (identify_next q port result ≡ erase (rest_identify q port s a)) ((m : Meter) → valid_identify port m s ≡ true → valid_identify_next port m result ≡ true) }
 {

@@ -1,5 +1,6 @@
 // Reading an image: 512 bytes, page A0 and then page A2.
-ghost use Rattle.std.specs.Prelude.{◌≡◌, ◌≤◌, length, IfOk};
+ghost use Rattle.std.specs.Prelude.{◌≡◌, ◌≤◌, length, IfOk, IfErr};
+ghost use Rattle.image.specs.declared.files.Unfit.TheVariants.{Unread};
 ghost use Rattle.image.specs.Size.{SizeOf, Told};
 
 use std::fs::File;
@@ -7,39 +8,40 @@ use std::io;
 use std::io::Read;
 use std::rt::Files;
 
-// How many bytes a file has, or why it could not be read.
 #[derive(Clone, Copy)]
-pub enum Size {
-    Whole,
+pub struct Image {
+    pub a0: [u8; 256],
+    pub a2: [u8; 256],
+}
+
+// Why a file is no image: it has so few bytes, it has more than 512, or it could not be read.
+#[derive(Clone, Copy, Debug)]
+pub enum Unfit {
     Short(usize),
     Long,
     Unread(io::Error),
 }
 
-#[derive(Clone, Copy)]
-pub struct Image {
-    pub size: Size,
-    pub a0: [u8; 256],
-    pub a2: [u8; 256],
-}
+impl From<io::Error> for Unfit {
+    ghost from_gives = { λ e r. r ≡ Unread e };
 
-// count: the bytes read of at most 512. past: what a read after them answered.
-fn sized(count: usize, past: io::Result<usize>) -> Size
-    ensures { SizeOf count past result }
-{
-    match past {
-        Err(e) => Size::Unread(e),
-        Ok(0) => {
-            if count < 512 {
-                return Size::Short(count);
-            }
-            Size::Whole
-        }
-        Ok(_) => Size::Long,
+    fn from(e: io::Error) -> Unfit {
+        Unfit::Unread(e)
     }
 }
 
-// Reads until the buffer is full or the file ends.
+// count: the bytes read of at most 512. past: what a read after them answered.
+fn sized(count: usize, past: io::Result<usize>) -> Result<(), Unfit>
+    ensures { SizeOf count past result }
+{
+    match past? {
+        0 if count < 512 => Err(Unfit::Short(count)),
+        0 => Ok(()),
+        _ => Err(Unfit::Long),
+    }
+}
+
+// Reads until the buffer is full or the file ends; std's `read_exact` does not say how many bytes a shorter file has.
 fn filled<F: Read>(file: &mut F, buffer: &mut [u8]) -> io::Result<usize>
     ensures { IfOk result (λ n. n ≤ length buffer.new) }
 {
@@ -55,48 +57,27 @@ fn filled<F: Read>(file: &mut F, buffer: &mut [u8]) -> io::Result<usize>
 }
 
 #[tactic(auto, using(crate::proofs::Laws::told))]
-fn measured<F: Read>(file: &mut F, a0: &mut [u8; 256], a2: &mut [u8; 256]) -> io::Result<Size>
-    ensures { IfOk result Told }
+fn pages<F: Read>(file: &mut F) -> Result<Image, Unfit>
+    ensures { IfErr result Told }
 {
-    let mut past = [0u8; 1];
-    let first = filled(file, a0)?;
-    let second = filled(file, a2)?;
-    Ok(sized(first + second, file.read(&mut past)))
-}
-
-fn pages<F: Read>(file: &mut F) -> Image
-    ensures { Told result.size }
-{
-    let mut a0 = [0u8; 256];
-    let mut a2 = [0u8; 256];
-    match measured(file, &mut a0, &mut a2) {
-        Ok(size) => Image { size, a0, a2 },
-        Err(e) => unread(e),
-    }
-}
-
-fn unread(e: io::Error) -> Image
-    ensures { result.size ≡ Size.Unread e }
-{
-    Image {
-        size: Size::Unread(e),
-        a0: [0; 256],
-        a2: [0; 256],
-    }
+    let mut a0 = [0; 256];
+    let mut a2 = [0; 256];
+    let first = filled(file, &mut a0)?;
+    let second = filled(file, &mut a2)?;
+    sized(first + second, file.read(&mut [0]))?;
+    Ok(Image { a0, a2 })
 }
 
 fn opened<R: Files>(rt: &R, path: &[u8]) -> io::Result<R::File> {
-    match str::from_utf8(path) {
-        Ok(path) => File::open(rt, path),
-        Err(_) => Err(io::Error::new(io::ErrorKind::InvalidFilename, "its name is not UTF-8")),
-    }
+    let name = str::from_utf8(path).map_err(|_| io::Error::new(
+        io::ErrorKind::InvalidFilename,
+        "its name is not UTF-8",
+    ))?;
+    File::open(rt, name)
 }
 
-pub fn read<R: Files>(rt: &R, path: &[u8]) -> Image
-    ensures { Told result.size }
+pub fn read<R: Files>(rt: &R, path: &[u8]) -> Result<Image, Unfit>
+    ensures { IfErr result Told }
 {
-    match opened(rt, path) {
-        Ok(mut file) => pages(&mut file),
-        Err(e) => unread(e),
-    }
+    pages(&mut opened(rt, path)?)
 }

@@ -11,24 +11,23 @@ use mir.Syntax.{w16}
 use mir.Val.{SFits, to_z}
 use mir.Facts.{to_z_pos}
 use borrow.Author.Tests.{ltb-true, ltb-false}
-use Rattle.level.specs.declared.dbm.Level.{Level}
-use Rattle.level.specs.declared.dbm.Level.TheVariants.{Tenths, None}
 use Rattle.level.specs.Level.{Greatest, LevelOf}
+use Rattle.std.specs.Prelude.{Some, None, Option}
 use Rattle.level.proofs.Powers as powers
 
-pub exists : (count : ℕ) → (l : Level) × LevelOf count l
+pub exists : (count : ℕ) → (l : (Option ℤ)) × LevelOf count l
 exists zero = (None, refl)
 exists (suc n) =
     let g = powers.exists (suc n) (suc-le-suc zero-le) in
-    (Tenths (sub_ℕ g.0 400), (g.0, g.1, refl))
+    (Some (sub_ℕ g.0 400), (g.0, g.1, refl))
 
 not_of_0 : {k : ℕ} → Greatest 0 k → ⊥
 not_of_0 {k} g = not-le_of_lt (powers.ten_pos k) g.reached
 
-pub unique : (count : ℕ) (a b : Level) → LevelOf count a → LevelOf count b → a ≡ b
-unique count (Tenths a) (Tenths b) g h = ap Tenths (g.2 ∙ ap (λ k. sub_ℕ k 400) (powers.unique g.1 h.1) ∙ sym h.2)
-unique count (Tenths a) None g z = absurd (not_of_0 (rw z at g.1))
-unique count None (Tenths b) z h = absurd (not_of_0 (rw z at h.1))
+pub unique : (count : ℕ) (a b : (Option ℤ)) → LevelOf count a → LevelOf count b → a ≡ b
+unique count (Some a) (Some b) g h = ap Some (g.2 ∙ ap (λ k. sub_ℕ k 400) (powers.unique g.1 h.1) ∙ sym h.2)
+unique count (Some a) None g z = absurd (not_of_0 (rw z at g.1))
+unique count None (Some b) z h = absurd (not_of_0 (rw z at h.1))
 unique count None None z w = refl
 
 less_rises : (k l n : ℕ) → k ≤ l → sub_ℕ k n ≤ℤ sub_ℕ l n
@@ -43,7 +42,7 @@ less_rises k l n h = record { le = go (ltb k n) (ltb l n) refl refl }
     go false true p q = absurd (omega (arith, ltb-false k n p, ltb-true l n q))
     go false false p q = le→leb (k - n) (l - n) (omega arith)
 
-pub rises : {c d : ℕ} {a b : ℤ} → LevelOf c (Tenths a) → LevelOf d (Tenths b) → c ≤ d → a ≤ℤ b
+pub rises : {c d : ℕ} {a b : ℤ} → LevelOf c (Some a) → LevelOf d (Some b) → c ≤ d → a ≤ℤ b
 rises g h le = rw (g.2, h.2) (less_rises g.0 h.0 400 (powers.rises g.1 h.1 le))
 
 -- ---- the level of a count of 16 bits is a number of 16 bits

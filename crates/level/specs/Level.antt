@@ -1,9 +1,7 @@
 -- Levels of light in tenths of a dBm. A count is of 0.1 µW and 0 dBm is 1 mW, so that the level of a count c is
 -- 100 log10 c - 400, rounded down. It is stated by powers of whole numbers.
-use Rattle.std.specs.Prelude.{ℕ, ◌≤◌, ◌<◌, ◌^◌, ◌≡◌, List, get_or}
+use Rattle.std.specs.Prelude.{ℕ, ◌≤◌, ◌<◌, ◌^◌, ◌≡◌, ℤ, List, get_or, Some, None, Option}
 use Rattle.std.proofs.Math.IntN.{sub_ℕ}
-use Rattle.level.specs.declared.dbm.Level.{Level}
-use Rattle.level.specs.declared.dbm.Level.TheVariants.{Tenths, None}
 
 -- k is the greatest whole number with 10 ^ k at most count ^ 100
 pub record Greatest (count k : ℕ) : Type 0 where
@@ -20,11 +18,11 @@ pub record LeastCounts (table : List ℕ) : Type 0 where
   pub entry : (k : ℕ) → k < 482 → Least k (get_or table k 0)
 
 -- the level of a count is k - 400; the count 0, which has no k, has none
-abbrev pub LevelOf : ℕ → Level → Type 0
-LevelOf count (Tenths t) = (k : ℕ) × Greatest count k × (t ≡ sub_ℕ k 400)
+abbrev pub LevelOf : ℕ → (Option ℤ) → Type 0
+LevelOf count (Some t) = (k : ℕ) × Greatest count k × (t ≡ sub_ℕ k 400)
 LevelOf count None = count ≡ 0
 
 -- the papers' number of a failure, or 0
-abbrev pub level_number : Level → ℕ
-level_number (Tenths t) = 0
+abbrev pub level_number : (Option ℤ) → ℕ
+level_number (Some t) = 0
 level_number None = 30

@@ -2,8 +2,6 @@
 ghost use Rattle.std.specs.Prelude.{◌≤◌};
 ghost use Rattle.level.specs.Level.{Greatest, LeastCounts, LevelOf};
 
-use crate::dbm::Level;
-
 // Entry k is the least count c with 10^k at most c^100. Equal entries stand beside each other where k is small.
 static LEAST: [u16; 482] = [
     1, 2, 2, 2, 2, 2, 2, 2, 2, 2, 2, 2, 2, 2, 2, 2, 2, 2, 2, 2, 2, 2, 2, 2, 2, 2, 2, 2, 2, 2, 2, 3,
@@ -41,32 +39,20 @@ pub(crate) fn table() -> &'static [u16; 482]
     &LEAST
 }
 
-// The place of the last entry that is not above the count. Nine halvings leave one place of 482.
-#[tactic(auto, using(crate::proofs::Search::Between, crate::proofs::Search::start, crate::proofs::Search::up, crate::proofs::Search::down, crate::proofs::Search::found))]
+// The place of the last entry that is not above the count.
 pub(crate) fn place(count: u16) -> usize
     requires { 1 ≤ count }
     ensures { Greatest count result }
 {
-    let least = table();
-    let mut lo: usize = 0;
-    let mut hi: usize = 482;
-    for _ in 0u8..9 {
-        let mid = (lo + hi) / 2;
-        if least[mid] <= count {
-            lo = mid;
-        } else {
-            hi = mid;
-        }
-    }
-    lo
+    table().partition_point(|least| *least <= count) - 1
 }
 
 #[tactic(auto, using(crate::proofs::Levels::place_fits, crate::proofs::Levels::tenths_fits, crate::proofs::Levels::tenths_is))]
-pub fn level(count: u16) -> Level
+pub fn level(count: u16) -> Option<i16>
     ensures { LevelOf count result }
 {
     if count == 0 {
-        return Level::None;
+        return None;
     }
-    Level::Tenths(place(count) as i16 - 400)
+    Some(place(count) as i16 - 400)
 }

@@ -18,15 +18,15 @@ use Rattle.i2c.specs.Handshake.{rest_request}
 use Rattle.i2c.specs.Direct.{RequestMoves}
 use Rattle.i2c.proofs.Moves.{admitted, request_on}
 use Rattle.light.specs.declared.sensed.Sensed.{Sensed}
-use Rattle.light.specs.declared.calls.LightCall.TheVariants.{Going}
-use Rattle.light.specs.declared.calls.LightTold.TheVariants.{Ask}
 use Rattle.light.specs.Light.{FIRST, request_at}
 use Rattle.light.specs.Walk.{access_light, cap_at, rest_light, valid_light}
 use Rattle.light.specs.Calls.{said_light, stands_light, step_light, valid_call}
+use Rattle.hardware.specs.declared.Told.TheVariants.{Ask}
+use Rattle.std.specs.Prelude.{Ok, Some}
 
 pub light_on_lem : (port : Port) (q : Sequence) (tries : ℕ) (m : Meter) (left : ℕ) (e : Sensed) (h g : Handshake) (a : Answer) (x : Access)
     → valid_held port m ≡ true → leb left FIRST ≡ true → RequestMoves port (request_at left) tries (cap_at tries left) m h a x g
-    → Keeps (said_light (Ask x (Going port q tries m (record { left = left; sensed = e; request = g }))) ≡ step_light (Going port q tries m (record { left = left; sensed = e; request = h })) a) (stands_light (Ask x (Going port q tries m (record { left = left; sensed = e; request = g }))))
+    → Keeps (said_light (Ok (Ask x (Some (port, q, tries, m, (record { left = left; sensed = e; request = g }))))) ≡ step_light (Some (port, q, tries, m, (record { left = left; sensed = e; request = h }))) a) (stands_light (Ok (Ask x (Some (port, q, tries, m, (record { left = left; sensed = e; request = g }))))))
 unfolding said_light stands_light step_light valid_call valid_light access_light rest_light rest_request
 light_on_lem port q tries m left e h g a x held v d =
     record {

@@ -30,14 +30,14 @@ use Rattle.i2c.proofs.Shows.{shows_shown}
 use Rattle.sfp.proofs.Spreads.{Keeping}
 use Rattle.light.specs.declared.sensed.Measures.{Measures}
 use Rattle.light.specs.declared.walk.Light.{Light}
-use Rattle.light.specs.declared.calls.LightCall.TheVariants.{Going, Over}
-use Rattle.light.specs.declared.calls.LightTold.{LightTold}
-use Rattle.light.specs.declared.calls.LightTold.TheVariants.{Ask, End, Refused}
 use Rattle.light.specs.Light.{light, request_at}
 use Rattle.light.specs.Walk.{rest_light}
 use Rattle.light.specs.Calls.{open_on, open_light, step_light, said_light, stands_light, follows_light, light_run}
 use Rattle.light.proofs.Ends.{LIGHT_STEPS, light_ends, light_after, light_rest_ends}
 use Rattle.light.proofs.Spreads.{light_holds}
+use Rattle.light.specs.Aliases.{LightTold}
+use Rattle.hardware.specs.declared.Told.TheVariants.{Ask, End}
+use Rattle.std.specs.Prelude.{Ok, Err, Some, None}
 
 -- a long enough list of answers of the awaited kinds brings the call to its end
 pub light_finishes : (q : Sequence) (port : Port) (tries : ℕ) (l : List Answer) → LIGHT_STEPS port.family tries ≤ length l → Awaited (light q port tries) l
@@ -60,17 +60,17 @@ light_runs q family device lan attempts t e l =
     ap (λ x. run_asked x l) e ∙ asked_runs (open_port family device lan) (leb attempts 255) (λ port. light q port attempts) l
 
 -- a state that was handed out, with any answer of the kind that its access awaits, is not refused
-pub light_accepts : (x : Access) (port : Port) (q : Sequence) (tries : ℕ) (m : Meter) (s : Light) (a : Answer) → stands_light (Ask x (Going port q tries m s)) → fits x a ≡ true
-    → step_light (Going port q tries m s) a ≡ yes (tally m (rest_light q port tries s a))
+pub light_accepts : (x : Access) (port : Port) (q : Sequence) (tries : ℕ) (m : Meter) (s : Light) (a : Answer) → stands_light (Ok (Ask x (Some (port, q, tries, m, s)))) → fits x a ≡ true
+    → step_light (Some (port, q, tries, m, s)) a ≡ yes (tally m (rest_light q port tries s a))
 unfolding stands_light step_light admitting question
 light_accepts x port q tries m s a h e = rw (h.1, ← h.0, e)
 
 pub light_steps_on : StepsOn said_light follows_light stands_light
 unfolding follows_light said_light stands_light AwaitedIn Awaited left_asked_after left_after IfYes Asks
-light_steps_on (Ask y (Going port q tries m s)) u a h k w = (k.yields ∙ light_accepts y port q tries m s a h (is_true (fits y a) w.0), k.limits, tt)
-light_steps_on (Ask y Over) u a h k w = absurd h
-light_steps_on (End r m) u a h k w = absurd k
-light_steps_on (Refused q) u a h k w = absurd k
+light_steps_on (Ok (Ask y (Some (port, q, tries, m, s)))) u a h k w = (k.yields ∙ light_accepts y port q tries m s a h (is_true (fits y a) w.0), k.limits, tt)
+light_steps_on (Ok (Ask y None)) u a h k w = absurd h
+light_steps_on (Ok (End (r, m))) u a h k w = absurd k
+light_steps_on (Err q) u a h k w = absurd k
 
 -- its number falls at every accepted step
 pub light_falls : Falls said_light follows_light stands_light
@@ -84,12 +84,12 @@ light_driven q family device lan attempts t k ks kept w =
     opened_runs said_light follows_light stands_light light_steps_on t ks k kept w ∙ light_runs q family device lan attempts t k.yields (answers_of ks)
 
 -- from any state that passes question 10, whoever made it, the call takes at most so many steps more
-pub light_lasts : (x : Access) (port : Port) (q : Sequence) (tries : ℕ) (m : Meter) (s : Light) (ks : List (Exchange LightTold)) → stands_light (Ask x (Going port q tries m s))
-    → AllKept (Accepts said_light follows_light) (Ask x (Going port q tries m s)) ks
-    → Lasts said_light (Ask x (Going port q tries m s)) ks (suc (light_after port.family tries s))
+pub light_lasts : (x : Access) (port : Port) (q : Sequence) (tries : ℕ) (m : Meter) (s : Light) (ks : List (Exchange LightTold)) → stands_light (Ok (Ask x (Some (port, q, tries, m, s))))
+    → AllKept (Accepts said_light follows_light) (Ok (Ask x (Some (port, q, tries, m, s)))) ks
+    → Lasts said_light (Ok (Ask x (Some (port, q, tries, m, s)))) ks (suc (light_after port.family tries s))
 unfolding said_light IfYes
 light_lasts x port q tries m s ks h k =
-    steps_few said_light follows_light stands_light light_steps_on (Ask x (Going port q tries m s)) ks (suc (light_after port.family tries s)) h k
+    steps_few said_light follows_light stands_light light_steps_on (Ok (Ask x (Some (port, q, tries, m, s)))) ks (suc (light_after port.family tries s)) h k
     (ask_ends x _ (light_after port.family tries s) (λ a. ends_tally m _ _ (light_rest_ends q port tries s a)))
 
 light_pairs : (q : Sequence) (port : Port) (tries : ℕ) → Keeping (light q port tries)

@@ -5,3 +5,4 @@ pub mod Light
 pub mod Walk
 pub mod Calls
 pub mod Order
+pub mod Aliases

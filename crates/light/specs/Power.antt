@@ -7,8 +7,8 @@ use Rattle.hardware.specs.Failures.{Failure}
 use Rattle.hardware.specs.Prog.{R, Ok, Err, pick}
 use Rattle.light.specs.declared.power.Patterns.{Patterns}
 use Rattle.light.specs.declared.power.Coefficients.{Coefficients}
-use Rattle.light.specs.declared.power.Powered.{Powered}
-use Rattle.light.specs.declared.power.Powered.TheVariants.{Ok as PoweredOk, Coefficient as PoweredCoefficient, Result as PoweredResult}
+use Rattle.light.specs.Aliases.{Powered}
+use Rattle.light.specs.declared.power.PowerError.TheVariants.{Coefficient as CaseCoefficient, Power as CasePower}
 
 -- the eight bits of the exponent, above the 23 of the fraction, are not all ones
 abbrev pub finite_pattern : ℕ → Bool
@@ -68,8 +68,8 @@ judged x = pick (finite x) (Ok x) (Err Result)
 unfoldable pub power_of : Patterns → ℕ → R Float
 power_of p count = pick (all_finite p) (judged (horner_of (coefficients_of p) count)) (Err Coefficient)
 
--- what a case of the code's enum tells
+-- what the code's result tells
 unfoldable pub powered_of : Powered → R Float
-powered_of (PoweredOk x) = Ok x
-powered_of PoweredCoefficient = Err Coefficient
-powered_of PoweredResult = Err Result
+powered_of (Ok x) = Ok x
+powered_of (Err CaseCoefficient) = Err Coefficient
+powered_of (Err CasePower) = Err Result

@@ -11,10 +11,11 @@ use Rattle.light.specs.declared.power.Reading.{Reading}
 use Rattle.light.specs.declared.power.Reading.TheVariants.{Internal, Calibrated, Absent}
 use Rattle.light.specs.declared.sensed.Sensed.{Sensed}
 use Rattle.light.specs.declared.sensed.Measures.{Measures}
-use Rattle.light.specs.declared.sensed.Measured.{Measured}
-use Rattle.light.specs.declared.sensed.Measured.TheVariants.{Ok as MeasuredOk, Coefficient as MeasuredCoefficient, Result as MeasuredResult, Err as MeasuredErr}
 use Rattle.light.specs.Power.{Coefficient, Result, power_of}
 use Rattle.light.specs.Words.{signed, word_of}
+use Rattle.light.specs.Aliases.{Measured}
+use Rattle.light.specs.declared.power.PowerError.TheVariants.{Coefficient as CaseCoefficient, Power as CasePower}
+use Rattle.light.specs.declared.sensed.LightError.TheVariants.{Power as OfPower, Bus}
 
 -- before the first byte
 abbrev pub fresh : Sensed
@@ -84,14 +85,14 @@ measured s =
 
 -- the papers' number of an end, or 0
 abbrev pub measured_number : Measured → ℕ
-measured_number (MeasuredOk m) = 0
-measured_number MeasuredCoefficient = Coefficient.number
-measured_number MeasuredResult = Result.number
-measured_number (MeasuredErr e) = error_number e
+measured_number (Ok m) = 0
+measured_number (Err (OfPower CaseCoefficient)) = Coefficient.number
+measured_number (Err (OfPower CasePower)) = Result.number
+measured_number (Err (Bus e)) = error_number e
 
--- what a case of the code's enum tells
+-- what the code's result tells
 unfoldable pub measured_of : Measured → R Measures
-measured_of (MeasuredOk m) = Ok m
-measured_of MeasuredCoefficient = Err Coefficient
-measured_of MeasuredResult = Err Result
-measured_of (MeasuredErr e) = Err (failure_of e)
+measured_of (Ok m) = Ok m
+measured_of (Err (OfPower CaseCoefficient)) = Err Coefficient
+measured_of (Err (OfPower CasePower)) = Err Result
+measured_of (Err (Bus e)) = Err (failure_of e)

@@ -1,5 +1,7 @@
 // Received power, in 0.1 µW. An externally calibrated module supplies the coefficients of a polynomial in its raw count, five
 // 32-bit floats in A2 bytes 56 to 75, Rx_PWR(4) first.
+#![tactic(auto, using(crate::proofs::Finite::below_infinity, crate::proofs::Finite::not_above, crate::proofs::Finite::pattern_no_nan, crate::proofs::Finite::each_finite), unfolding(crate::specs::Power::horner_of, crate::specs::Power::horner_from, crate::specs::Power::power_of, crate::specs::Power::powered_of, hardware::specs::Prog::pick, crate::specs::Power::judged))]
+
 ghost use Rattle.std.specs.Prelude.{◌≡◌, true};
 ghost use Rattle.std.specs.Float.{binary32};
 ghost use Rattle.std.specs.Float.Ieee.{of_bits};
@@ -33,13 +35,14 @@ pub struct Coefficients {
     pub c0: f32,
 }
 
-// Coefficient, the papers' 28: one of them is not finite. Result, 29: all are, and the power is not.
+// Coefficient, the papers' 28: one of them is not finite. Power, 29: all are, and the power is not.
 #[derive(Clone, Copy)]
-pub enum Powered {
-    Ok(f32),
+pub enum PowerError {
     Coefficient,
-    Result,
+    Power,
 }
+
+pub type Powered = Result<f32, PowerError>;
 
 // Whether a pattern is a finite number's, decided before a float is made of it.
 pub fn finite_pattern(bits: u32) -> bool
@@ -49,7 +52,6 @@ pub fn finite_pattern(bits: u32) -> bool
 }
 
 // Neither an infinity nor a NaN, which is below and above nothing.
-#[tactic(auto, using(crate::proofs::Finite::below_infinity, crate::proofs::Finite::not_above))]
 pub fn finite(x: f32) -> bool
     ensures { result ≡ finite x }
 {
@@ -58,7 +60,6 @@ pub fn finite(x: f32) -> bool
 }
 
 // Horner's rule, each product and each sum rounded once.
-#[tactic(auto, unfolding(crate::specs::Power::horner_of, crate::specs::Power::horner_from))]
 pub fn horner(c: Coefficients, count: u16) -> f32
     ensures { result ≡ horner_of c count }
 {
@@ -76,7 +77,6 @@ pub(crate) fn all_finite(p: Patterns) -> bool
         & finite_pattern(p.c0)
 }
 
-#[tactic(auto, using(crate::proofs::Finite::pattern_no_nan))]
 pub(crate) fn coefficient(bits: u32) -> f32
     requires { finite_pattern bits ≡ true }
     ensures { result ≡ of_bits binary32 bits }
@@ -84,7 +84,6 @@ pub(crate) fn coefficient(bits: u32) -> f32
     f32::from_bits(bits)
 }
 
-#[tactic(auto, using(crate::proofs::Finite::each_finite))]
 pub(crate) fn floats(p: Patterns) -> Coefficients
     requires { all_finite p ≡ true }
     ensures { result ≡ coefficients_of p }
@@ -99,17 +98,16 @@ pub(crate) fn floats(p: Patterns) -> Coefficients
 }
 
 // 28 before 29: the power is worked out only of finite coefficients.
-#[tactic(auto, unfolding(crate::specs::Power::power_of, crate::specs::Power::powered_of, hardware::specs::Prog::pick, crate::specs::Power::judged))]
 pub fn power(p: Patterns, count: u16) -> Powered
     ensures { powered_of result ≡ power_of p count }
 {
     if !all_finite(p) {
-        return Powered::Coefficient;
+        return Err(PowerError::Coefficient);
     }
     let x = horner(floats(p), count);
     if finite(x) {
-        Powered::Ok(x)
+        Ok(x)
     } else {
-        Powered::Result
+        Err(PowerError::Power)
     }
 }

@@ -1,10 +1,12 @@
 // What has been read of a module so far, and what it says.
+#![tactic(auto, using(crate::proofs::Signed::signed_held), unfolding(crate::specs::Sensed::word_on, hardware::specs::Prog::pick, crate::specs::Sensed::pattern_on, crate::specs::Sensed::patterns_on, crate::specs::Sensed::taken, crate::specs::Sensed::measures_of, crate::specs::Sensed::reading_of, crate::specs::Sensed::measured_of, crate::specs::Sensed::calibrated_of, crate::specs::Power::powered_of, crate::specs::Sensed::measured, crate::specs::Words::signed))]
+
 ghost use Rattle.std.specs.Prelude.{◌≡◌};
 ghost use Rattle.hardware.specs.Prog.{pick};
 ghost use Rattle.light.specs.Power.{powered_of};
 ghost use Rattle.light.specs.Sensed.{word_on, pattern_on, patterns_on, taken, measures_of, reading_of, calibrated_of, measured, measured_of, measured_number};
 
-use crate::power::{Patterns, Powered, Reading};
+use crate::power::{Patterns, PowerError, Powered, Reading};
 use hardware::Error;
 
 // kind: byte 92 of A0. The words: bytes 96 to 105 of A2, as far as they are read. patterns: its bytes 56 to 75.
@@ -29,14 +31,14 @@ pub struct Measures {
     pub reading: Reading,
 }
 
-// The end of a call. Coefficient, Result: every byte was read, and that is not finite.
+// Why there are no measures. Power: every byte was read, and the power cannot be worked out.
 #[derive(Clone, Copy)]
-pub enum Measured {
-    Ok(Measures),
-    Coefficient,
-    Result,
-    Err(Error),
+pub enum LightError {
+    Power(PowerError),
+    Bus(Error),
 }
+
+pub type Measured = Result<Measures, LightError>;
 
 // Before the first byte.
 pub const FRESH: Sensed = Sensed {
@@ -67,15 +69,14 @@ pub fn measured_number(r: Measured) -> u8
     ensures { result ≡ measured_number r }
 {
     match r {
-        Measured::Ok(_) => 0,
-        Measured::Coefficient => 28,
-        Measured::Result => 29,
-        Measured::Err(e) => hardware::error_number(e),
+        Ok(_) => 0,
+        Err(LightError::Power(PowerError::Coefficient)) => 28,
+        Err(LightError::Power(PowerError::Power)) => 29,
+        Err(LightError::Bus(e)) => hardware::error_number(e),
     }
 }
 
 // A word with a byte behind its low one, where the byte is this word's.
-#[tactic(auto, unfolding(crate::specs::Sensed::word_on, hardware::specs::Prog::pick))]
 fn word_on(here: bool, word: u16, byte: u8) -> u16
     ensures { result ≡ word_on here word byte }
 {
@@ -86,7 +87,6 @@ fn word_on(here: bool, word: u16, byte: u8) -> u16
 }
 
 // A pattern with a byte behind its low three.
-#[tactic(auto, unfolding(crate::specs::Sensed::pattern_on, hardware::specs::Prog::pick))]
 fn pattern_on(here: bool, pattern: u32, byte: u8) -> u32
     ensures { result ≡ pattern_on here pattern byte }
 {
@@ -96,7 +96,6 @@ fn pattern_on(here: bool, pattern: u32, byte: u8) -> u32
     pattern
 }
 
-#[tactic(auto, unfolding(crate::specs::Sensed::patterns_on))]
 fn patterns_on(p: Patterns, left: u8, byte: u8) -> Patterns
     ensures { result ≡ patterns_on p left byte }
 {
@@ -109,7 +108,6 @@ fn patterns_on(p: Patterns, left: u8, byte: u8) -> Patterns
     }
 }
 
-#[tactic(auto, unfolding(hardware::specs::Prog::pick))]
 fn kind_on(here: bool, kind: u8, byte: u8) -> u8
     ensures { result ≡ pick here byte kind }
 {
@@ -120,7 +118,6 @@ fn kind_on(here: bool, kind: u8, byte: u8) -> u8
 }
 
 // The byte with so many after it has been read.
-#[tactic(auto, unfolding(crate::specs::Sensed::taken))]
 pub fn take(s: Sensed, left: u8, byte: u8) -> Sensed
     ensures { result ≡ taken s left byte }
 {
@@ -137,7 +134,6 @@ pub fn take(s: Sensed, left: u8, byte: u8) -> Sensed
 }
 
 // The four values beside a reading.
-#[tactic(auto, using(crate::proofs::Signed::signed_held), unfolding(crate::specs::Sensed::measures_of))]
 fn values(s: Sensed, reading: Reading) -> Measures
     ensures { result ≡ measures_of s reading }
 {
@@ -151,7 +147,6 @@ fn values(s: Sensed, reading: Reading) -> Measures
 }
 
 // Without an external calibration.
-#[tactic(auto, unfolding(crate::specs::Sensed::reading_of, hardware::specs::Prog::pick))]
 fn uncalibrated(kind: u8, received: u16) -> Reading
     ensures { result ≡ reading_of kind received }
 {
@@ -162,28 +157,25 @@ fn uncalibrated(kind: u8, received: u16) -> Reading
 }
 
 // With one.
-#[tactic(auto, unfolding(crate::specs::Sensed::measured_of, crate::specs::Sensed::calibrated_of, crate::specs::Power::powered_of))]
 fn calibrated(s: Sensed, p: Powered) -> Measured
     ensures { measured_of result ≡ calibrated_of (measures_of s) (powered_of p) }
 {
     match p {
-        Powered::Ok(x) => Measured::Ok(values(s, Reading::Calibrated(x))),
-        Powered::Coefficient => Measured::Coefficient,
-        Powered::Result => Measured::Result,
+        Ok(x) => Ok(values(s, Reading::Calibrated(x))),
+        Err(e) => Err(LightError::Power(e)),
     }
 }
 
 // What the bytes say, once all are read that byte 92 asks for.
-#[tactic(auto, unfolding(crate::specs::Sensed::measured, crate::specs::Sensed::measured_of, crate::specs::Sensed::measures_of, crate::specs::Words::signed, hardware::specs::Prog::pick))]
 pub fn judge(s: Sensed) -> Measured
     ensures { measured_of result ≡ measured s }
 {
     if sfp::class::none_of(s.kind, MONITORED) {
-        return Measured::Ok(values(FRESH, Reading::Absent));
+        return Ok(values(FRESH, Reading::Absent));
     }
     if sfp::class::has(s.kind, EXTERNAL) {
         let p = s.patterns;
         return calibrated(s, crate::power::power(p, s.received));
     }
-    Measured::Ok(values(s, uncalibrated(s.kind, s.received)))
+    Ok(values(s, uncalibrated(s.kind, s.received)))
 }

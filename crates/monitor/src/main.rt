@@ -3,71 +3,44 @@
 #![tactic(auto)]
 
 mod decimals;
-mod faults;
 mod power;
-mod print;
 mod readings;
 mod record;
 
-use image::files::Size;
+use image::words;
 use std::io;
 use std::rt::{Env, Files};
 
-// Whether the word names an image; if not, standard error says so.
-fn whole<R: Env + Files + Eprint>(rt: &R, place: usize) -> io::Result<bool> {
-    let mut path = [0u8; image::words::LONGEST];
-    let Ok(n) = rt.arg(place, &mut path) else {
-        faults::long(rt, place)?;
-        return Ok(false);
-    };
-    let image = image::files::read(rt, &path[..n]);
-    let size = image.size;
-    if let Size::Whole = size {
-        return Ok(true);
-    }
-    image::faults::image(rt, place, &path[..n], size)?;
-    Ok(false)
-}
-
-fn all_whole<R: Env + Files + Eprint>(rt: &R, count: usize) -> io::Result<bool> {
+// Whether each word names an image; standard error says what the first does not name.
+fn readable<R: Env + Files + Eprint>(rt: &R, count: usize) -> io::Result<bool> {
     for place in 1..count {
-        if !whole(rt, place)? {
+        if words::image(rt, place, &mut [0; words::LONGEST])?.is_none() {
             return Ok(false);
         }
     }
     Ok(true)
 }
 
-// The file may have changed since it was opened first, or be one that can be read only once.
-fn one<R: Env + Files + Print + Eprint>(rt: &R, place: usize) -> io::Result<()> {
-    let mut path = [0u8; image::words::LONGEST];
-    let Ok(n) = rt.arg(place, &mut path) else {
-        return faults::long(rt, place);
-    };
-    let image = image::files::read(rt, &path[..n]);
-    let size = image.size;
-    if let Size::Whole = size {
-        let a0 = image.a0;
-        let a2 = image.a2;
-        let kind = a0[92];
-        record::image(rt, place, &path[..n], kind)?;
-        return record::end(rt, kind, readings::read(a0, a2));
-    }
-    image::faults::image(rt, place, &path[..n], size)
-}
-
+// A file may have changed since it was opened first, or be one that can be read only once.
 fn all<R: Env + Files + Print + Eprint>(rt: &R, count: usize) -> io::Result<()> {
     for place in 1..count {
-        one(rt, place)?;
+        let mut buffer = [0; words::LONGEST];
+        if let Some((path, image)) = words::image(rt, place, &mut buffer)? {
+            // An empty line before each but the first.
+            if 1 < place {
+                println!(rt)?;
+            }
+            record::all(rt, path, image)?;
+        }
     }
     Ok(())
 }
 
 fn main(rt: HostRuntime) -> io::Result<()> {
-    let count = image::words::count(&rt);
+    let count = words::count(&rt);
     if count < 2 {
-        faults::no_image(&rt)?;
-    } else if all_whole(&rt, count)? {
+        eprintln!(rt; "no word names an image: the words are IMAGE...")?;
+    } else if readable(&rt, count)? {
         all(&rt, count)?;
     }
     Ok(())

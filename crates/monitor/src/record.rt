@@ -1,94 +1,99 @@
 // What a module says, a value to a line.
-use crate::readings::LightEnd;
-use crate::{decimals, power, print};
-use light::power::Reading;
-use light::sensed::{Measured, Measures};
-use std::io;
+use crate::decimals::{Parts, TenThousandths};
+use crate::power::{Calibrated, Counted};
+use crate::readings;
+use crate::readings::End;
+use image::files::Image;
+use light::power::{PowerError, Reading};
+use light::sensed::{EXTERNAL, INTERNAL, LightError, MONITORED, Measured, Measures};
+use sfp::class::has;
+use std::fmt::{Display, Formatter};
+use std::{fmt, io};
 
 // Byte 92 of A0 says whether there is monitoring, and with which calibration.
-fn monitored(kind: u8) -> bool {
-    sfp::class::has(kind, light::sensed::MONITORED)
-}
+#[derive(Clone, Copy)]
+struct Calibration(u8);
 
-fn calibration(rt: &impl Print, kind: u8) -> io::Result<()> {
-    print::text(rt, "calibration         ")?;
-    if !monitored(kind) {
-        print::text(rt, "none: the module has no monitoring\n")
-    } else if sfp::class::has(kind, light::sensed::EXTERNAL) {
-        print::text(
-            rt,
-            "external: receiver power by its coefficients, the rest raw\n",
-        )
-    } else if sfp::class::has(kind, light::sensed::INTERNAL) {
-        print::text(rt, "internal\n")
-    } else {
-        print::text(rt, "none: the values are raw\n")
+impl Display for Calibration {
+    fn fmt<W: fmt::Write>(&self, f: &mut Formatter<W>) -> fmt::Result {
+        f.write_str(if !has(self.0, MONITORED) {
+            "none: the module has no monitoring"
+        } else if has(self.0, EXTERNAL) {
+            "external: receiver power by its coefficients, the rest raw"
+        } else if has(self.0, INTERNAL) {
+            "internal"
+        } else {
+            "none: the values are raw"
+        })
     }
 }
 
-// An empty line before each but the first.
-pub(crate) fn image(rt: &impl Print, place: usize, path: &[u8], kind: u8) -> io::Result<()> {
-    if 1 < place {
-        print::text(rt, "\n")?;
-    }
-    println!(rt; "image               {}", image::print::shown(path))?;
-    calibration(rt, kind)
-}
+#[derive(Clone, Copy)]
+struct Received(Reading);
 
-fn received(rt: &impl Print, r: Reading) -> io::Result<()> {
-    print::text(rt, "receiver power      ")?;
-    match r {
-        Reading::Internal(n) => power::counted(rt, n),
-        Reading::Calibrated(x) => power::calibrated(rt, x),
-        Reading::Absent => print::text(rt, "absent\n"),
+impl Display for Received {
+    fn fmt<W: fmt::Write>(&self, f: &mut Formatter<W>) -> fmt::Result {
+        match self.0 {
+            Reading::Internal(n) => write!(f, "{}", Counted(n)),
+            Reading::Calibrated(x) => write!(f, "{}", Calibrated(x)),
+            Reading::Absent => write!(f, "absent"),
+        }
     }
 }
 
 fn measures(rt: &impl Print, m: Measures) -> io::Result<()> {
-    print::text(rt, "module temperature  ")?;
-    decimals::signed_parts(rt, m.temperature)?;
-    print::text(rt, " degrees C\nmodule voltage      ")?;
-    decimals::ten_thousandths(rt, m.voltage as u64)?;
-    print::text(rt, " V\nlaser bias current  ")?;
-    decimals::thousandths(rt, m.bias as u64 * 2)?;
-    print::text(rt, " mA\nlaser output power  ")?;
-    power::counted(rt, m.sent)?;
-    let r = m.reading;
-    received(rt, r)
+    println!(rt; "module temperature  {} degrees C", Parts(m.temperature))?;
+    println!(rt;
+        "module voltage      {} V",
+        TenThousandths(u64::from(m.voltage))
+    )?;
+    // In steps of 2 uA.
+    let bias = u32::from(m.bias) * 2;
+    println!(rt; "laser bias current  {}.{:03} mA", bias / 1000, bias % 1000)?;
+    println!(rt; "laser output power  {}", Counted(m.sent))?;
+    println!(rt; "receiver power      {}", Received(m.reading))
+}
+
+fn failed(rt: &impl Print, end: Measured, why: &str) -> io::Result<()> {
+    println!(rt;
+        "failed              {}{why}",
+        light::sensed::measured_number(end)
+    )
 }
 
 // Without monitoring nothing was measured.
-fn measured(rt: &impl Print, m: Measures, kind: u8) -> io::Result<()> {
-    if monitored(kind) {
-        measures(rt, m)?;
-    }
-    Ok(())
-}
-
-fn failed(rt: &impl Print, r: Measured, why: &str) -> io::Result<()> {
-    print::text(rt, "failed              ")?;
-    print::decimal(rt, light::sensed::measured_number(r) as u64)?;
-    print::text(rt, why)
-}
-
-fn over(rt: &impl Print, kind: u8, r: Measured, made: u32) -> io::Result<()> {
-    match r {
-        Measured::Ok(m) => measured(rt, m, kind)?,
-        Measured::Coefficient => failed(
+fn ended(rt: &impl Print, kind: u8, end: End) -> io::Result<()> {
+    let measured = end.measured;
+    match measured {
+        Ok(m) => {
+            if has(kind, MONITORED) {
+                measures(rt, m)?;
+            }
+        }
+        Err(LightError::Power(PowerError::Coefficient)) => {
+            failed(
+                rt,
+                measured,
+                ": a coefficient of the receiver power is not finite",
+            )?;
+        }
+        Err(LightError::Power(PowerError::Power)) => failed(
             rt,
-            r,
-            ": a coefficient of the receiver power is not finite\n",
+            measured,
+            ": the receiver power is not finite",
         )?,
-        Measured::Result => failed(rt, r, ": the receiver power is not finite\n")?,
-        Measured::Err(_) => failed(rt, r, "\n")?,
+        Err(LightError::Bus(_)) => failed(rt, measured, "")?,
     }
-    println!(rt; "transfers           {made}")
+    println!(rt; "transfers           {}", end.transfers)
 }
 
-// Only the first is met: every lock and grant comes, and the port is one that opens.
-pub(crate) fn end(rt: &impl Print, kind: u8, e: LightEnd) -> io::Result<()> {
-    match e {
-        LightEnd::Over(r, made) => over(rt, kind, r, made),
-        LightEnd::Unended => print::text(rt, "the call did not end\n"),
+pub(crate) fn all(rt: &impl Print, path: &[u8], image: Image) -> io::Result<()> {
+    let kind = image.a0[92];
+    println!(rt; "image               {}", image::print::shown(path))?;
+    println!(rt; "calibration         {}", Calibration(kind))?;
+    match readings::read(image) {
+        Some(end) => ended(rt, kind, end),
+        // Not met: every lock and grant comes, and the port is one that opens.
+        None => println!(rt; "the call did not end"),
     }
 }

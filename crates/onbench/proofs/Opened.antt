@@ -19,11 +19,11 @@ use Rattle.wire.specs.Machine.{At}
 use Rattle.sfp.specs.declared.Identity.{Identity}
 use Rattle.sfp.specs.Identify.{identify}
 use Rattle.sfp.specs.Steps.{IDENTIFY_STEPS}
-use Rattle.identify.specs.declared.calls.IdentifyTold.{IdentifyTold}
 use Rattle.identify.specs.Calls.{open_identify, said_identify}
 use Rattle.demand.specs.Claim.{Start, Starts, Premises}
 use Rattle.demand.specs.Library.{identify_run, Demand3, Demand3ByDefault}
 use Rattle.demand.proofs.Library.{demand_3_ended, demand_3, by_default_lem}
+use Rattle.identify.specs.Aliases.{IdentifyTold}
 
 module _ (q : Sequence) (family device lan : ℕ) (t : IdentifyTold) (promised : said_identify t ≡ open_identify q family device lan)
     (port : Port) (opened : yes port ≡ open_port family device lan) (b : Bench) (start : Start) (answers : List Answer) where

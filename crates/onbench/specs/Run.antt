@@ -1,5 +1,5 @@
 -- The whole call of `identify` on the bench: answers as numbers, how a run ends, and what is left of it on the way.
-use Rattle.std.specs.Prelude.{ℕ, suc, ◌≡◌, true, false, List, [], ◌∷◌, eqb, ltb, drop}
+use Rattle.std.specs.Prelude.{ℕ, suc, ◌≡◌, true, false, List, [], ◌∷◌, eqb, ltb, drop, Ok, Err, Some, None, Option}
 use Rattle.hardware.specs.declared.Answer.{Answer}
 use Rattle.hardware.specs.declared.Answer.TheVariants.{Value, Done, Failed}
 use Rattle.hardware.specs.Asked.{Asked, no, yes}
@@ -14,18 +14,16 @@ use Rattle.bench.specs.AtOnce.{at_once}
 use Rattle.bench.specs.Register.{Caged, side, world}
 use Rattle.bench.specs.Mux.{has_mux}
 use Rattle.sfp.specs.declared.Identity.{Identity}
-use Rattle.identify.specs.declared.calls.IdentifyTold.{IdentifyTold}
-use Rattle.identify.specs.declared.calls.IdentifyTold.TheVariants.{Ask, End, Refused}
-use Rattle.identify.specs.Walk.{found_of}
 use Rattle.identify.specs.Calls.{said_identify, stands_identify}
 use Rattle.onbench.specs.declared.Ending.{Ending}
 use Rattle.onbench.specs.declared.Ending.TheVariants.{Ended, Short, Stopped}
-use Rattle.onbench.specs.declared.Next.{Next}
-use Rattle.onbench.specs.declared.Next.TheVariants.{Given, Nothing}
 use Rattle.onbench.specs.declared.Origin.{Origin}
 use Rattle.onbench.specs.declared.Origin.TheVariants.{Lent, AtOnce}
 use Rattle.onbench.specs.declared.Progress.{Progress}
 use Rattle.onbench.specs.declared.Run.{Run}
+use Rattle.hardware.specs.Registers.{reply}
+use Rattle.identify.specs.Aliases.{IdentifyTold}
+use Rattle.hardware.specs.declared.Told.TheVariants.{Ask, End}
 
 -- below 2^32 a value, 2^32 done, above it a failure
 unfoldable pub decoded : ℕ → Answer
@@ -40,15 +38,15 @@ source_of Lent = listed
 source_of AtOnce = fixed at_once
 
 -- ns: the numbers lent
-unfoldable pub next_of : List ℕ → Next → Gives
-next_of ns (Given a used) = given a (decoded_all (drop used ns))
-next_of ns Nothing = nothing
+unfoldable pub next_of : List ℕ → (Option (Answer × ℕ)) → Gives
+next_of ns (Some (a, used)) = given a (decoded_all (drop used ns))
+next_of ns None = nothing
 
 abbrev pub IdentifyOutcome : Type 0
 IdentifyOutcome = BenchOutcome (At Caged) (Counted (R Identity))
 
 unfoldable pub ending_of : Ending → At Caged → IdentifyOutcome
-ending_of (Ended f m) w = ended (record { meter = m; result = found_of f }) w
+ending_of (Ended f m) w = ended (record { meter = m; result = reply f }) w
 ending_of Short w = short w
 ending_of (Stopped q) w = stopped (refusal_number q) w
 
@@ -66,9 +64,9 @@ Bounded (yes p) n = Ends p n
 
 -- what a run comes to that stops here
 unfoldable pub stops_at : IdentifyTold → At Caged → IdentifyOutcome
-stops_at (Ask x c) w = short w
-stops_at (End f m) w = ended (record { meter = m; result = found_of f }) w
-stops_at (Refused q) w = stopped (refusal_number q) w
+stops_at (Ok (Ask x c)) w = short w
+stops_at (Ok (End (f, m))) w = ended (record { meter = m; result = reply f }) w
+stops_at (Err q) w = stopped (refusal_number q) w
 
 -- nothing more is done; left: what is left of the run on the way
 unfoldable pub Final : (Progress → IdentifyOutcome) → Progress → Type 0

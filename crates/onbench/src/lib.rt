@@ -2,7 +2,7 @@
 // lent, or fixed ones with which every lock and grant comes at once.
 #![tactic(auto)]
 
-ghost use Rattle.std.specs.Prelude.{ℕ, ◌<◌, ◌≤◌, ◌≡◌, true, false, [], ◌⊎◌, length, get_or, drop};
+ghost use Rattle.std.specs.Prelude.{ℕ, ◌<◌, ◌≤◌, ◌≡◌, true, false, [], ◌⊎◌, length, get_or, drop, Ok};
 ghost use Rattle.hardware.specs.Asked.{yes, open_port};
 ghost use Rattle.wire.specs.Run.{listed, fixed, Finished};
 ghost use Rattle.bench.specs.AtOnce.{at_once};
@@ -12,17 +12,19 @@ ghost use Rattle.identify.specs.Calls.{said_identify, stands_identify};
 ghost use Rattle.demand.specs.Claim.{Allowed, Premises};
 ghost use Rattle.demand.specs.Library.{start_of, identify_run, Demand3, Demand3AtOnce};
 ghost use Rattle.onbench.specs.Run.{decoded, decoded_all, source_of, next_of, outcome_of, left_of, stops_at, Advances, Bounded};
+ghost use Rattle.hardware.specs.declared.Told.TheVariants.{Ask};
 
 use bench::register::BenchState;
-use hardware::{Access, Answer, Meter, Opening, Port, Refusal};
+use hardware::{Access, Answer, Meter, Port, R, Refusal, Told};
 use identify::calls::{IdentifyCall, IdentifyTold};
-use identify::walk::Identified;
+use sfp::Identity;
 use transfer::attempt::Sequence;
 
-// How a run ended: with the call's result and the meter, for want of answers, or by a refusal.
+// How a run ended: with the call's result and the meter, for want of answers, or by a refusal; the claim tells the three apart
+// (`ending_of`).
 #[derive(Clone, Copy)]
 pub enum Ending {
-    Ended(Identified, Meter),
+    Ended(R<Identity>, Meter),
     Short,
     Stopped(Refusal),
 }
@@ -42,14 +44,7 @@ pub enum Origin {
     AtOnce,
 }
 
-// An answer and how many of the lent ones are then used, or none is left.
-#[derive(Clone, Copy)]
-pub enum Next {
-    Given(Answer, usize),
-    Nothing,
-}
-
-// used: so many of the answers lent. over: there is nothing more to do.
+// used: so many of the answers lent. over: there is nothing more to do; what was told stays, since the claim reads it (`left_of`).
 #[derive(Clone, Copy)]
 pub struct Progress {
     pub told: IdentifyTold,
@@ -76,17 +71,17 @@ pub fn decode(n: u64) -> Answer
 }
 
 #[tactic(auto, using(crate::proofs::Laws::next_lent, crate::proofs::Laws::next_none), unfolding(crate::specs::Run::source_of, crate::specs::Run::next_of, wire::specs::Run::fixed))]
-fn next_answer(origin: Origin, x: Access, used: usize, answers: &[u64]) -> Next
+fn next_answer(origin: Origin, x: Access, used: usize, answers: &[u64]) -> Option<(Answer, usize)>
     ensures { next_of answers.now result ≡ source_of origin x (decoded_all (drop used answers.now)) }
 {
     match origin {
         Origin::Lent => {
             if used < answers.len() {
-                return Next::Given(decode(answers[used]), used + 1);
+                return Some((decode(answers[used]), used + 1));
             }
-            Next::Nothing
+            None
         }
-        Origin::AtOnce => Next::Given(bench::at_once::at_once(x), used),
+        Origin::AtOnce => Some((bench::at_once::at_once(x), used)),
     }
 }
 
@@ -101,28 +96,26 @@ fn visit(
     used: usize,
     answers: &[u64],
 ) -> Progress
-    ensures { Advances (left_of port origin answers.now) (record { told = IdentifyTold.Ask x c; state = d; used = used; over = false }) result }
+    ensures { Advances (left_of port origin answers.now) (record { told = Ok (Ask x c); state = d; used = used; over = false }) result }
 {
     let r = bench::register::access(port, d, x);
-    let after = r.state;
-    let answer = r.answer;
-    if r.here {
+    if let Some(a) = r.answer {
         return Progress {
-            told: identify::calls::identify_step(c, answer),
-            state: after,
+            told: identify::calls::identify_step(c, a),
+            state: r.state,
             used,
             over: false,
         };
     }
     match next_answer(origin, x, used, answers) {
-        Next::Given(a, then) => Progress {
+        Some((a, then)) => Progress {
             told: identify::calls::identify_step(c, a),
             state: d,
             used: then,
             over: false,
         },
-        Next::Nothing => Progress {
-            told: IdentifyTold::Ask(x, c),
+        None => Progress {
+            told: Ok(Told::Ask(x, c)),
             state: d,
             used,
             over: true,
@@ -138,15 +131,15 @@ fn one(port: Port, origin: Origin, s: Progress, answers: &[u64]) -> Progress
     let d = s.state;
     let used = s.used;
     match told {
-        IdentifyTold::Ask(x, c) => visit(port, origin, x, c, d, used, answers),
-        IdentifyTold::End(f, m) => Progress {
-            told: IdentifyTold::End(f, m),
+        Ok(Told::Ask(x, c)) => visit(port, origin, x, c, d, used, answers),
+        Ok(Told::End((f, m))) => Progress {
+            told: Ok(Told::End((f, m))),
             state: d,
             used,
             over: true,
         },
-        IdentifyTold::Refused(q) => Progress {
-            told: IdentifyTold::Refused(q),
+        Err(q) => Progress {
+            told: Err(q),
             state: d,
             used,
             over: true,
@@ -161,15 +154,15 @@ fn finish(s: Progress) -> Run
     let told = s.told;
     let d = s.state;
     match told {
-        IdentifyTold::Ask(_, _) => Run {
+        Ok(Told::Ask(_, _)) => Run {
             ending: Ending::Short,
             state: d,
         },
-        IdentifyTold::End(f, m) => Run {
+        Ok(Told::End((f, m))) => Run {
             ending: Ending::Ended(f, m),
             state: d,
         },
-        IdentifyTold::Refused(q) => Run {
+        Err(q) => Run {
             ending: Ending::Stopped(q),
             state: d,
         },
@@ -186,13 +179,11 @@ fn play(port: Port, origin: Origin, told: IdentifyTold, d: BenchState, answers: 
         used: 0,
         over: false,
     };
-    let mut left = MOST_ACCESSES;
-    while 0 < left {
+    for _ in 0..MOST_ACCESSES {
         if s.over {
             return finish(s);
         }
         s = one(port, origin, s, answers);
-        left -= 1;
     }
     finish(s)
 }
@@ -211,11 +202,11 @@ fn from_opening(
     ensures { outcome_of result ≡ identify_run sequence (source_of origin) (open_port family device lan) (world d) (decoded_all answers.now) }
 {
     match hardware::open_port(family, device, lan) {
-        Opening::Port(p) => {
+        Ok(p) => {
             let told = identify::calls::identify_open_with(family, device, lan, sequence);
             play(p, origin, told, d, answers)
         }
-        Opening::Refused(q) => Run {
+        Err(q) => Run {
             ending: Ending::Stopped(q),
             state: d,
         },

@@ -21,10 +21,7 @@ use Rattle.hardware.proofs.Prog.{bind_ret, going_on, over}
 use Rattle.bus.specs.declared.Taken.{Taken}
 use Rattle.bus.proofs.Laws.{picked_second}
 use Rattle.transfer.specs.declared.attempt.Sequence.{Sequence}
-use Rattle.transfer.specs.declared.attempt.Got.{Got}
-use Rattle.transfer.specs.Attempt.{got}
 use Rattle.i2c.specs.declared.handshake.Handshake.{Handshake}
-use Rattle.i2c.specs.declared.handshake.HandshakeNext.TheVariants.{Going, End}
 use Rattle.i2c.specs.I2c.{handshaken, is_write, locked, retried, transferred, value_of}
 use Rattle.i2c.specs.Handshake.{handshake_next, rest_handshake, rest_request, valued}
 use Rattle.i2c.specs.Retry.{wanted}
@@ -33,11 +30,15 @@ use Rattle.i2c.proofs.Request.{request_begun, request_over}
 use Rattle.sfp.specs.Sum.{sum_of}
 use Rattle.page.specs.declared.walk.Form.{Form}
 use Rattle.page.specs.declared.walk.Page.{Page}
-use Rattle.page.specs.declared.calls.PageTold.{PageTold}
-use Rattle.page.specs.declared.calls.PageTold.TheVariants.{Ask, End as Ended, Refused}
 use Rattle.page.specs.Page.{LAST, page_from, place_of, request_at, sum_right}
 use Rattle.page.specs.Walk.{access_page, cap_at, filling, filled_at, filled_from, stored, valid_page}
 use Rattle.page.specs.Calls.{FilledAs}
+use Rattle.hardware.specs.Registers.{reply}
+use Rattle.page.specs.Aliases.{PageTold}
+use Rattle.hardware.specs.declared.Next.TheVariants.{Going, End}
+use Rattle.hardware.specs.declared.Told.TheVariants.{Ask, End as Ends}
+use Rattle.std.specs.Prelude.{Result}
+use Rattle.hardware.specs.declared.Error.{Error}
 
 -- at most 96 bytes with 255 attempts each
 pub cap_few : (tries left : ℕ) → tries ≤ 255 → cap_at tries left ≤ 24480
@@ -161,30 +162,30 @@ module _ (q : Sequence) (port : Port) (form : Form) (tries left : ℕ) (b : List
   begins = filling_erase _ _ b _ l ∙ ap filled (bind_ret _)
 
   pub filled_begun : (k : Marks) (s : Handshake)
-      → handshake_next port (request_at form left) (locked q) (Going k s) ≡ erase (handshaken port (request_at form left) (retried port (request_at form left) (locked q) tries))
+      → handshake_next port (request_at form left) (locked q) (Going (k, s)) ≡ erase (handshaken port (request_at form left) (retried port (request_at form left) (locked q) tries))
       → filled_at q port form tries (record { left = left; request = s }) b l ≡ filled_from q port form tries (suc left) b l
   unfolding filled_at access_page
   filled_begun k s h =
       sym (filling_asks _ _ b k _ _ l) ∙ ap filled (request_begun port (request_at form left) (locked q) tries ret k s h) ∙ begins
 
-  pub filled_over : (g : Got)
+  pub filled_over : (g : (Result Taken Error))
       → handshake_next port (request_at form left) (locked q) (End g) ≡ erase (handshaken port (request_at form left) (retried port (request_at form left) (locked q) tries))
-      → filled (ret (value_of (request_at form left) (got g))) ≡ filled_from q port form tries (suc left) b l
+      → filled (ret (value_of (request_at form left) (reply g))) ≡ filled_from q port form tries (suc left) b l
   unfolding valued erase
   filled_over g h = ap filled (request_over port (request_at form left) (locked q) tries ret g h) ∙ begins
 
   pub filled_going : (k : Marks) (s : Handshake)
       → filled_at q port form tries (record { left = left; request = s }) b l
-      ≡ filled (followed (handshake_next port (request_at form left) (locked q) (Going k s)) (valued (request_at form left) ret))
+      ≡ filled (followed (handshake_next port (request_at form left) (locked q) (Going (k, s))) (valued (request_at form left) ret))
   unfolding filled_at access_page rest_request handshake_next
   filled_going k s = sym (filling_asks _ _ b k _ _ l) ∙ ap filled (going_on k _ _ (valued (request_at form left) ret))
 
 -- the same buffers after further answers, said otherwise
 pub filled_as : (t : PageTold) (b : List ℕ) (f g : List Answer → List ℕ) → ((l : List Answer) → f l ≡ g l) → FilledAs t b f → FilledAs t b g
 unfolding FilledAs
-filled_as (Ask x s) b f g e h = λ l. h l ∙ e l
-filled_as (Ended p m) b f g e h = λ l. h l ∙ e l
-filled_as (Refused q) b f g e h = tt
+filled_as (Ok (Ask x s)) b f g e h = λ l. h l ∙ e l
+filled_as (Ok (Ends (p, m))) b f g e h = λ l. h l ∙ e l
+filled_as (Err q) b f g e h = tt
 
 -- an opening has one port
 pub filled_port : (t : PageTold) (q : Sequence) (p port : Port) (form : Form) (tries : ℕ) (b : List ℕ) (o : Asked Port) → yes p ≡ o → o ≡ yes port

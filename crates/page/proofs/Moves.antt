@@ -4,6 +4,7 @@ use mathlib.Core.Path.{◌≡◌, ap, sym, ◌∙◌}
 use mathlib.Core.Bool.{true}
 use mathlib.Core.List.{List, ◌∷◌}
 use lib.Dec.{ltb}
+use Rattle.hardware.specs.declared.Next.TheVariants.{Going as Goes}
 use Rattle.hardware.specs.declared.Access.{Access}
 use Rattle.hardware.specs.declared.Answer.{Answer}
 use Rattle.hardware.specs.declared.Meter.{Meter}
@@ -14,34 +15,32 @@ use Rattle.hardware.specs.Prog.{erase}
 use Rattle.bus.proofs.Laws.{picked}
 use Rattle.transfer.specs.declared.attempt.Sequence.{Sequence}
 use Rattle.i2c.specs.declared.handshake.Handshake.{Handshake}
-use Rattle.i2c.specs.declared.handshake.HandshakeNext.TheVariants.{Going as RequestGoing}
 use Rattle.i2c.specs.I2c.{locked}
 use Rattle.i2c.specs.Handshake.{handshake_next, rest_handshake, rest_request}
 use Rattle.i2c.specs.Direct.{RequestMoves}
 use Rattle.i2c.proofs.Moves.{admitted, request_on}
 use Rattle.page.specs.declared.walk.Form.{Form}
-use Rattle.page.specs.declared.calls.PageCall.{PageCall}
-use Rattle.page.specs.declared.calls.PageCall.TheVariants.{Going}
-use Rattle.page.specs.declared.calls.PageTold.{PageTold}
-use Rattle.page.specs.declared.calls.PageTold.TheVariants.{Ask}
 use Rattle.page.specs.Page.{place_of, request_at}
 use Rattle.page.specs.Walk.{Fills, access_page, buffer_page, cap_at, filled_at, filled_from, filling, rest_page, stored, valid_page}
 use Rattle.page.specs.Calls.{FilledAs, buffer_stepped, filled_call, kept, said_page, stands_page, stepped_page, valid_call}
 use Rattle.page.proofs.Laws.{filled_going, filling_on, stored_erase}
+use Rattle.page.specs.Aliases.{PageTold, PageCall}
+use Rattle.hardware.specs.declared.Told.TheVariants.{Ask}
+use Rattle.std.specs.Prelude.{Ok, Some}
 
 module _ (port : Port) (q : Sequence) (form : Form) (tries : ℕ) (m : Meter) (left : ℕ) (h g : Handshake) (a : Answer) (x : Access) (buffer : List ℕ) where
   -- the call before the answer, and what is told after it
   abbrev before : PageCall
-  before = Going port q form tries m (record { left = left; request = h })
+  before = Some (port, q, form, tries, m, (record { left = left; request = h }))
 
   abbrev after : PageTold
-  after = Ask x (Going port q form tries m (record { left = left; request = g }))
+  after = Ok (Ask x (Some (port, q, form, tries, m, (record { left = left; request = g }))))
 
   abbrev moves : Type 0
   moves = RequestMoves port (request_at form left) tries (cap_at tries left) m h a x g
 
   -- the request that goes on, with nothing noted before its access
-  request_next_lem : moves → handshake_next port (request_at form left) (locked q) (RequestGoing unmarked g) ≡ erase (rest_handshake port (request_at form left) (locked q) h a)
+  request_next_lem : moves → handshake_next port (request_at form left) (locked q) (Goes (unmarked, g)) ≡ erase (rest_handshake port (request_at form left) (locked q) h a)
   unfolding handshake_next marked acknowledged
   request_next_lem d = rw d.access at (d.yields (locked q))
 

@@ -36,16 +36,15 @@ use Rattle.sfp.proofs.Spreads.{Keeping, pairs_spreads, shows_spreads}
 use Rattle.page.specs.declared.walk.Form.{Form}
 use Rattle.page.specs.declared.walk.Form.TheVariants.{Sff8472, Sff8636}
 use Rattle.page.specs.declared.walk.Page.{Page}
-use Rattle.page.specs.declared.calls.PageCall.{PageCall}
-use Rattle.page.specs.declared.calls.PageCall.TheVariants.{Going, Over}
-use Rattle.page.specs.declared.calls.PageTold.{PageTold}
-use Rattle.page.specs.declared.calls.PageTold.TheVariants.{Ask, End, Refused}
 use Rattle.page.specs.Page.{Filled, place_of, byte_seen, page_from, page}
 use Rattle.page.specs.Walk.{rest_page, stored, buffer_page}
 use Rattle.page.specs.Calls.{buffer_fits, open_form, open_page, open_qsfp_page, stepped_page, step_page, kept, buffer_stepped, buffer_after, said_page, stands_page, PageAt, said_at, follows_buffer, follows_page}
 use Rattle.page.specs.Runs.{form_run, page_left, FollowsLent}
 use Rattle.page.proofs.Ends.{PAGE_STEPS, page_ends, page_after, page_rest_ends}
 use Rattle.page.proofs.Spreads.{page_holds}
+use Rattle.page.specs.Aliases.{PageTold, PageCall}
+use Rattle.hardware.specs.declared.Told.TheVariants.{Ask, End}
+use Rattle.std.specs.Prelude.{Some, None}
 
 -- a long enough list of answers of the awaited kinds brings the call to its end
 pub page_finishes : (q : Sequence) (port : Port) (form : Form) (tries : ℕ) (buffer : List ℕ) (l : List Answer) → PAGE_STEPS port.family tries ≤ length l
@@ -54,8 +53,8 @@ page_finishes q port form tries buffer l h w = run_ends (page q port form tries 
 
 -- a state that was handed out, with a buffer that fits and any answer of the kind that its access awaits, is not refused
 pub page_accepts : (x : Access) (port : Port) (q : Sequence) (form : Form) (tries : ℕ) (m : Meter) (s : Page) (buffer : List ℕ) (a : Answer)
-    → stands_page (Ask x (Going port q form tries m s)) → buffer_fits buffer ≡ true → fits x a ≡ true
-    → step_page (Going port q form tries m s) buffer a ≡ goes (tally m (rest_page q port form tries s buffer a))
+    → stands_page (Ok (Ask x (Some (port, q, form, tries, m, s)))) → buffer_fits buffer ≡ true → fits x a ≡ true
+    → step_page (Some (port, q, form, tries, m, s)) buffer a ≡ goes (tally m (rest_page q port form tries s buffer a))
 unfolding stands_page step_page stepped_page lent admitting question
 page_accepts x port q form tries m s buffer a h b e = rw (b, h.1, ← h.0, e)
 
@@ -76,8 +75,8 @@ module _ (P : List ℕ → Type 0) (buffer : List ℕ) (same : P buffer) (one : 
 
   after_holds : (s : PageCall) (a : Answer) → P (buffer_after s buffer a)
   unfolding buffer_after buffer_stepped buffer_page admitting kept
-  after_holds (Going port q form tries m s) a = kept_holds _ 9 _ (kept_holds _ 10 _ (kept_holds _ 12 _ (stored_holds (place_of s.left) (omega arith) _)))
-  after_holds Over a = kept_holds _ 9 _ same
+  after_holds (Some (port, q, form, tries, m, s)) a = kept_holds _ 9 _ (kept_holds _ 10 _ (kept_holds _ 12 _ (stored_holds (place_of s.left) (omega arith) _)))
+  after_holds None a = kept_holds _ 9 _ same
 
 after_length : (s : PageCall) (buffer : List ℕ) (a : Answer) → length (buffer_after s buffer a) ≡ length buffer
 after_length s buffer a = after_holds (λ b. length b ≡ length buffer) buffer refl (λ place v h. length-set buffer place v) s a
@@ -88,9 +87,9 @@ after_past s buffer a = after_holds (λ b. drop 96 b ≡ drop 96 buffer) buffer 
 -- Places past 95 hold what they held, over every run: of a call that still waits too
 past_on : (t : PageTold) (b : List ℕ) (a : Answer) (u : PageTold) (c : List ℕ) → follows_buffer t b a u c → drop 96 c ≡ drop 96 b
 unfolding follows_buffer
-past_on (Ask x s) b a u c k = ap (drop 96) k.holds ∙ after_past s b a
-past_on (End p m) b a u c k = absurd k
-past_on (Refused q) b a u c k = absurd k
+past_on (Ok (Ask x s)) b a u c k = ap (drop 96) k.holds ∙ after_past s b a
+past_on (Ok (End (p, m))) b a u c k = absurd k
+past_on (Err q) b a u c k = absurd k
 
 pub page_past : (t : PageAt) (ks : List (Exchange PageAt)) → AllKept follows_page t ks → drop 96 (last_told t ks).buffer ≡ drop 96 t.buffer
 unfolding AllKept last_told
@@ -105,11 +104,11 @@ buffer_on : (t : PageTold) (b : List ℕ) (a : Answer) (u : PageTold) (c : List 
     → AwaitedIn (asked (said_page t b)) (a ∷ [])
     → (asked (said_page u c) ≡ left_asked_after (asked (said_page t b)) a) × (stands_page u × (buffer_fits c ≡ true)) × IfYes Asks (asked (said_page t b))
 unfolding follows_buffer said_page stands_page asked AwaitedIn Awaited left_asked_after left_after buffer_fits IfYes Asks
-buffer_on (Ask y (Going port q form tries m s)) b a u c h f k w =
+buffer_on (Ok (Ask y (Some (port, q, form, tries, m, s)))) b a u c h f k w =
     (ap asked (k.yields ∙ page_accepts y port q form tries m s b a h f (is_true (fits y a) w.0)), (k.limits, rw (k.holds, after_length) f), tt)
-buffer_on (Ask y Over) b a u c h f k w = absurd h
-buffer_on (End p m) b a u c h f k w = absurd k
-buffer_on (Refused q) b a u c h f k w = absurd k
+buffer_on (Ok (Ask y None)) b a u c h f k w = absurd h
+buffer_on (Ok (End (p, m))) b a u c h f k w = absurd k
+buffer_on (Err q) b a u c h f k w = absurd k
 
 pub page_steps_on : StepsOn said_at follows_page stands_at
 page_steps_on t u a h k w = buffer_on t.told t.buffer a u.told u.buffer h.0 h.1 k w
@@ -204,11 +203,11 @@ rest_same q port form tries s b c a = longest_same _ _ _ (λ r. seen_same _ (pla
 
 said_same : (t : PageTold) (b : List ℕ) → lasting (asked (said_page t b)) ≡ page_left t
 unfolding page_left said_page asked lasting longest
-said_same (Ask x (Going port q form tries m s)) b =
+said_same (Ok (Ask x (Some (port, q, form, tries, m, s)))) b =
     λ i. suc (over_answers x (λ a. (longest_tally m (rest_page q port form tries s b a) ∙ rest_same q port form tries s b [] a ∙ sym (longest_tally m (rest_page q port form tries s [] a))) i))
-said_same (Ask x Over) b = refl
-said_same (End p m) b = refl
-said_same (Refused q) b = refl
+said_same (Ok (Ask x None)) b = refl
+said_same (Ok (End (p, m))) b = refl
+said_same (Err q) b = refl
 
 -- so the number falls whatever buffer is lent
 pub page_lent_falls : (t u : PageTold) (a : Answer) → stands_page t → FollowsLent t a u → stands_page u × (page_left u < page_left t)
@@ -219,10 +218,10 @@ page_lent_falls t u a h k =
 -- a telling that is no refusal with one buffer is none with another
 unrefused_any : (t : PageTold) (b c : List ℕ) → Unrefused (asked (said_page t b)) → Unrefused (asked (said_page t c))
 unfolding said_page asked IfYes
-unrefused_any (Ask x (Going port q form tries m s)) b c h = tt
-unrefused_any (Ask x Over) b c h = h
-unrefused_any (End p m) b c h = tt
-unrefused_any (Refused q) b c h = h
+unrefused_any (Ok (Ask x (Some (port, q, form, tries, m, s)))) b c h = tt
+unrefused_any (Ok (Ask x None)) b c h = h
+unrefused_any (Ok (End (p, m))) b c h = tt
+unrefused_any (Err q) b c h = h
 
 unrefused_after : (q : Asked (Prog (Counted Filled))) (a : Answer) → IfYes Asks q → Unrefused (left_asked_after q a)
 unfolding IfYes left_asked_after
@@ -240,16 +239,16 @@ lent_on t u a h k =
 
 lent_over : (t : PageTold) → StandsLent t → page_left t ≡ 0 → IfYes (λ p. Asks p → ⊥) (asked (said_page t []))
 unfolding page_left said_page asked lasting longest IfYes Asks
-lent_over (Ask x (Going port q form tries m s)) h e = absurd (omega (arith, e))
-lent_over (Ask x Over) h e = absurd h.1
-lent_over (End p m) h e = λ k. k
-lent_over (Refused q) h e = absurd h.1
+lent_over (Ok (Ask x (Some (port, q, form, tries, m, s)))) h e = absurd (omega (arith, e))
+lent_over (Ok (Ask x None)) h e = absurd h.1
+lent_over (Ok (End (p, m))) h e = λ k. k
+lent_over (Err q) h e = absurd h.1
 
 -- so from any state that passes question 10, whoever made it, the call takes at most so many steps more, each lent a buffer of its
 -- own
 pub page_lasts_lent : (x : Access) (port : Port) (q : Sequence) (form : Form) (tries : ℕ) (m : Meter) (s : Page) (ks : List (Exchange PageTold))
-    → stands_page (Ask x (Going port q form tries m s)) → AllKept FollowsLent (Ask x (Going port q form tries m s)) ks
-    → Lasts (λ t. asked (said_page t [])) (Ask x (Going port q form tries m s)) ks (suc (page_after port.family form tries s))
+    → stands_page (Ok (Ask x (Some (port, q, form, tries, m, s)))) → AllKept FollowsLent (Ok (Ask x (Some (port, q, form, tries, m, s)))) ks
+    → Lasts (λ t. asked (said_page t [])) (Ok (Ask x (Some (port, q, form, tries, m, s)))) ks (suc (page_after port.family form tries s))
 unfolding page_left said_page asked lasting IfYes
 page_lasts_lent x port q form tries m s ks h k =
     number_few (λ t. asked (said_page t [])) FollowsLent StandsLent page_left lent_on lent_over _ ks (suc (page_after port.family form tries s)) (h, tt)

@@ -4,3 +4,4 @@ pub mod Calls
 pub mod Runs
 pub mod Spans
 pub mod Accepted
+pub mod Aliases

@@ -12,8 +12,8 @@ use Rattle.sfp.specs.Identify.{EEPROM}
 use Rattle.sfp.specs.Sum.{sum_of}
 use Rattle.page.specs.declared.walk.Form.{Form}
 use Rattle.page.specs.declared.walk.Form.TheVariants.{Sff8472, Sff8636}
-use Rattle.page.specs.declared.sums.Paged.{Paged}
-use Rattle.page.specs.declared.sums.Paged.TheVariants.{Ok as PagedOk, FirstSum as PagedFirst, SecondSum as PagedSecond, Err as PagedErr}
+use Rattle.page.specs.Aliases.{Paged}
+use Rattle.page.specs.declared.sums.PageError.TheVariants.{FirstSum as CaseFirst, SecondSum as CaseSecond, Bus}
 
 -- the last place of a page
 abbrev pub LAST : ℕ
@@ -67,14 +67,14 @@ page q port form tries buffer = page_from q port form tries 96 buffer
 
 -- the papers' number of an end, or 0
 abbrev pub paged_number : Paged → ℕ
-paged_number PagedOk = 0
-paged_number PagedFirst = 26
-paged_number PagedSecond = 27
-paged_number (PagedErr e) = error_number e
+paged_number (Ok tt) = 0
+paged_number (Err CaseFirst) = 26
+paged_number (Err CaseSecond) = 27
+paged_number (Err (Bus e)) = error_number e
 
--- what a case of the code's enum tells
+-- what the code's result tells
 unfoldable pub paged_of : Paged → R (Unit {0})
-paged_of PagedOk = Ok tt
-paged_of PagedFirst = Err (record { number = paged_number PagedFirst; values = [] })
-paged_of PagedSecond = Err (record { number = paged_number PagedSecond; values = [] })
-paged_of (PagedErr e) = Err (failure_of e)
+paged_of (Ok tt) = Ok tt
+paged_of (Err CaseFirst) = Err (record { number = paged_number (Err CaseFirst); values = [] })
+paged_of (Err CaseSecond) = Err (record { number = paged_number (Err CaseSecond); values = [] })
+paged_of (Err (Bus e)) = Err (failure_of e)

@@ -9,9 +9,9 @@ use Rattle.hardware.specs.Prog.{Counted, blank}
 use Rattle.hardware.specs.Runs.{Run, run, meter_in, counted, AwaitedIn}
 use Rattle.transfer.specs.declared.attempt.Sequence.{Sequence}
 use Rattle.page.specs.declared.walk.Form.{Form}
-use Rattle.page.specs.declared.calls.PageTold.{PageTold}
 use Rattle.page.specs.Page.{Filled, page}
 use Rattle.page.specs.Calls.{buffer_fits, said_page, follows_buffer}
+use Rattle.page.specs.Aliases.{PageTold}
 
 -- what an opening of either form comes to over a list of answers; the count beside the result is that of the attempts that
 -- the run begins

@@ -12,9 +12,9 @@ use Rattle.i2c.specs.I2c.{locked, transferred}
 use Rattle.i2c.specs.Handshake.{access_handshake, rest_handshake, rest_request, valid_request}
 use Rattle.page.specs.declared.walk.Form.{Form}
 use Rattle.page.specs.declared.walk.Page.{Page}
-use Rattle.page.specs.declared.walk.PageNext.{PageNext}
-use Rattle.page.specs.declared.walk.PageNext.TheVariants.{Going, End}
 use Rattle.page.specs.Page.{Filled, place_of, request_at, byte_seen, page_from, paged_of}
+use Rattle.page.specs.Aliases.{PageNext}
+use Rattle.hardware.specs.declared.Next.TheVariants.{Going, End}
 
 -- the most transfers up to a byte, its own included
 unfoldable pub cap_at : ℕ → ℕ → ℕ
@@ -62,7 +62,7 @@ filled_at q port form tries s buffer l =
     (ask (access_page port s) (λ a. rest_request port (request_at form s.left) (locked q) ret s.request a)) l
 
 unfoldable pub filled_next : Sequence → Port → Form → ℕ → PageNext → List ℕ → List Answer → List ℕ
-filled_next q port form tries (Going k s) buffer l = filled_at q port form tries s buffer l
+filled_next q port form tries (Going (k, s)) buffer l = filled_at q port form tries s buffer l
 filled_next q port form tries (End p) buffer l = buffer
 
 -- The parts of what a step promises. holds: what the buffer then holds. fills: what it holds after any further answers
@@ -73,7 +73,7 @@ pub record Fills (Yields Limits Holds After : Type 0) : Type 0 where
   pub fills : After
 
 unfoldable pub page_next : Sequence → Port → Form → ℕ → PageNext → List ℕ → Prog Filled
-page_next q port form tries (Going k s) buffer = marked k (ask (access_page port s) (λ a. erase (rest_page q port form tries s buffer a)))
+page_next q port form tries (Going (k, s)) buffer = marked k (ask (access_page port s) (λ a. erase (rest_page q port form tries s buffer a)))
 page_next q port form tries (End p) buffer = ret (record { result = paged_of p; buffer = buffer })
 
 -- the place is one of a page's, and its request is within its limits
@@ -82,5 +82,5 @@ valid_page port form tries m s =
     pick (ltb s.left 96) (valid_request port (request_at form s.left) tries (cap_at tries s.left) m s.request) false
 
 unfoldable pub valid_page_next : Port → Form → ℕ → Meter → PageNext → Bool
-valid_page_next port form tries m (Going k s) = valid_page port form tries (meter_on k m) s
+valid_page_next port form tries m (Going (k, s)) = valid_page port form tries (meter_on k m) s
 valid_page_next port form tries m (End p) = true

@@ -4,24 +4,25 @@ ghost use Rattle.page.specs.Page.{sums_of, paged_of, paged_number};
 
 use hardware::Error;
 
-// The end of a call. FirstSum, SecondSum: every byte was read, and that sum is wrong.
+// Why a page is not read. FirstSum, SecondSum: every byte was read, and that sum is wrong.
 #[derive(Clone, Copy)]
-pub enum Paged {
-    Ok,
+pub enum PageError {
     FirstSum,
     SecondSum,
-    Err(Error),
+    Bus(Error),
 }
+
+pub type Paged = Result<(), PageError>;
 
 // The papers' number of a failure, or 0.
 pub fn paged_number(p: Paged) -> u8
     ensures { result ≡ paged_number p }
 {
     match p {
-        Paged::Ok => 0,
-        Paged::FirstSum => 26,
-        Paged::SecondSum => 27,
-        Paged::Err(e) => hardware::error_number(e),
+        Ok(()) => 0,
+        Err(PageError::FirstSum) => 26,
+        Err(PageError::SecondSum) => 27,
+        Err(PageError::Bus(e)) => hardware::error_number(e),
     }
 }
 
@@ -32,10 +33,10 @@ pub(crate) fn judge(buffer: &[u8]) -> Paged
     ensures { paged_of result ≡ sums_of buffer.now }
 {
     if sfp::sum::sum(&buffer[0..63]) != buffer[63] {
-        return Paged::FirstSum;
+        return Err(PageError::FirstSum);
     }
     if sfp::sum::sum(&buffer[64..95]) != buffer[95] {
-        return Paged::SecondSum;
+        return Err(PageError::SecondSum);
     }
-    Paged::Ok
+    Ok(())
 }

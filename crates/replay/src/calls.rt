@@ -1,250 +1,166 @@
 // The calls of the port, each run to its end.
+use crate::asked::Asked;
 use crate::host::Host;
-use crate::{host, rng};
-use acquire::calls::{AcquireTold, ReleaseTold};
-use hardware::{Byte, Error, Flag, Meter, Outcome};
-use hostif::calls::{CommandTold, TokenTold};
-use sync::calls::{LockTold, UnlockTold};
+use crate::rng;
+use hardware::{Error, Meter, R, Told};
+use std::ops::ControlFlow;
 
 // More accesses than any case makes.
-pub const BUDGET: u32 = 30_000_000;
+const BUDGET: u32 = 30_000_000;
 
-// What a run did: its accesses, and its result. A call that is refused or too long is not ended.
-#[derive(Clone, Copy)]
+// The result of a call: its code, 0 where it succeeded, and its values.
+#[derive(Clone, Copy, PartialEq, Eq)]
 pub struct Summary {
-    pub ended: bool,
-    pub accesses: u32,
-    pub sum: u32,
     pub code: u32,
-    pub v1: u32,
-    pub v2: u32,
-    pub v3: u32,
+    pub values: [u32; 3],
 }
 
-pub(crate) fn same(a: Summary, b: Summary) -> bool {
-    a.ended == b.ended
-        && a.accesses == b.accesses
-        && a.sum == b.sum
-        && a.code == b.code
-        && a.v1 == b.v1
-        && a.v2 == b.v2
-        && a.v3 == b.v3
-}
-
-// The transfers made, and 65,536 for each number of the slowest acknowledgement's sample.
-pub(crate) fn metered(m: Meter) -> u32 {
-    std::num::wrapping_add_u32(m.transfers, m.slowest as u32 * 65_536)
-}
-
-pub(crate) fn unended(h: Host) -> Summary {
-    Summary {
-        ended: false,
-        accesses: h.accesses,
-        sum: h.sum,
-        code: 0,
-        v1: 0,
-        v2: 0,
-        v3: 0,
+impl Summary {
+    pub(crate) fn good(values: [u32; 3]) -> Self {
+        Summary { code: 0, values }
     }
-}
 
-pub(crate) fn good(h: Host, v1: u32, v2: u32, v3: u32) -> Summary {
-    Summary {
-        ended: true,
-        accesses: h.accesses,
-        sum: h.sum,
-        code: 0,
-        v1,
-        v2,
-        v3,
-    }
-}
-
-pub(crate) fn failed(h: Host, e: Error) -> Summary {
-    Summary {
-        ended: true,
-        accesses: h.accesses,
-        sum: h.sum,
-        code: hardware::error_number(e) as u32,
-        v1: hardware::error_value(e, 0),
-        v2: hardware::error_value(e, 1),
-        v3: 0,
-    }
-}
-
-pub(crate) fn of_outcome(h: Host, o: Outcome) -> Summary {
-    match o {
-        Outcome::Ok => good(h, 0, 0, 0),
-        Outcome::Err(e) => failed(h, e),
-    }
-}
-
-fn of_byte(h: Host, b: Byte) -> Summary {
-    match b {
-        Byte::Ok(v) => good(h, v as u32, 0, 0),
-        Byte::Err(e) => failed(h, e),
-    }
-}
-
-pub(crate) fn of_flag(h: Host, f: Flag) -> Summary {
-    match f {
-        Flag::Ok(v) => {
-            if v {
-                return good(h, 1, 0, 0);
-            }
-            good(h, 0, 0, 0)
+    pub(crate) fn coded(code: u8) -> Self {
+        Summary {
+            code: u32::from(code),
+            values: [0; 3],
         }
-        Flag::Err(e) => failed(h, e),
+    }
+
+    pub(crate) fn with_second(mut self, value: u32) -> Self {
+        self.values[1] = value;
+        self
+    }
+
+    pub(crate) fn with_third(mut self, value: u32) -> Self {
+        self.values[2] = value;
+        self
+    }
+
+    // The transfers made, and 65,536 for each number of the slowest acknowledgement's sample.
+    pub(crate) fn metered(self, m: Meter) -> Self {
+        self.with_third(m.transfers.wrapping_add(u32::from(m.slowest) * 65_536))
     }
 }
 
-pub(crate) fn lock(h: Host, family: u32) -> Summary {
-    let mut host = h;
-    let mut told = sync::calls::lock_open(family);
-    let mut left = BUDGET;
-    while 0 < left {
-        match told {
-            LockTold::Ask(x, s) => {
-                let p = host::answer(host, x);
-                let a = p.answer;
-                host = p.host;
-                told = sync::calls::lock_step(s, a);
-            }
-            LockTold::End(o) => return of_outcome(host, o),
-            LockTold::Refused(_) => return unended(host),
+impl From<Error> for Summary {
+    fn from(e: Error) -> Self {
+        let values = [hardware::error_value(e, 0), hardware::error_value(e, 1), 0];
+        Summary {
+            code: u32::from(hardware::error_number(e)),
+            values,
         }
-        left -= 1;
     }
-    unended(host)
 }
 
-pub(crate) fn unlock(h: Host, family: u32) -> Summary {
-    let mut host = h;
-    let mut told = sync::calls::unlock_open(family);
-    let mut left = BUDGET;
-    while 0 < left {
-        match told {
-            UnlockTold::Ask(x, s) => {
-                let p = host::answer(host, x);
-                let a = p.answer;
-                host = p.host;
-                told = sync::calls::unlock_step(s, a);
-            }
-            UnlockTold::End(o) => return of_outcome(host, o),
-            UnlockTold::Refused(_) => return unended(host),
+impl From<R<()>> for Summary {
+    fn from(o: R<()>) -> Self {
+        match o {
+            Ok(()) => Summary::good([0; 3]),
+            Err(e) => Summary::from(e),
         }
-        left -= 1;
     }
-    unended(host)
 }
 
-pub(crate) fn acquire(h: Host, family: u32, device: u16, lan: u32, mask: u32) -> Summary {
-    let mut host = h;
-    let mut told = acquire::calls::acquire_open(family, device, lan, mask);
-    let mut left = BUDGET;
-    while 0 < left {
-        match told {
-            AcquireTold::Ask(x, s) => {
-                let p = host::answer(host, x);
-                let a = p.answer;
-                host = p.host;
-                told = acquire::calls::acquire_step(s, a);
-            }
-            AcquireTold::End(o) => return of_outcome(host, o),
-            AcquireTold::Refused(_) => return unended(host),
+impl From<R<u8>> for Summary {
+    fn from(b: R<u8>) -> Self {
+        match b {
+            Ok(v) => Summary::good([u32::from(v), 0, 0]),
+            Err(e) => Summary::from(e),
         }
-        left -= 1;
     }
-    unended(host)
 }
 
-pub(crate) fn release(h: Host, family: u32, device: u16, lan: u32, mask: u32) -> Summary {
-    let mut host = h;
-    let mut told = acquire::calls::release_open(family, device, lan, mask);
-    let mut left = BUDGET;
-    while 0 < left {
-        match told {
-            ReleaseTold::Ask(x, s) => {
-                let p = host::answer(host, x);
-                let a = p.answer;
-                host = p.host;
-                told = acquire::calls::release_step(s, a);
-            }
-            ReleaseTold::End(o) => return of_outcome(host, o),
-            ReleaseTold::Refused(_) => return unended(host),
+impl From<R<bool>> for Summary {
+    fn from(f: R<bool>) -> Self {
+        match f {
+            Ok(v) => Summary::good([u32::from(v), 0, 0]),
+            Err(e) => Summary::from(e),
         }
-        left -= 1;
     }
-    unended(host)
 }
 
-pub(crate) fn token(h: Host, family: u32, device: u16, lan: u32, take: bool) -> Summary {
-    let mut host = h;
-    let mut told = hostif::calls::token_open(family, device, lan, take);
-    let mut left = BUDGET;
-    while 0 < left {
-        match told {
-            TokenTold::Ask(x, s) => {
-                let p = host::answer(host, x);
-                let a = p.answer;
-                host = p.host;
-                told = hostif::calls::token_step(s, a);
-            }
-            TokenTold::End(f) => return of_flag(host, f),
-            TokenTold::Refused(_) => return unended(host),
+// Runs a call to its end. A turn makes one access and steps the call, or breaks off with its result, None where it is refused.
+// None also after too many turns.
+pub(crate) fn run<T: Copy, R: Drop, F: FnMut(T) -> ControlFlow<Option<R>, T>>(
+    first: T,
+    mut turn: F,
+) -> Option<R>
+    requires { F.IsAlwaysCallable turn }
+{
+    let mut told = first;
+    for _ in 0..BUDGET {
+        match turn(told) {
+            ControlFlow::Continue(next) => told = next,
+            ControlFlow::Break(end) => return end,
         }
-        left -= 1;
     }
-    unended(host)
+    None
 }
 
-fn command_on(h: Host, family: u32, device: u16, lan: u32, block: &mut [u32]) -> Summary {
-    let mut host = h;
-    let mut told = hostif::calls::command_open(family, device, lan, block);
-    let mut left = BUDGET;
-    while 0 < left {
-        match told {
-            CommandTold::Ask(x, s) => {
-                let p = host::answer(host, x);
-                let a = p.answer;
-                host = p.host;
-                told = hostif::calls::command_step(s, block, a);
-            }
-            CommandTold::End(b) => return of_byte(host, b),
-            CommandTold::Refused(_) => return unended(host),
+pub(crate) fn lock(host: &mut Host, q: Asked) -> Option<Summary> {
+    run(sync::calls::lock_open(q.family), |told| match told {
+        Ok(Told::Ask(x, s)) => ControlFlow::Continue(sync::calls::lock_step(s, host.answer(x))),
+        Ok(Told::End(o)) => ControlFlow::Break(Some(Summary::from(o))),
+        Err(_) => ControlFlow::Break(None),
+    })
+}
+
+pub(crate) fn unlock(host: &mut Host, q: Asked) -> Option<Summary> {
+    run(sync::calls::unlock_open(q.family), |told| match told {
+        Ok(Told::Ask(x, s)) => ControlFlow::Continue(sync::calls::unlock_step(s, host.answer(x))),
+        Ok(Told::End(o)) => ControlFlow::Break(Some(Summary::from(o))),
+        Err(_) => ControlFlow::Break(None),
+    })
+}
+
+pub(crate) fn acquire(host: &mut Host, q: Asked) -> Option<Summary> {
+    let first = acquire::calls::acquire_open(q.family, q.device, q.lan, q.a);
+    run(first, |told| match told {
+        Ok(Told::Ask(x, s)) => {
+            ControlFlow::Continue(acquire::calls::acquire_step(s, host.answer(x)))
         }
-        left -= 1;
-    }
-    unended(host)
+        Ok(Told::End(o)) => ControlFlow::Break(Some(Summary::from(o))),
+        Err(_) => ControlFlow::Break(None),
+    })
 }
 
-// The block's words are made from a seed of their own, and the sum over them goes with every result.
-fn command_in(
-    h: Host,
-    family: u32,
-    device: u16,
-    lan: u32,
-    block: &mut [u32],
-    seed: u32,
-) -> Summary {
-    rng::fill(block, seed);
-    let mut summary = command_on(h, family, device, lan, block);
-    summary.v3 = rng::sum(block);
-    summary
+pub(crate) fn release(host: &mut Host, q: Asked) -> Option<Summary> {
+    let first = acquire::calls::release_open(q.family, q.device, q.lan, q.a);
+    run(first, |told| match told {
+        Ok(Told::Ask(x, s)) => {
+            ControlFlow::Continue(acquire::calls::release_step(s, host.answer(x)))
+        }
+        Ok(Told::End(o)) => ControlFlow::Break(Some(Summary::from(o))),
+        Err(_) => ControlFlow::Break(None),
+    })
 }
 
-pub(crate) fn command(
-    h: Host,
-    family: u32,
-    device: u16,
-    lan: u32,
-    words: u32,
-    seed: u32,
-) -> Summary {
-    if 64 < words {
-        return unended(h);
-    }
-    let n = words as usize;
-    let mut block = [0u32; 64];
-    command_in(h, family, device, lan, &mut block[..n], seed)
+pub(crate) fn token(host: &mut Host, q: Asked) -> Option<Summary> {
+    let first = hostif::calls::token_open(q.family, q.device, q.lan, q.a == 1);
+    run(first, |told| match told {
+        Ok(Told::Ask(x, s)) => ControlFlow::Continue(hostif::calls::token_step(s, host.answer(x))),
+        Ok(Told::End(f)) => ControlFlow::Break(Some(Summary::from(f))),
+        Err(_) => ControlFlow::Break(None),
+    })
+}
+
+fn command_on(host: &mut Host, q: Asked, block: &mut [u32]) -> Option<Summary> {
+    let first = hostif::calls::command_open(q.family, q.device, q.lan, block);
+    run(first, |told| match told {
+        Ok(Told::Ask(x, s)) => {
+            ControlFlow::Continue(hostif::calls::command_step(s, block, host.answer(x)))
+        }
+        Ok(Told::End(b)) => ControlFlow::Break(Some(Summary::from(b))),
+        Err(_) => ControlFlow::Break(None),
+    })
+}
+
+// With a words. They are made from the seed b, and the sum over them goes with every result.
+pub(crate) fn command(host: &mut Host, q: Asked) -> Option<Summary> {
+    let mut words = [0u32; 64];
+    let block = words.get_mut(..q.a as usize)?;
+    rng::fill(block, q.b);
+    let summary = command_on(host, q, block)?;
+    Some(summary.with_third(rng::sum(block)))
 }

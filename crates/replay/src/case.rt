@@ -1,151 +1,194 @@
-// A case of the list: its numbers, the call they name and what the original did.
-ghost use Rattle.std.specs.Prelude.{◌≤◌};
-
+// A case of the list: what a line asks, and what the original did.
+use crate::asked::{Asked, Call, Malformed};
 use crate::calls::Summary;
 use crate::host::Host;
-use crate::transfers::Asked;
-use crate::{
-    calls, host, levels, lights, methods, modules, pages, parse, plain, scripts, transfers,
-};
+use crate::lines::{Bits, Lines};
+use crate::queue::{Queue, Source};
+use crate::reads::{Change, Turns};
+use crate::rng;
+use crate::rules::{Rule, Rules};
+use std::str::FromStr;
+use transfer::attempt::Sequence;
 
-fn host_of(words: &[u32; 45]) -> Host {
-    let rules = parse::rules_of(words);
-    host::begin(words[7], words[8], words[9], rules)
+// Added to the register's number in a rule of the lines.
+const MARK: u32 = 0x8000_0000;
+
+// The numbers of a line, with a blank between two; None after the last.
+#[derive(Drop)]
+struct Numbers<'a> {
+    rest: Option<&'a str>,
 }
 
-fn device(d: u32) -> u16 {
-    if d < 65536 {
-        return d as u16;
+impl<'a> Numbers<'a> {
+    // A number has up to ten digits.
+    fn next(&mut self) -> Result<u32, Malformed> {
+        let text = self.rest.ok_or(Malformed)?;
+        let (word, rest) = match text.split_once(' ') {
+            Some((word, rest)) => (word, Some(rest)),
+            None => (text, None),
+        };
+        self.rest = rest;
+        if 10 < word.len() || !word.bytes().all(|b| b.is_ascii_digit()) {
+            return Err(Malformed);
+        }
+        word.parse().map_err(|_| Malformed)
     }
-    0
-}
 
-// Whether the number names a call.
-fn known(call: u32) -> bool {
-    match call {
-        0..=8 | 10..=17 | 20..=27 => true,
-        111..=114 | 120..=122 | 124..=126 => true,
-        _ => false,
+    fn several<const N: usize>(&mut self) -> Result<[u32; N], Malformed> {
+        let mut numbers = [0u32; N];
+        for number in numbers.iter_mut() {
+            *number = self.next()?;
+        }
+        Ok(numbers)
     }
 }
 
-// The number of the call, whatever its sequence.
-fn number(words: &[u32; 45]) -> u32 {
-    words[0] % 100
+// The bytes that the module on the lines sends to the call.
+fn queue(call: Call, q: Asked) -> Option<Queue> {
+    let (a, b, c) = (u128::from(q.a), u128::from(q.b), u128::from(q.c));
+    let (left, source) = match call {
+        Call::Identify | Call::IdentifyQsfp => (12, Source::Number(a | b << 32 | c << 64)),
+        Call::SoftRateSelect => (8, Source::Number(b | c << 32)),
+        Call::Page | Call::QsfpPage => (
+            96,
+            Source::Page {
+                stream: q.b,
+                wrong: q.c,
+                total: 0,
+            },
+        ),
+        Call::Light => (
+            31,
+            Source::Light {
+                stream: q.b,
+                shape: q.c,
+            },
+        ),
+        _ => return None,
+    };
+    Some(Queue::new(left, source))
 }
 
-// Whether the call is that with the default sequence.
-fn standard(words: &[u32; 45]) -> bool {
-    100 <= words[0]
+// The rule of a line's seven numbers.
+fn rule([register, period, hold, and1, or1, and2, or2]: [u32; 7]) -> Rule {
+    Rule {
+        register,
+        turns: Turns::begun(period),
+        hold,
+        first: Change { and: and1, or: or1 },
+        then: Change { and: and2, or: or2 },
+    }
 }
 
-// Whether the numbers, so many of them, are a case.
-pub(crate) fn is_case(words: &[u32; 45], count: usize) -> bool {
-    if known(words[0]) {
-        if words[2] < 65536 {
-            if parse::whole(words, count) {
-                return parse::ordered(words);
-            }
+// The rule of the lines, with the register's number less the mark.
+fn lines_of(
+    register: u32,
+    [_, period, at, run, and, or, times]: [u32; 7],
+    queue: Option<Queue>,
+) -> Result<Lines, Malformed> {
+    Ok(Lines {
+        register,
+        turns: Turns::begun(period),
+        at,
+        run,
+        change: Change { and, or },
+        stretch: times & 0xffff,
+        late: times >> 16,
+        bits: Bits::at(register).ok_or(Malformed)?,
+        scl: false,
+        sda: true,
+        slot: None,
+        since: 0,
+        first: false,
+        sends: false,
+        queue,
+    })
+}
+
+// So many rules. Only the last may be of the lines.
+fn rules(numbers: &mut Numbers<'_>, count: u32, sent: Option<Queue>) -> Result<Rules, Malformed> {
+    let mut list = [None; 4];
+    let mut lines = None;
+    for place in list.get_mut(..count as usize).ok_or(Malformed)? {
+        if lines.is_some() {
+            return Err(Malformed);
+        }
+        let words = numbers.several::<7>()?;
+        match words[0].checked_sub(MARK) {
+            Some(register) => lines = Some(lines_of(register, words, sent)?),
+            None => *place = Some(rule(words)),
         }
     }
-    false
+    Ok(Rules { list, lines })
 }
 
-fn byte(v: u32) -> u8 {
-    (v % 256) as u8
-}
-
-// The lower half.
-fn low(v: u32) -> u16 {
-    (v % 65536) as u16
-}
-
-// The upper half.
-fn high(v: u32) -> u16 {
-    (v / 65536) as u16
-}
-
-fn asked(words: &[u32; 45]) -> Asked {
-    Asked {
-        family: words[1],
-        device: device(words[2]),
-        lan: words[3],
-        address: byte(words[4]),
-        low: low(words[5]),
-        high: high(words[5]),
-        lock: words[6] == 1,
-        standard: standard(words),
+// The call, and its sequence: with 100 added, the default one.
+fn called(number: u32) -> Result<(Call, Option<Sequence>), Malformed> {
+    let call = Call::try_from(number % 100)?;
+    match number / 100 {
+        0 => Ok((call, Some(Sequence::Pulses))),
+        1 if call.clears() => Ok((call, None)),
+        _ => Err(Malformed),
     }
 }
 
-// The calls of the module's bus.
-fn transfer(words: &[u32; 45]) -> Summary {
-    let h = host_of(words);
-    let q = asked(words);
-    let n = number(words);
-    if 255 < words[4] {
-        return calls::unended(h);
-    }
-    match n {
-        11 => transfers::read_byte(h, q),
-        12 => transfers::write_byte(h, q),
-        13 => transfers::read_combined(h, q),
-        _ => transfers::write_combined(h, q),
+// What a line asks, the host it is asked of, and what is to come out: the accesses, the sum over them and the call's result.
+#[derive(Clone, Copy)]
+pub struct Case {
+    call: Call,
+    asked: Asked,
+    host: Host,
+    accesses: u32,
+    sum: u32,
+    summary: Summary,
+}
+
+impl FromStr for Case {
+    type Err = Malformed;
+
+    fn from_str(line: &str) -> Result<Self, Malformed> {
+        let mut numbers = Numbers { rest: Some(line) };
+        let [number, family, device, lan, a, b, c] = numbers.several::<7>()?;
+        let [stream, fail_at, ones_at, count] = numbers.several::<4>()?;
+        let (call, sequence) = called(number)?;
+        let asked = Asked {
+            family,
+            device: u16::try_from(device).map_err(|_| Malformed)?,
+            lan,
+            sequence,
+            a,
+            b,
+            c,
+        };
+        let host = Host {
+            stream,
+            fail_at,
+            ones_at,
+            accesses: 0,
+            sum: rng::BASIS,
+            rules: rules(&mut numbers, count, queue(call, asked))?,
+        };
+        let [accesses, sum, code, v1, v2, v3] = numbers.several::<6>()?;
+        if numbers.rest.is_some() {
+            return Err(Malformed);
+        }
+        let values = [v1, v2, v3];
+        Ok(Case {
+            call,
+            asked,
+            host,
+            accesses,
+            sum,
+            summary: Summary { code, values },
+        })
     }
 }
 
-fn call(words: &[u32; 45]) -> Summary {
-    let h = host_of(words);
-    let family = words[1];
-    let device = device(words[2]);
-    let lan = words[3];
-    let a = words[4];
-    let s = standard(words);
-    let n = number(words);
-    match n {
-        0 => calls::lock(h, family),
-        1 => calls::unlock(h, family),
-        2 => calls::acquire(h, family, device, lan, a),
-        3 => calls::release(h, family, device, lan, a),
-        4 => calls::command(h, family, device, lan, a, words[5]),
-        5 => calls::token(h, family, device, lan, a == 1),
-        6 => plain::regs(h, family),
-        7 => plain::bits(h, family, a),
-        8 => plain::phy(h, lan),
-        10 => transfers::qsfp_setup(h),
-        15 => scripts::script(h, family, device, lan, a, words[5]),
-        16 => plain::ones_add(h, a, words[5]),
-        17 => plain::port(h, family, device, lan, a),
-        20 => modules::identify(h, family, device, lan, s),
-        21 => modules::identify_qsfp(h, family, device, lan, s),
-        22 => modules::soft_rate_select(h, family, device, lan, a == 1, s),
-        23 => methods::method(h, family, device, lan, a, words[5], words[6]),
-        24 => pages::page(h, family, device, lan, a, s),
-        25 => pages::qsfp_page(h, family, device, lan, a, s),
-        26 => lights::light(h, family, device, lan, a, s),
-        27 => levels::levels(h, a),
-        _ => transfer(words),
+impl Case {
+    // Whether the port does what the line says.
+    pub(crate) fn agrees(mut self) -> bool {
+        self.call.run(&mut self.host, self.asked) == Some(self.summary)
+            && self.host.accesses == self.accesses
+            && self.host.sum == self.sum
     }
-}
-
-// The six numbers at the end of a line of so many.
-fn listed(words: &[u32; 45], count: usize) -> Summary
-    requires { (6 ≤ count) × (count ≤ 45) }
-{
-    Summary {
-        ended: true,
-        accesses: words[count - 6],
-        sum: words[count - 5],
-        code: words[count - 4],
-        v1: words[count - 3],
-        v2: words[count - 2],
-        v3: words[count - 1],
-    }
-}
-
-// Whether the port does what the line says.
-pub(crate) fn agrees(words: &[u32; 45], count: usize) -> bool
-    requires { (6 ≤ count) × (count ≤ 45) }
-{
-    calls::same(call(words), listed(words, count))
 }

@@ -1,50 +1,34 @@
 // Levels of light, over a run of counts.
+use crate::asked::Asked;
 use crate::calls::Summary;
-use crate::host::Host;
-use crate::{calls, rng};
-use level::dbm::Level;
+use crate::rng;
 
-// The counts of a case, and the greatest that can be its first.
-const COUNTS: u32 = 256;
-
-const LAST: u32 = 65280;
+// The counts of a case.
+const COUNTS: u16 = 256;
 
 // The level with 32,768 added, or its number where there is none.
-fn word(l: Level) -> u32 {
+fn word(l: Option<i16>) -> u32 {
     match l {
-        Level::Tenths(t) => unsigned::raised(t),
-        Level::None => level::dbm::level_number(l) as u32,
+        Some(t) => unsigned::raised(t),
+        None => u32::from(level::dbm::level_number(l)),
     }
 }
 
-// Over the counts from a first one.
-fn sum(first: u16) -> u32 {
-    let mut h = rng::BASIS;
-    let mut count = first;
-    let mut left = COUNTS;
-    while 0 < left {
-        h = rng::fnv(h, word(level::lookup::level(count)));
-        count = std::num::wrapping_add_u16(count, 1);
-        left -= 1;
-    }
-    h
-}
-
-fn summed(h: Host, first: Level, sum: u32) -> Summary {
-    match first {
-        Level::Tenths(t) => calls::good(h, unsigned::raised(t), sum, 0),
-        Level::None => {
-            let mut summary = calls::good(h, 0, sum, 0);
-            summary.code = level::dbm::level_number(first) as u32;
-            summary
+impl From<Option<i16>> for Summary {
+    fn from(l: Option<i16>) -> Self {
+        match l {
+            Some(t) => Summary::good([unsigned::raised(t), 0, 0]),
+            None => Summary::coded(level::dbm::level_number(l)),
         }
     }
 }
 
-pub(crate) fn levels(h: Host, first: u32) -> Summary {
-    if LAST < first {
-        return calls::unended(h);
-    }
-    let count = first as u16;
-    summed(h, level::lookup::level(count), sum(count))
+// From the count a on, which has as many after it.
+pub(crate) fn levels(q: Asked) -> Option<Summary> {
+    let first = u16::try_from(q.a).ok()?;
+    let last = first.checked_add(COUNTS - 1)?;
+    let sum = (first..=last).fold(rng::BASIS, |h, count| {
+        rng::fnv(h, word(level::lookup::level(count)))
+    });
+    Some(Summary::from(level::lookup::level(first)).with_second(sum))
 }

@@ -1,102 +1,59 @@
 // The call of light and temperature, run to its end. The meter goes with every result.
+use crate::asked::Asked;
 use crate::calls::Summary;
 use crate::host::Host;
-use crate::{calls, host, rng};
-use hardware::Meter;
-use light::calls::LightTold;
-use light::power::Reading;
-use light::sensed::{Measured, Measures};
-use transfer::attempt::Sequence;
+use crate::{calls, rng};
+use hardware::Told;
+use light::power::{PowerError, Reading};
+use light::sensed::{LightError, Measured, Measures};
+use std::ops::ControlFlow;
 
-// The kind of a reading.
-fn kind(r: Reading) -> u32 {
+// The reading's kind, and its count or bit pattern.
+fn reading(r: Reading) -> (u32, u32) {
     match r {
-        Reading::Internal(_) => 0,
-        Reading::Calibrated(_) => 1,
-        Reading::Absent => 2,
+        Reading::Internal(n) => (0, u32::from(n)),
+        Reading::Calibrated(x) => (1, unsigned::pattern(x)),
+        Reading::Absent => (2, 0),
     }
 }
 
-// Its count or bit pattern.
-fn pattern(r: Reading) -> u32 {
-    match r {
-        Reading::Internal(n) => n as u32,
-        Reading::Calibrated(x) => unsigned::pattern(x),
-        Reading::Absent => 0,
+// The reading's pattern, and the sum over the other values and its kind.
+impl From<Measures> for Summary {
+    fn from(m: Measures) -> Self {
+        let (kind, pattern) = reading(m.reading);
+        let others = [
+            unsigned::raised(m.temperature),
+            u32::from(m.voltage),
+            u32::from(m.bias),
+            u32::from(m.sent),
+            kind,
+        ];
+        Summary::good([pattern, rng::sum(&others), 0])
     }
 }
 
-fn wide(n: u16) -> u32 {
-    n as u32
-}
-
-// Over the values but the reading's, and its kind.
-fn sum(m: Measures, kind: u32) -> u32 {
-    let h1 = rng::fnv(rng::BASIS, unsigned::raised(m.temperature));
-    let h2 = rng::fnv(h1, wide(m.voltage));
-    let h3 = rng::fnv(h2, wide(m.bias));
-    let h4 = rng::fnv(h3, wide(m.sent));
-    rng::fnv(h4, kind)
-}
-
-fn good(h: Host, m: Measures) -> Summary {
-    let r = m.reading;
-    calls::good(h, pattern(r), sum(m, kind(r)), 0)
-}
-
-fn ended(h: Host, r: Measured) -> Summary {
-    match r {
-        Measured::Ok(m) => good(h, m),
-        Measured::Err(e) => calls::failed(h, e),
-        Measured::Coefficient | Measured::Result => {
-            let mut summary = calls::good(h, 0, 0, 0);
-            summary.code = light::sensed::measured_number(r) as u32;
-            summary
-        }
-    }
-}
-
-fn counted(h: Host, r: Measured, meter: Meter) -> Summary {
-    let mut summary = ended(h, r);
-    summary.v3 = calls::metered(meter);
-    summary
-}
-
-fn run(h: Host, first: LightTold) -> Summary {
-    let mut host = h;
-    let mut told = first;
-    let mut left = calls::BUDGET;
-    while 0 < left {
-        match told {
-            LightTold::Ask(x, s) => {
-                let p = host::answer(host, x);
-                let a = p.answer;
-                host = p.host;
-                told = light::calls::light_step(s, a);
+impl From<Measured> for Summary {
+    fn from(r: Measured) -> Self {
+        match r {
+            Ok(m) => Summary::from(m),
+            Err(LightError::Bus(e)) => Summary::from(e),
+            Err(LightError::Power(PowerError::Coefficient))
+            | Err(LightError::Power(PowerError::Power)) => {
+                Summary::coded(light::sensed::measured_number(r))
             }
-            LightTold::End(r, m) => return counted(host, r, m),
-            LightTold::Refused(_) => return calls::unended(host),
         }
-        left -= 1;
     }
-    calls::unended(host)
 }
 
-// With the default sequence, else with that of the Rust by name.
-fn told(family: u32, device: u16, lan: u32, attempts: u32, standard: bool) -> LightTold {
-    if standard {
-        return light::calls::light_open(family, device, lan, attempts);
-    }
-    light::calls::light_open_with(family, device, lan, attempts, Sequence::Pulses)
-}
-
-pub(crate) fn light(
-    h: Host,
-    family: u32,
-    device: u16,
-    lan: u32,
-    attempts: u32,
-    standard: bool,
-) -> Summary {
-    run(h, told(family, device, lan, attempts, standard))
+// After a attempts.
+pub(crate) fn light(host: &mut Host, q: Asked) -> Option<Summary> {
+    let first = match q.sequence {
+        None => light::calls::light_open(q.family, q.device, q.lan, q.a),
+        Some(s) => light::calls::light_open_with(q.family, q.device, q.lan, q.a, s),
+    };
+    calls::run(first, |told| match told {
+        Ok(Told::Ask(x, s)) => ControlFlow::Continue(light::calls::light_step(s, host.answer(x))),
+        Ok(Told::End((r, m))) => ControlFlow::Break(Some(Summary::from(r).metered(m))),
+        Err(_) => ControlFlow::Break(None),
+    })
 }

@@ -2,6 +2,7 @@
 // has the original do.
 #![tactic(auto)]
 
+mod asked;
 mod calls;
 mod case;
 mod host;
@@ -11,196 +12,72 @@ mod lines;
 mod methods;
 mod modules;
 mod pages;
-mod parse;
 mod phrases;
 mod plain;
+mod queue;
+mod reads;
 mod rng;
 mod rules;
 mod scripts;
 mod sensors;
 mod transfers;
 
-use parse::Line;
+use asked::Malformed;
+use case::Case;
 use std::io;
-use std::io::Read;
+use std::io::{BufRead, BufReader, Read};
 
 // The lines read, those that agree, and those that differ and were named.
-#[derive(Clone, Copy)]
+#[derive(Clone, Copy, Default)]
 struct Tally {
     lines: u32,
     agree: u32,
     named: u32,
 }
 
-// going: there may be more to read. good: no line was malformed.
-#[derive(Clone, Copy)]
-struct Run {
-    line: Line,
-    tally: Tally,
-    going: bool,
-    good: bool,
-}
-
-fn say(rt: &impl Print, n: u32, text: &str) -> io::Result<()> {
-    println!(rt; "line {n} {text}")
-}
-
-fn next(n: u32) -> u32 {
-    std::num::wrapping_add_u32(n, 1)
-}
-
-fn agreed(t: Tally) -> Tally {
-    Tally {
-        lines: next(t.lines),
-        agree: next(t.agree),
-        named: t.named,
+impl Tally {
+    // The first five that differ are named.
+    fn count(&mut self, rt: &impl Print, agrees: bool) -> io::Result<()> {
+        self.lines = self.lines.wrapping_add(1);
+        if agrees {
+            self.agree = self.agree.wrapping_add(1);
+        } else if self.named < 5 {
+            self.named += 1;
+            println!(rt; "line {} differs", self.lines)?;
+        }
+        Ok(())
     }
 }
 
-// The first five are named.
-fn differed(rt: &impl Print, t: Tally) -> io::Result<Tally> {
-    let n = next(t.lines);
-    if t.named < 5 {
-        say(rt, n, "differs")?;
-        return Ok(Tally {
-            lines: n,
-            agree: t.agree,
-            named: t.named + 1,
-        });
-    }
-    Ok(Tally {
-        lines: n,
-        agree: t.agree,
-        named: t.named,
-    })
+fn case_of(line: &[u8]) -> Result<Case, Malformed> {
+    let text = str::from_utf8(line).map_err(|_| Malformed)?;
+    text.parse()
 }
 
-fn malformed(rt: &impl Print, r: Run) -> io::Result<Run> {
-    let line = r.line;
-    let tally = r.tally;
-    say(rt, next(tally.lines), "is malformed")?;
-    Ok(Run {
-        line,
-        tally,
-        going: false,
-        good: false,
-    })
-}
+// The bytes of the longest line: 45 numbers of up to ten digits, a blank or the line's end behind each.
+const LONGEST: u64 = 495;
 
-fn counted(rt: &impl Print, t: Tally, agrees: bool) -> io::Result<Tally> {
-    if agrees {
-        return Ok(agreed(t));
-    }
-    differed(rt, t)
-}
-
-// The end of a line: its case is run.
-fn closed(rt: &impl Print, r: Run) -> io::Result<Run> {
-    let l = r.line;
-    let t = r.tally;
-    let words = l.words;
-    let count = l.count;
-    if 6 <= count {
-        if count <= 45 {
-            if case::is_case(&words, count) {
-                let tally = counted(rt, t, case::agrees(&words, count))?;
-                let line = parse::blank();
-                return Ok(Run {
-                    line,
-                    tally,
-                    going: true,
-                    good: true,
-                });
+fn main(rt: HostRuntime) -> io::Result<()> {
+    let alloc = rt.alloc();
+    let mut tally = Tally::default();
+    let mut input = BufReader::new(alloc, rt.reader())?;
+    for _ in 0..u64::MAX {
+        let mut line = Vec::new(alloc);
+        // A byte more than the longest, so that what is cut off is no case.
+        if input
+            .by_ref()
+            .take(LONGEST + 1)
+            .read_until(b'\n', &mut line)?
+            == 0
+        {
+            break;
+        }
+        match case_of(line.strip_suffix(b"\n").unwrap_or(&line)) {
+            Ok(case) => tally.count(&rt, case.agrees())?,
+            Err(Malformed) => {
+                return println!(rt; "line {} is malformed", tally.lines.wrapping_add(1));
             }
         }
     }
-    malformed(rt, r)
-}
-
-fn fed(rt: &impl Print, r: Run, b: u8) -> io::Result<Run> {
-    let l = r.line;
-    let line = parse::byte(l, b);
-    let tally = r.tally;
-    let next = Run {
-        line,
-        tally,
-        going: true,
-        good: true,
-    };
-    if line.good {
-        if b == b'\n' {
-            return closed(rt, next);
-        }
-        return Ok(next);
-    }
-    malformed(rt, next)
-}
-
-fn feed(rt: &impl Print, r: Run, bytes: &[u8]) -> io::Result<Run> {
-    let mut run = r;
-    for b in bytes {
-        if run.good {
-            run = fed(rt, run, *b)?;
-        }
-    }
-    Ok(run)
-}
-
-// The end of the input. A last line may end there.
-fn stopped(rt: &impl Print, r: Run) -> io::Result<Run> {
-    let line = r.line;
-    let mut last = r;
-    if r.good {
-        if !parse::empty(line) {
-            last = fed(rt, r, b'\n')?;
-        }
-    }
-    last.going = false;
-    Ok(last)
-}
-
-// Reads once.
-fn some(rt: &impl Print, input: &mut impl Read, r: Run) -> io::Result<Run> {
-    let mut buf = [0u8; 65536];
-    let n = input.read(&mut buf)?;
-    if n == 0 {
-        return stopped(rt, r);
-    }
-    feed(rt, r, &buf[..n])
-}
-
-fn all(rt: &impl Print, input: &mut impl Read, r: Run) -> io::Result<Run> {
-    let mut run = r;
-    for _ in 0..u64::MAX {
-        if !run.going {
-            return Ok(run);
-        }
-        run = some(rt, input, run)?;
-    }
-    Ok(run)
-}
-
-fn start() -> Run {
-    let line = parse::blank();
-    let tally = Tally {
-        lines: 0,
-        agree: 0,
-        named: 0,
-    };
-    Run {
-        line,
-        tally,
-        going: true,
-        good: true,
-    }
-}
-
-fn main(rt: HostRuntime) -> io::Result<()> {
-    let mut input = rt.reader();
-    let run = all(&rt, &mut input, start())?;
-    let tally = run.tally;
-    if run.good {
-        println!(rt; "{} cases, {} agree", tally.lines, tally.agree)?;
-    }
-    Ok(())
+    println!(rt; "{} cases, {} agree", tally.lines, tally.agree)
 }

@@ -1,90 +1,68 @@
 // The methods of a module's record.
+use crate::asked::Asked;
 use crate::calls::Summary;
-use crate::host::Host;
-use crate::{calls, plain};
-use hardware::{Opening, Port};
-use sfp::methods::Key;
-use sfp::{Identity, Kind, Module};
+use crate::plain;
+use sfp::{Identity, Kind};
 
-// By the place in the original's list.
-fn kind(n: u32) -> Kind {
-    match n {
-        0 => Kind::DaCu,
-        1 => Kind::DaActiveLimiting,
-        2 => Kind::SrLr,
-        3 => Kind::Cu1g,
-        4 => Kind::Sx1g,
-        5 => Kind::Lx1g,
-        6 => Kind::Bx10g,
-        7 => Kind::Bx1g,
-        8 => Kind::Unknown,
-        _ => Kind::NotPresent,
-    }
-}
-
-fn byte(v: u32) -> u8 {
-    (v % 256) as u8
-}
+// As they stand in the original's list.
+const KINDS: [Kind; 10] = [
+    Kind::DaCu,
+    Kind::DaActiveLimiting,
+    Kind::SrLr,
+    Kind::Cu1g,
+    Kind::Sx1g,
+    Kind::Lx1g,
+    Kind::Bx10g,
+    Kind::Bx1g,
+    Kind::Unknown,
+    Kind::NotPresent,
+];
 
 // By a kind, with 256 for multispeed, and the bytes, the identifier lowest.
-fn identity(class: u32, bytes: u32) -> Identity {
-    let kind = kind(class % 256);
-    Identity {
+fn identity(class: u32, bytes: u32) -> Option<Identity> {
+    let kind = *KINDS.get((class & 0xff) as usize)?;
+    let multispeed = match class >> 8 {
+        0 => false,
+        1 => true,
+        _ => return None,
+    };
+    let [identifier, comp10g, comp1g, cable] = bytes.to_le_bytes();
+    Some(Identity {
         kind,
-        multispeed: 256 <= class,
-        identifier: byte(bytes),
-        comp10g: byte(bytes / 256),
-        comp1g: byte(bytes / 65536),
-        cable: byte(bytes / 16777216),
-    }
-}
-
-fn module(class: u32, bytes: u32) -> Module {
-    sfp::methods::record(identity(class, bytes))
-}
-
-fn of_bool(h: Host, b: bool) -> Summary {
-    calls::good(h, plain::number(b), 0, 0)
+        multispeed,
+        identifier,
+        comp10g,
+        comp1g,
+        cable,
+    })
 }
 
 // The second value says that there is a key.
-fn of_key(h: Host, k: Key) -> Summary {
-    match k {
-        Key::Key(v) => calls::good(h, v as u32, 1, 0),
-        Key::Nothing => calls::good(h, 0, 0, 0),
+impl From<Option<u16>> for Summary {
+    fn from(k: Option<u16>) -> Self {
+        match k {
+            Some(v) => Summary::good([u32::from(v), 1, 0]),
+            None => Summary::good([0; 3]),
+        }
     }
 }
 
-fn of_module(h: Host, p: Port, which: u32, m: Module) -> Summary {
-    let family = p.family;
-    match which {
-        0 => of_bool(h, sfp::methods::present(m)),
-        1 => of_bool(h, sfp::methods::one_gig(m)),
-        2 => of_bool(h, sfp::methods::linear(m)),
-        3 => of_bool(h, sfp::methods::supported(m, family)),
-        4 => of_key(h, sfp::methods::nvm_key(m, p.lan)),
-        _ => calls::unended(h),
+impl From<bool> for Summary {
+    fn from(b: bool) -> Self {
+        Summary::good([u32::from(b), 0, 0])
     }
 }
 
-fn at_port(h: Host, family: u32, device: u16, lan: u32, which: u32, m: Module) -> Summary {
-    match hardware::open_port(family, device, lan) {
-        Opening::Port(p) => of_module(h, p, which, m),
-        Opening::Refused(_) => calls::unended(h),
-    }
-}
-
-pub(crate) fn method(
-    h: Host,
-    family: u32,
-    device: u16,
-    lan: u32,
-    which: u32,
-    class: u32,
-    bytes: u32,
-) -> Summary {
-    match class {
-        0..=9 | 256..=265 => at_port(h, family, device, lan, which, module(class, bytes)),
-        _ => calls::unended(h),
-    }
+// Of the record that b and c give. The number a stands here alone: an enum of the methods would be no plainer.
+pub(crate) fn method(q: Asked) -> Option<Summary> {
+    let m = sfp::methods::record(identity(q.b, q.c)?);
+    let p = plain::port_of(q)?;
+    Some(match q.a {
+        0 => Summary::from(sfp::methods::present(m)),
+        1 => Summary::from(sfp::methods::one_gig(m)),
+        2 => Summary::from(sfp::methods::linear(m)),
+        3 => Summary::from(sfp::methods::supported(m, p.family)),
+        4 => Summary::from(sfp::methods::nvm_key(m, p.lan)),
+        _ => return None,
+    })
 }

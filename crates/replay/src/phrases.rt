@@ -1,94 +1,80 @@
 // The script of a case, made from its seed and its shape.
 use crate::rng;
 
-// The bytes so far and the stream that addresses and operands come from. A script of more than 64 bytes is not whole.
+// The bytes so far, at most 64, and the stream that addresses and operands come from. A fixed array: no call allocates.
 #[derive(Clone, Copy)]
 pub struct Made {
-    pub bytes: [u8; 64],
-    pub count: usize,
-    pub stream: u32,
-    pub whole: bool,
+    room: [u8; 64],
+    count: usize,
+    stream: u32,
 }
 
-fn begun(seed: u32) -> Made {
-    Made {
-        bytes: [0; 64],
-        count: 0,
-        stream: seed,
-        whole: true,
+impl Made {
+    pub(crate) fn bytes(&self) -> Option<&[u8]> {
+        self.room.get(..self.count)
     }
-}
 
-fn put(m: Made, b: u8) -> Made {
-    let n = m.count;
-    let mut next = m;
-    if n < 64 {
-        next.bytes[n] = b;
-        next.count = n + 1;
-        return next;
+    // A byte more, None where it has no room.
+    fn put(&mut self, b: u8) -> Option<()> {
+        *self.room.get_mut(self.count)? = b;
+        self.count += 1;
+        Some(())
     }
-    next.whole = false;
-    next
-}
 
-// The stream one output on.
-fn drawn(m: Made) -> Made {
-    let mut next = m;
-    next.stream = rng::next(m.stream);
-    next
-}
-
-// The stream's output.
-fn output(m: Made) -> u8 {
-    (rng::swapped(m.stream) % 256) as u8
-}
-
-// A start and the sending of an address that is even for sends and odd for reads.
-fn addressed(m: Made, read: u8) -> Made {
-    let next = drawn(put(put(m, 0x10), 0x20));
-    put(next, output(next) & 0xfe | read)
-}
-
-fn sent(m: Made) -> Made {
-    let next = drawn(put(m, 0x20));
-    put(next, output(next))
-}
-
-fn sends(m: Made, count: u32) -> Made {
-    let mut next = addressed(m, 0);
-    let mut left = count;
-    while 0 < left {
-        next = sent(next);
-        left -= 1;
+    // The next byte of the stream.
+    fn draw(&mut self) -> u8 {
+        self.stream = rng::next(self.stream);
+        rng::byte(self.stream)
     }
-    next
-}
 
-fn reads(m: Made, count: u32) -> Made {
-    let mut next = addressed(m, 1);
-    let mut left = count;
-    while 0 < left {
-        next = put(next, 0x30);
-        left -= 1;
+    // A start and the sending of an address that is even for sends and odd for reads.
+    fn address(&mut self, read: u8) -> Option<()> {
+        self.put(0x10)?;
+        self.put(0x20)?;
+        let b = self.draw();
+        self.put(b & 0xfe | read)
     }
-    put(next, 0x31)
-}
 
-// The phrase that a byte of the shape, less one, names.
-fn phrase(m: Made, p: u32) -> Made {
-    if p % 2 == 0 {
-        return sends(m, p / 2);
+    fn sends(&mut self, count: u32) -> Option<()> {
+        self.address(0)?;
+        for _ in 0..count {
+            self.put(0x20)?;
+            let b = self.draw();
+            self.put(b)?;
+        }
+        Some(())
     }
-    reads(m, p / 2)
+
+    fn reads(&mut self, count: u32) -> Option<()> {
+        self.address(1)?;
+        for _ in 0..count {
+            self.put(0x30)?;
+        }
+        self.put(0x31)
+    }
+
+    // The phrase that a byte of the shape, less one, names.
+    fn phrase(&mut self, p: u8) -> Option<()> {
+        let count = u32::from(p / 2);
+        if p % 2 == 0 {
+            self.sends(count)
+        } else {
+            self.reads(count)
+        }
+    }
 }
 
 // The phrases from the lowest byte of the shape up to the first that is 0, and a stop.
-pub(crate) fn script(seed: u32, shape: u32) -> Made {
-    let mut m = begun(seed);
-    let mut rest = shape;
-    while 0 < rest % 256 {
-        m = phrase(m, rest % 256 - 1);
-        rest = rest / 256;
+pub(crate) fn script(seed: u32, shape: u32) -> Option<Made> {
+    let mut made = Made {
+        room: [0; 64],
+        count: 0,
+        stream: seed,
+    };
+    for b in shape.to_le_bytes() {
+        let Some(p) = b.checked_sub(1) else { break };
+        made.phrase(p)?;
     }
-    put(m, 0x40)
+    made.put(0x40)?;
+    Some(made)
 }

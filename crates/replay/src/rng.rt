@@ -8,8 +8,7 @@ pub const BASIS: u32 = 2166136261;
 pub(crate) fn next(x: u32) -> u32
     ensures { result ≡ (x * 1664525 + 1013904223) % 2 ^ 32 }
 {
-    let y = x as u64 * 1664525 + 1013904223;
-    (y % 4294967296) as u32
+    x.wrapping_mul(1664525).wrapping_add(1013904223)
 }
 
 // The output at the state x: its halves swapped.
@@ -19,31 +18,28 @@ pub(crate) fn swapped(x: u32) -> u32
     x % 65536 * 65536 + x / 65536
 }
 
+// The output's lowest byte.
+pub(crate) fn byte(x: u32) -> u8 {
+    (swapped(x) & 0xff) as u8
+}
+
 // The sum h with the word w, FNV-1a.
 pub(crate) fn fnv(h: u32, w: u32) -> u32
     ensures { result ≡ (bit_xor h w * 16777619) % 2 ^ 32 }
 {
-    let y = (h ^ w) as u64 * 16777619;
-    (y % 4294967296) as u32
+    (h ^ w).wrapping_mul(16777619)
 }
 
 // The words of a block: the outputs of a stream of its own.
 pub(crate) fn fill(block: &mut [u32], seed: u32) {
     let mut x = seed;
-    let mut i = 0;
-    while i < block.len() {
+    for word in block.iter_mut() {
         x = next(x);
-        block[i] = swapped(x);
-        i += 1;
+        *word = swapped(x);
     }
 }
 
-pub(crate) fn sum(block: &[u32]) -> u32 {
-    let mut h = BASIS;
-    let mut i = 0;
-    while i < block.len() {
-        h = fnv(h, block[i]);
-        i += 1;
-    }
-    h
+// The sum over words or bytes.
+pub(crate) fn sum<T: Copy + Into<u32>>(items: &[T]) -> u32 {
+    items.iter().fold(BASIS, |h, x| fnv(h, (*x).into()))
 }

@@ -1,173 +1,112 @@
 // The calls of the module's bus, each run to its end.
+use crate::asked::Asked;
+use crate::calls;
 use crate::calls::Summary;
 use crate::host::Host;
-use crate::{calls, host};
-use hardware::{Meter, Word};
-use i2c::calls::{SetupTold, TransferTold};
-use transfer::attempt::Sequence;
+use hardware::{R, Told};
+use i2c::calls::TransferTold;
+use std::ops::ControlFlow;
 
-// A transfer as its numbers name it: low is the offset or register, high the attempts or the value. standard: with the default
-// sequence, else with that of the Rust by name.
+impl From<R<u32>> for Summary {
+    fn from(w: R<u32>) -> Self {
+        match w {
+            Ok(v) => Summary::good([v, 0, 0]),
+            Err(e) => Summary::from(e),
+        }
+    }
+}
+
+// A transfer's numbers: the address a, and the halves of b. low is the offset or register, high the attempts or the value.
 #[derive(Clone, Copy)]
-pub struct Asked {
-    pub family: u32,
-    pub device: u16,
-    pub lan: u32,
-    pub address: u8,
-    pub low: u16,
-    pub high: u16,
-    pub lock: bool,
-    pub standard: bool,
+struct Transfer {
+    address: u8,
+    low: u16,
+    high: u16,
+    lock: bool,
+}
+
+impl Transfer {
+    fn of(q: Asked) -> Option<Self> {
+        Some(Transfer {
+            address: u8::try_from(q.a).ok()?,
+            low: (q.b & 0xffff) as u16,
+            high: (q.b >> 16) as u16,
+            lock: q.c == 1,
+        })
+    }
 }
 
 // The meter goes with every result.
-fn of_word(h: Host, w: Word, meter: Meter) -> Summary {
-    match w {
-        Word::Ok(v) => calls::good(h, v, 0, calls::metered(meter)),
-        Word::Err(e) => {
-            let mut summary = calls::failed(h, e);
-            summary.v3 = calls::metered(meter);
-            summary
+fn run(host: &mut Host, first: TransferTold) -> Option<Summary> {
+    calls::run(first, |told| match told {
+        Ok(Told::Ask(x, s)) => {
+            ControlFlow::Continue(i2c::calls::transfer_step(s, host.answer(x)))
         }
-    }
+        Ok(Told::End((w, m))) => ControlFlow::Break(Some(Summary::from(w).metered(m))),
+        Err(_) => ControlFlow::Break(None),
+    })
 }
 
-fn run(h: Host, first: TransferTold) -> Summary {
-    let mut host = h;
-    let mut told = first;
-    let mut left = calls::BUDGET;
-    while 0 < left {
-        match told {
-            TransferTold::Ask(x, s) => {
-                let p = host::answer(host, x);
-                let a = p.answer;
-                host = p.host;
-                told = i2c::calls::transfer_step(s, a);
-            }
-            TransferTold::End(w, m) => return of_word(host, w, m),
-            TransferTold::Refused(_) => return calls::unended(host),
+pub(crate) fn read_byte(host: &mut Host, q: Asked) -> Option<Summary> {
+    let t = Transfer::of(q)?;
+    let offset = u8::try_from(t.low).ok()?;
+    let attempts = u32::from(t.high);
+    let first = match q.sequence {
+        None => i2c::calls::read_byte_open(
+            q.family, q.device, q.lan, t.address, offset, attempts, t.lock,
+        ),
+        Some(s) => i2c::calls::read_byte_open_with(
+            q.family, q.device, q.lan, t.address, offset, attempts, t.lock, s,
+        ),
+    };
+    run(host, first)
+}
+
+pub(crate) fn write_byte(host: &mut Host, q: Asked) -> Option<Summary> {
+    let t = Transfer::of(q)?;
+    let offset = u8::try_from(t.low).ok()?;
+    let value = u8::try_from(t.high).ok()?;
+    let first = match q.sequence {
+        None => i2c::calls::write_byte_open(
+            q.family, q.device, q.lan, t.address, offset, value, t.lock,
+        ),
+        Some(s) => i2c::calls::write_byte_open_with(
+            q.family, q.device, q.lan, t.address, offset, value, t.lock, s,
+        ),
+    };
+    run(host, first)
+}
+
+pub(crate) fn read_combined(host: &mut Host, q: Asked) -> Option<Summary> {
+    let t = Transfer::of(q)?;
+    let first = match q.sequence {
+        None => i2c::calls::read_combined_open(q.family, q.device, q.lan, t.address, t.low, t.lock),
+        Some(s) => i2c::calls::read_combined_open_with(
+            q.family, q.device, q.lan, t.address, t.low, t.lock, s,
+        ),
+    };
+    run(host, first)
+}
+
+pub(crate) fn write_combined(host: &mut Host, q: Asked) -> Option<Summary> {
+    let t = Transfer::of(q)?;
+    let first = match q.sequence {
+        None => i2c::calls::write_combined_open(
+            q.family, q.device, q.lan, t.address, t.low, t.high, t.lock,
+        ),
+        Some(s) => i2c::calls::write_combined_open_with(
+            q.family, q.device, q.lan, t.address, t.low, t.high, t.lock, s,
+        ),
+    };
+    run(host, first)
+}
+
+pub(crate) fn qsfp_setup(host: &mut Host) -> Option<Summary> {
+    calls::run(i2c::calls::qsfp_setup_open(), |told| match told {
+        Ok(Told::Ask(x, s)) => {
+            ControlFlow::Continue(i2c::calls::qsfp_setup_step(s, host.answer(x)))
         }
-        left -= 1;
-    }
-    calls::unended(host)
-}
-
-// A number below 256.
-fn byte(v: u16) -> u8 {
-    (v % 256) as u8
-}
-
-fn read_byte_told(q: Asked, offset: u8, attempts: u32) -> TransferTold {
-    if q.standard {
-        return i2c::calls::read_byte_open(
-            q.family, q.device, q.lan, q.address, offset, attempts, q.lock,
-        );
-    }
-    i2c::calls::read_byte_open_with(
-        q.family,
-        q.device,
-        q.lan,
-        q.address,
-        offset,
-        attempts,
-        q.lock,
-        Sequence::Pulses,
-    )
-}
-
-fn write_byte_told(q: Asked, offset: u8, value: u8) -> TransferTold {
-    if q.standard {
-        return i2c::calls::write_byte_open(
-            q.family, q.device, q.lan, q.address, offset, value, q.lock,
-        );
-    }
-    i2c::calls::write_byte_open_with(
-        q.family,
-        q.device,
-        q.lan,
-        q.address,
-        offset,
-        value,
-        q.lock,
-        Sequence::Pulses,
-    )
-}
-
-fn read_combined_told(q: Asked) -> TransferTold {
-    if q.standard {
-        return i2c::calls::read_combined_open(q.family, q.device, q.lan, q.address, q.low, q.lock);
-    }
-    i2c::calls::read_combined_open_with(
-        q.family,
-        q.device,
-        q.lan,
-        q.address,
-        q.low,
-        q.lock,
-        Sequence::Pulses,
-    )
-}
-
-fn write_combined_told(q: Asked) -> TransferTold {
-    if q.standard {
-        return i2c::calls::write_combined_open(
-            q.family, q.device, q.lan, q.address, q.low, q.high, q.lock,
-        );
-    }
-    i2c::calls::write_combined_open_with(
-        q.family,
-        q.device,
-        q.lan,
-        q.address,
-        q.low,
-        q.high,
-        q.lock,
-        Sequence::Pulses,
-    )
-}
-
-pub(crate) fn read_byte(h: Host, q: Asked) -> Summary {
-    if 255 < q.low {
-        return calls::unended(h);
-    }
-    let attempts = q.high as u32;
-    run(h, read_byte_told(q, byte(q.low), attempts))
-}
-
-pub(crate) fn write_byte(h: Host, q: Asked) -> Summary {
-    if 255 < q.low {
-        return calls::unended(h);
-    }
-    if 255 < q.high {
-        return calls::unended(h);
-    }
-    run(h, write_byte_told(q, byte(q.low), byte(q.high)))
-}
-
-pub(crate) fn read_combined(h: Host, q: Asked) -> Summary {
-    run(h, read_combined_told(q))
-}
-
-pub(crate) fn write_combined(h: Host, q: Asked) -> Summary {
-    run(h, write_combined_told(q))
-}
-
-pub(crate) fn qsfp_setup(h: Host) -> Summary {
-    let mut host = h;
-    let mut told = i2c::calls::qsfp_setup_open();
-    let mut left = calls::BUDGET;
-    while 0 < left {
-        match told {
-            SetupTold::Ask(x, s) => {
-                let p = host::answer(host, x);
-                let a = p.answer;
-                host = p.host;
-                told = i2c::calls::qsfp_setup_step(s, a);
-            }
-            SetupTold::End(o) => return calls::of_outcome(host, o),
-            SetupTold::Refused(_) => return calls::unended(host),
-        }
-        left -= 1;
-    }
-    calls::unended(host)
+        Ok(Told::End(o)) => ControlFlow::Break(Some(Summary::from(o))),
+        Err(_) => ControlFlow::Break(None),
+    })
 }

@@ -1,2 +1,2 @@
 pub mod Number
-pub mod Text
+pub mod Start

@@ -4,102 +4,78 @@
 #![tactic(auto)]
 
 mod digits;
-mod ends;
 mod faults;
-mod pages;
 mod print;
 mod record;
+mod runs;
 mod settings;
 mod start;
 mod table;
 
-use hardware::{Opening, Port};
-use image::files::{Image, Size};
-use settings::{Reading, Settings};
+use hardware::{Family, Port};
+use image::files::Image;
+use image::words;
+use record::Record;
+use settings::{Fault, Settings, Wrong};
 use std::io;
 use std::rt::{Env, Files};
 
-fn identified(rt: &impl Print, p: Port, s: Settings, path: &[u8], image: Image) -> io::Result<()> {
-    let family = p.family;
-    let a0 = image.a0;
-    let a2 = image.a2;
-    let before = start::described(family, s, a0, a2);
-    let v = s.values;
-    let sequence = settings::sequence(s);
-    let run = onbench::identify_at_once(
-        v[settings::FAMILY],
-        p.device,
-        v[settings::PORT],
-        before,
+// The record, with the page read on a copy of the bench after the identification.
+fn identified(port: Port, s: Settings, image: Image) -> Record {
+    let start = start::described(port.family, s, image);
+    let sequence = s.sequence.unwrap_or(i2c::standard());
+    let run = runs::identify(port, start, sequence);
+    let page = runs::page(port, run.state, sequence);
+    Record {
+        port,
+        start,
         sequence,
-    );
-    let mut page = [0u8; 96];
-    let read = pages::read(
-        v[settings::FAMILY],
-        v[settings::PORT],
-        p,
-        run.state,
-        &mut page,
-        sequence,
-    );
-    record::all(rt, path, p, before, sequence, run, read, page)
-}
-
-fn read<R: Env + Files + Print + Eprint>(rt: &R, p: Port, s: Settings) -> io::Result<()> {
-    let place = s.image;
-    let mut path = [0u8; image::words::LONGEST];
-    let n = rt.arg(place, &mut path).unwrap_or(0);
-    let image = image::files::read(rt, &path[..n]);
-    let size = image.size;
-    match size {
-        Size::Whole => identified(rt, p, s, &path[..n], image),
-        Size::Short(_) | Size::Long | Size::Unread(_) => {
-            image::faults::image(rt, place, &path[..n], size)
-        }
+        run,
+        page,
     }
 }
 
-// The control word is one that the driver may begin with.
-fn allowed<R: Env + Files + Print + Eprint>(rt: &R, p: Port, s: Settings) -> io::Result<()> {
-    let family = p.family;
-    let places = s.places;
-    if bench::register::ready(family, start::control(family, s)) {
-        read(rt, p, s)
-    } else {
-        faults::control(rt, places[settings::CONTROL])
+fn run<R: Env + Files + Print + Eprint>(rt: &R, s: Settings) -> io::Result<()> {
+    let Some(place) = s.image else {
+        return eprintln!(rt; "no word names an image: the words are IMAGE and NAME=VALUE");
+    };
+    // Where no word says otherwise the port is the 82599's, port number 0, PCI device 10fb.
+    let family = hardware::family_number(s.family.unwrap_or(Family::F82599));
+    let (device, lan) = (s.device.unwrap_or(0x10fb), s.port.unwrap_or(0));
+    let port = match hardware::open_port(u32::from(family), device, lan) {
+        Ok(port) => port,
+        Err(q) => return faults::port(rt, q),
+    };
+    if let Some(control) = s.control
+        && !bench::register::ready(port.family, control.word)
+    {
+        let wrong = Wrong {
+            place: control.place,
+            fault: Fault::Control,
+        };
+        return faults::word(rt, wrong);
     }
-}
-
-fn opened<R: Env + Files + Print + Eprint>(rt: &R, s: Settings) -> io::Result<()> {
-    let v = s.values;
-    let device = (v[settings::DEVICE] % 65536) as u16;
-    match hardware::open_port(v[settings::FAMILY], device, v[settings::PORT]) {
-        Opening::Port(p) => allowed(rt, p, s),
-        Opening::Refused(q) => faults::port(rt, q),
-    }
-}
-
-fn words<R: Env + Files + Print + Eprint>(rt: &R, r: Reading) -> io::Result<()> {
-    let s = r.settings;
-    if settings::sound(r) {
-        if 0 < s.image {
-            opened(rt, s)
-        } else {
-            faults::no_image(rt)
-        }
-    } else {
-        let fault = r.fault;
-        faults::word(rt, r.place, fault)
-    }
+    let mut buffer = [0; words::LONGEST];
+    let Some((path, image)) = words::image(rt, place, &mut buffer)? else {
+        return Ok(());
+    };
+    println!(rt; "image       {}", image::print::shown(path))?;
+    identified(port, s, image).print(rt)
 }
 
 fn main(rt: HostRuntime) -> io::Result<()> {
-    let count = image::words::count(&rt);
-    if count < 2 {
-        table::all(&rt)
-    } else if count <= 15 {
-        words(&rt, settings::all(&rt, count))
-    } else {
-        faults::too_many(&rt, count - 1)
+    let count = words::count(&rt);
+    match count {
+        0 | 1 => table::all(&rt),
+        2..=15 => match settings::all(&rt, count) {
+            Ok(s) => run(&rt, s),
+            Err(wrong) => faults::word(&rt, wrong),
+        },
+        _ => {
+            eprintln!(rt;
+                "{} words: at most 14 are taken, an image and 13 settings",
+                count - 1
+            )
+        }
     }
 }

@@ -2,74 +2,71 @@
 use bench::receiver::{Chosen, Stage};
 use hardware::Family;
 use sfp::Kind;
-use std::io;
+use std::fmt;
+use std::fmt::{Display, Formatter};
+use transfer::attempt::Sequence;
 
-pub(crate) fn text(rt: &impl Print, text: &str) -> io::Result<()> {
-    rt.print(text)
-}
+// A value as a record names it.
+#[derive(Clone, Copy)]
+pub struct Named<T>(pub T);
 
-pub(crate) fn decimal(rt: &impl Print, n: u64) -> io::Result<()> {
-    rt.print(n)
-}
-
-pub(crate) fn hex(rt: &impl Print, n: u64, width: usize) -> io::Result<()> {
-    print!(rt; "{n:0width$x}")
-}
-
-pub(crate) fn either(rt: &impl Print, yes: bool, one: &str, other: &str) -> io::Result<()> {
-    if yes { text(rt, one) } else { text(rt, other) }
-}
-
-// Up to a width.
-pub(crate) fn left(rt: &impl Print, text: &str, width: usize) -> io::Result<()> {
-    print!(rt; "{text:<width$}")
-}
-
-pub(crate) fn kind(rt: &impl Print, k: Kind, width: usize) -> io::Result<()> {
-    match k {
-        Kind::DaCu => left(rt, "DaCu", width),
-        Kind::DaActiveLimiting => left(rt, "DaActiveLimiting", width),
-        Kind::SrLr => left(rt, "SrLr", width),
-        Kind::Cu1g => left(rt, "Cu1g", width),
-        Kind::Sx1g => left(rt, "Sx1g", width),
-        Kind::Lx1g => left(rt, "Lx1g", width),
-        Kind::Bx10g => left(rt, "Bx10g", width),
-        Kind::Bx1g => left(rt, "Bx1g", width),
-        Kind::Unknown => left(rt, "Unknown", width),
-        Kind::NotPresent => left(rt, "NotPresent", width),
+impl Display for Named<Kind> {
+    fn fmt<W: fmt::Write>(&self, f: &mut Formatter<W>) -> fmt::Result {
+        f.pad(match self.0 {
+            Kind::DaCu => "DaCu",
+            Kind::DaActiveLimiting => "DaActiveLimiting",
+            Kind::SrLr => "SrLr",
+            Kind::Cu1g => "Cu1g",
+            Kind::Sx1g => "Sx1g",
+            Kind::Lx1g => "Lx1g",
+            Kind::Bx10g => "Bx10g",
+            Kind::Bx1g => "Bx1g",
+            Kind::Unknown => "Unknown",
+            Kind::NotPresent => "NotPresent",
+        })
     }
 }
 
-pub(crate) fn family(rt: &impl Print, f: Family) -> io::Result<()> {
-    match f {
-        Family::F82599 => text(rt, "82599"),
-        Family::X540 => text(rt, "X540"),
-        Family::X550 => text(rt, "X550"),
-        Family::X552 => text(rt, "X552"),
-        Family::X553 => text(rt, "X553"),
+impl Display for Named<Family> {
+    fn fmt<W: fmt::Write>(&self, f: &mut Formatter<W>) -> fmt::Result {
+        f.write_str(match self.0 {
+            Family::F82599 => "82599",
+            Family::X540 => "X540",
+            Family::X550 => "X550",
+            Family::X552 => "X552",
+            Family::X553 => "X553",
+        })
     }
 }
 
-fn numbered(rt: &impl Print, name: &str, n: u8) -> io::Result<()> {
-    text(rt, name)?;
-    decimal(rt, n as u64)
-}
-
-pub(crate) fn stage(rt: &impl Print, s: Stage) -> io::Result<()> {
-    match s {
-        Stage::Idle => text(rt, "idle"),
-        Stage::Address(n) => numbered(rt, "address:", n),
-        Stage::Receive(n) => numbered(rt, "receive:", n),
-        Stage::AckRead => text(rt, "ackread"),
-        Stage::AckWrite => text(rt, "ackwrite"),
-        Stage::Send(n) => numbered(rt, "send:", n),
-        Stage::Listen => text(rt, "listen"),
+impl Display for Named<Stage> {
+    fn fmt<W: fmt::Write>(&self, f: &mut Formatter<W>) -> fmt::Result {
+        match self.0 {
+            Stage::Idle => write!(f, "idle"),
+            Stage::Address(n) => write!(f, "address:{n}"),
+            Stage::Receive(n) => write!(f, "receive:{n}"),
+            Stage::AckRead => write!(f, "ackread"),
+            Stage::AckWrite => write!(f, "ackwrite"),
+            Stage::Send(n) => write!(f, "send:{n}"),
+            Stage::Listen => write!(f, "listen"),
+        }
     }
 }
 
-pub(crate) fn page(rt: &impl Print, c: Chosen) -> io::Result<()> {
-    match c {
-        Chosen::A0 => text(rt, "A0"),
-        Chosen::A2 => text(rt, "A2"),
+impl Display for Named<Chosen> {
+    fn fmt<W: fmt::Write>(&self, f: &mut Formatter<W>) -> fmt::Result {
+        f.write_str(match self.0 {
+            Chosen::A0 => "A0",
+            Chosen::A2 => "A2",
+        })
+    }
+}
+
+impl Display for Named<Sequence> {
+    fn fmt<W: fmt::Write>(&self, f: &mut Formatter<W>) -> fmt::Result {
+        f.write_str(match self.0 {
+            Sequence::Pulses => "pulses",
+            Sequence::Rounds => "rounds",
+        })
     }
 }

@@ -1,55 +1,53 @@
 // The words of the command line: IMAGE and NAME=VALUE in any order, each name at most once.
-ghost use Rattle.std.specs.Prelude.{◌≡◌, ◌≤◌, length};
-ghost use Rattle.report.specs.Text.{place_of};
+ghost use Rattle.std.specs.Prelude.{◌≡◌, ◌∷◌, ◌++◌, Contains, MatchOption};
 
-use hardware::{FamilyOpening, Opening, Refusal};
-use image::words::LONGEST;
+use crate::digits;
+use bench::receiver::{Chosen, Stage};
+use hardware::{Family, Refusal};
+use image::words;
 use std::rt::Env;
 use transfer::attempt::Sequence;
 
-// The numbers of the settings.
-pub const FAMILY: usize = 0;
+// The families by name.
+pub const FAMILIES: [(&str, Family); 5] = [
+    ("82599", Family::F82599),
+    ("X540", Family::X540),
+    ("X550", Family::X550),
+    ("X552", Family::X552),
+    ("X553", Family::X553),
+];
 
-pub const PORT: usize = 1;
-
-pub const DEVICE: usize = 2;
-
-pub const STAGE: usize = 3;
-
-pub const TAKEN: usize = 4;
-
-pub const PAGE: usize = 5;
-
-pub const NEXT: usize = 6;
-
-pub const SDA: usize = 7;
-
-pub const A0: usize = 8;
-
-pub const A2: usize = 9;
-
-pub const CONTROL: usize = 10;
-
-pub const ESDP: usize = 11;
-
-pub const SEQUENCE: usize = 12;
-
-// How many there are, and the number of every other name.
-const NAMES: usize = 13;
-
-// values: each setting as a number. places: the word that gave it, from 1, and 0 where none did. image: the word that names
-// the image, likewise.
+// I2CCTL, and the number of the word that gives it.
 #[derive(Clone, Copy)]
-pub struct Settings {
-    pub values: [u32; 13],
-    pub places: [usize; 13],
-    pub image: usize,
+pub struct Control {
+    pub word: u32,
+    pub place: usize,
 }
 
-// What is wrong with a word. Hex: it has not 1 to so many hexadecimal digits. Count: the stage's number is above this.
+// What the words give. first: the next byte is the offset. noted: SDA was last noted high. image: the number of the word that
+// names the image.
+#[derive(Clone, Copy, Default)]
+pub struct Settings {
+    pub family: Option<Family>,
+    pub port: Option<u32>,
+    pub device: Option<u16>,
+    pub stage: Option<Stage>,
+    pub taken: Option<u8>,
+    pub page: Option<Chosen>,
+    pub first: Option<bool>,
+    pub noted: Option<bool>,
+    pub a0: Option<u8>,
+    pub a2: Option<u8>,
+    pub control: Option<Control>,
+    pub esdp: Option<u32>,
+    pub sequence: Option<Sequence>,
+    pub image: Option<usize>,
+}
+
+// What is wrong with a word. Hex: it has not 1 to so many hexadecimal digits. Count: the stage's number is above this. Control:
+// the driver may not begin with it.
 #[derive(Clone, Copy)]
 pub enum Fault {
-    Nothing,
     Long,
     Second,
     Name,
@@ -62,301 +60,170 @@ pub enum Fault {
     Next,
     Sda,
     Sequence,
+    Control,
 }
 
-#[derive(Clone, Copy)]
-pub enum Value {
-    Ok(u32),
-    Bad(Fault),
-}
-
-// The settings so far, and what is wrong with the word at a place.
-#[derive(Clone, Copy)]
-pub struct Reading {
-    pub settings: Settings,
-    pub fault: Fault,
-    pub place: usize,
-}
-
-// 82599, port number 0, PCI device 10fb; Idle, no bits taken, page A0, data next, SDA noted high, both offsets 0. The
-// default of I2CCTL goes by the family, that of ESDP is 0, and that of the sequence is the library's.
-fn defaults() -> Settings {
-    Settings {
-        values: [0, 0, 0x10fb, 0, 0, 0, 0, 1, 0, 0, 0, 0, 0],
-        places: [0; 13],
-        image: 0,
-    }
-}
-
-// The first place of the byte, or the text's length.
-#[tactic(auto, using(crate::proofs::Laws::place_end, crate::proofs::Laws::place_found, crate::proofs::Laws::place_next))]
-fn find(text: &[u8], b: u8) -> usize
-    ensures place { result ≡ place_of b text.now }
-    ensures within { result ≤ length text.now }
-{
-    let mut i = 0;
-    while i < text.len() {
-        if text[i] == b {
-            return i;
+impl Fault {
+    // The papers' number of the question that refuses the word.
+    pub(crate) fn question(self) -> Option<u8> {
+        match self {
+            Fault::Refused(q) => Some(hardware::refusal_number(q)),
+            _ => None,
         }
-        i += 1;
-    }
-    i
-}
-
-fn state_number(name: &[u8]) -> usize
-    ensures { result ≤ 13 }
-{
-    match name {
-        b"taken" => TAKEN,
-        b"page" => PAGE,
-        b"next" => NEXT,
-        b"sda" => SDA,
-        b"a0" => A0,
-        b"a2" => A2,
-        b"control" => CONTROL,
-        b"esdp" => ESDP,
-        b"sequence" => SEQUENCE,
-        _ => NAMES,
     }
 }
 
-fn number(name: &[u8]) -> usize
-    ensures { result ≤ 13 }
-{
-    match name {
-        b"family" => FAMILY,
-        b"port" => PORT,
-        b"device" => DEVICE,
-        b"stage" => STAGE,
-        _ => state_number(name),
+// The number of a word, and what is wrong with it.
+#[derive(Clone, Copy)]
+pub struct Wrong {
+    pub place: usize,
+    pub fault: Fault,
+}
+
+impl Wrong {
+    // Which of this and a later one is named: the later only where the papers' questions refuse both and its own comes first.
+    fn first_asked(self, later: Wrong) -> Wrong {
+        match (self.fault.question(), later.fault.question()) {
+            (Some(asked), Some(before)) if before < asked => later,
+            _ => self,
+        }
     }
 }
 
-// The papers' number of a family; 5 is that of none.
-fn family_number(text: &[u8]) -> u32 {
-    match text {
-        b"82599" => 0,
-        b"X540" => 1,
-        b"X550" => 2,
-        b"X552" => 3,
-        b"X553" => 4,
-        _ => 5,
-    }
+// What the text names.
+fn named<T: Copy>(text: &[u8], values: &[(&str, T)], otherwise: Fault) -> Result<T, Fault> {
+    values
+        .iter()
+        .find(|(name, _)| name.as_bytes() == text)
+        .map(|(_, value)| *value)
+        .ok_or(otherwise)
 }
 
 // Question 1.
-fn family_value(text: &[u8]) -> Value {
-    let n = family_number(text);
-    match hardware::open_family(n) {
-        FamilyOpening::Family(_) => Value::Ok(n),
-        FamilyOpening::Refused(q) => Value::Bad(Fault::Refused(q)),
-    }
+fn family(text: &[u8]) -> Result<Family, Fault> {
+    named(text, &FAMILIES, Fault::Refused(Refusal::Family))
 }
 
 // Question 2, which the 82599's opening puts to any number; what is no number is not 0 or 1 either.
-fn port_value(text: &[u8]) -> Value {
-    let d = crate::digits::read(text, 10, 255);
-    if d.good {
-        return match hardware::open_port(0, 0, d.value) {
-            Opening::Port(_) => Value::Ok(d.value),
-            Opening::Refused(q) => Value::Bad(Fault::Refused(q)),
-        };
+fn port(text: &[u8]) -> Result<u32, Fault> {
+    let lan = digits::read(text, 10, 255).ok_or(Fault::Refused(Refusal::Lan))?;
+    match hardware::open_port(0, 0, lan) {
+        Ok(_) => Ok(lan),
+        Err(q) => Err(Fault::Refused(q)),
     }
-    Value::Bad(Fault::Refused(Refusal::Lan))
 }
 
-fn hex_value(text: &[u8], most: u8) -> Value {
-    let d = crate::digits::read(text, 16, most);
-    if d.good {
-        return Value::Ok(d.value);
-    }
-    Value::Bad(Fault::Hex(most))
+fn hex<T: TryFrom<u32>>(text: &[u8], most: u8) -> Result<T, Fault>
+where
+    T::Error: Drop,
+{
+    digits::read(text, 16, most)
+        .and_then(|n| T::try_from(n).ok())
+        .ok_or(Fault::Hex(most))
 }
 
-fn either(text: &[u8], zero: &[u8], one: &[u8], otherwise: Fault) -> Value {
-    if text == zero {
-        return Value::Ok(0);
-    }
-    if text == one {
-        return Value::Ok(1);
-    }
-    Value::Bad(otherwise)
+// A stage's number.
+fn within(n: u32, most: u8) -> Result<u8, Fault> {
+    u8::try_from(n)
+        .ok()
+        .filter(|n| *n <= most)
+        .ok_or(Fault::Count(most))
 }
 
-// A stage's number, from that of its first.
-fn within(n: u32, most: u8, first: u8) -> Value {
-    if n <= most as u32 {
-        return Value::Ok(first as u32 + n);
-    }
-    Value::Bad(Fault::Count(most))
+// What stands before and after the first of a byte.
+fn split_once(text: &[u8], at: u8) -> Option<(&[u8], &[u8])>
+    ensures { MatchOption result (¬ Contains text.now at) (λ p. (text.now ≡ p.0.now ++ at ∷ p.1.now) × ¬ Contains p.0.now at) }
+{
+    let place = text.iter().position(|b| *b == at)?;
+    Some((&text[..place], &text[place + 1..]))
 }
 
-// The stages with a number: see `start::stage_at`.
-fn counted(name: &[u8], n: u32) -> Value {
+fn stage(text: &[u8]) -> Result<Stage, Fault> {
+    let Some((name, number)) = split_once(text, b':') else {
+        let plain = [
+            ("idle", Stage::Idle),
+            ("ackread", Stage::AckRead),
+            ("ackwrite", Stage::AckWrite),
+            ("listen", Stage::Listen),
+        ];
+        return named(text, &plain, Fault::Stage);
+    };
+    let n = digits::read(number, 10, 255).ok_or(Fault::Stage)?;
     match name {
-        b"address" => within(n, 8, 1),
-        b"receive" => within(n, 8, 10),
-        b"send" => within(n, 7, 21),
-        _ => Value::Bad(Fault::Stage),
+        b"address" => Ok(Stage::Address(within(n, 8)?)),
+        b"receive" => Ok(Stage::Receive(within(n, 8)?)),
+        b"send" => Ok(Stage::Send(within(n, 7)?)),
+        _ => Err(Fault::Stage),
     }
 }
 
-fn plain(name: &[u8]) -> Value {
-    match name {
-        b"idle" => Value::Ok(0),
-        b"ackread" => Value::Ok(19),
-        b"ackwrite" => Value::Ok(20),
-        b"listen" => Value::Ok(29),
-        _ => Value::Bad(Fault::Stage),
+// Stores a value, unless the name was given before.
+fn put<T: Drop>(slot: &mut Option<T>, value: Result<T, Fault>) -> Result<(), Fault> {
+    if slot.is_some() {
+        return Err(Fault::Twice);
     }
+    *slot = Some(value?);
+    Ok(())
 }
 
-fn stage_value(text: &[u8]) -> Value {
-    let at = find(text, b':');
-    if at < text.len() {
-        let rest = at + 1;
-        let d = crate::digits::read(&text[rest..], 10, 255);
-        if d.good {
-            return counted(&text[..at], d.value);
-        }
-        return Value::Bad(Fault::Stage);
-    }
-    plain(text)
-}
-
-// The value of the setting with this number.
-fn parsed(number: usize, text: &[u8]) -> Value {
-    match number {
-        FAMILY => family_value(text),
-        PORT => port_value(text),
-        DEVICE => hex_value(text, 4),
-        STAGE => stage_value(text),
-        PAGE => either(text, b"A0", b"A2", Fault::Page),
-        NEXT => either(text, b"data", b"offset", Fault::Next),
-        SDA => either(text, b"low", b"high", Fault::Sda),
-        SEQUENCE => either(text, b"rounds", b"pulses", Fault::Sequence),
-        CONTROL | ESDP => hex_value(text, 8),
-        _ => hex_value(text, 2),
-    }
-}
-
-fn wrong(s: Settings, place: usize, fault: Fault) -> Reading {
-    Reading {
-        settings: s,
-        fault,
-        place,
-    }
-}
-
-fn image(s: Settings, place: usize) -> Reading {
-    if 0 < s.image {
-        return wrong(s, place, Fault::Second);
-    }
-    let mut next = s;
-    next.image = place;
-    wrong(next, place, Fault::Nothing)
-}
-
-fn stored(s: Settings, number: usize, v: Value, place: usize) -> Reading {
-    match v {
-        Value::Ok(n) => {
-            let mut next = s;
-            if number < NAMES {
-                next.values[number] = n;
-                next.places[number] = place;
+impl Settings {
+    fn setting(&mut self, name: &[u8], text: &[u8], place: usize) -> Result<(), Fault> {
+        let pages = [("A0", Chosen::A0), ("A2", Chosen::A2)];
+        let next = [("data", false), ("offset", true)];
+        let sda = [("low", false), ("high", true)];
+        let sequences = [("rounds", Sequence::Rounds), ("pulses", Sequence::Pulses)];
+        match name {
+            b"family" => put(&mut self.family, family(text)),
+            b"port" => put(&mut self.port, port(text)),
+            b"device" => put(&mut self.device, hex(text, 4)),
+            b"stage" => put(&mut self.stage, stage(text)),
+            b"taken" => put(&mut self.taken, hex(text, 2)),
+            b"page" => put(&mut self.page, named(text, &pages, Fault::Page)),
+            b"next" => put(&mut self.first, named(text, &next, Fault::Next)),
+            b"sda" => put(&mut self.noted, named(text, &sda, Fault::Sda)),
+            b"a0" => put(&mut self.a0, hex(text, 2)),
+            b"a2" => put(&mut self.a2, hex(text, 2)),
+            b"control" => {
+                let word = hex(text, 8);
+                put(&mut self.control, word.map(|word| Control { word, place }))
             }
-            wrong(next, place, Fault::Nothing)
+            b"esdp" => put(&mut self.esdp, hex(text, 8)),
+            b"sequence" => put(&mut self.sequence, named(text, &sequences, Fault::Sequence)),
+            _ => Err(Fault::Name),
         }
-        Value::Bad(fault) => wrong(s, place, fault),
     }
-}
 
-fn setting(s: Settings, name: &[u8], text: &[u8], place: usize) -> Reading {
-    let n = number(name);
-    if n < NAMES {
-        if 0 < s.places[n] {
-            return wrong(s, place, Fault::Twice);
+    fn image(&mut self, place: usize) -> Result<(), Fault> {
+        if self.image.is_some() {
+            return Err(Fault::Second);
         }
-        return stored(s, n, parsed(n, text), place);
+        self.image = Some(place);
+        Ok(())
     }
-    wrong(s, place, Fault::Name)
-}
 
-// A word: a setting where a '=' comes before any '/', else an image.
-fn word(s: Settings, text: &[u8], place: usize) -> Reading {
-    let at = find(text, b'=');
-    if at < find(text, b'/') {
-        let rest = at + 1;
-        return setting(s, &text[..at], &text[rest..], place);
-    }
-    image(s, place)
-}
-
-fn word_at(rt: &impl Env, s: Settings, place: usize) -> Reading {
-    let mut text = [0u8; LONGEST];
-    match rt.arg(place, &mut text) {
-        Ok(n) => word(s, &text[..n], place),
-        Err(_) => wrong(s, place, Fault::Long),
+    // A word: a setting where a '=' comes before any '/', else an image.
+    fn word(&mut self, word: &[u8], place: usize) -> Result<(), Fault> {
+        match split_once(word, b'=') {
+            Some((name, text)) if !name.contains(&b'/') => self.setting(name, text, place),
+            _ => self.image(place),
+        }
     }
 }
 
-// The clearing sequence that is named, or the library's default.
-pub(crate) fn sequence(s: Settings) -> Sequence {
-    let v = s.values;
-    let places = s.places;
-    if places[SEQUENCE] == 0 {
-        return i2c::standard();
-    }
-    if v[SEQUENCE] == 0 {
-        return Sequence::Rounds;
-    }
-    Sequence::Pulses
-}
-
-pub(crate) fn sound(r: Reading) -> bool {
-    let fault = r.fault;
-    if let Fault::Nothing = fault {
-        return true;
-    }
-    false
-}
-
-// The papers' number of the question that refuses the word, or 0.
-fn question(f: Fault) -> u8 {
-    if let Fault::Refused(q) = f {
-        return hardware::refusal_number(q);
-    }
-    0
-}
-
-// A wrong word and a later one: the later is named only where the papers' questions refuse both and its own comes first.
-fn first_asked(r: Reading, later: Reading) -> Reading {
-    let fault = r.fault;
-    let other = later.fault;
-    let asked = question(other);
-    if 0 < asked && asked < question(fault) {
-        return later;
-    }
-    let s = later.settings;
-    wrong(s, r.place, fault)
-}
-
-fn further(rt: &impl Env, r: Reading, place: usize) -> Reading {
-    let s = r.settings;
-    let next = word_at(rt, s, place);
-    if sound(r) {
-        return next;
-    }
-    first_asked(r, next)
-}
-
-// Every word, and which one is named as wrong: the first, but a refused family before a refused port number. `count` has the
-// program's own name in it.
-pub(crate) fn all(rt: &impl Env, count: usize) -> Reading {
-    let mut r = wrong(defaults(), 0, Fault::Nothing);
+// What all words give, or which one is named as wrong: the first, but a refused family before a refused port number. `count` has
+// the program's own name in it.
+pub(crate) fn all(rt: &impl Env, count: usize) -> Result<Settings, Wrong> {
+    let mut settings = Settings::default();
+    let mut wrong: Option<Wrong> = None;
     for place in 1..count {
-        r = further(rt, r, place);
+        let mut buffer = [0; words::LONGEST];
+        let taken = words::read(rt, place, &mut buffer)
+            .ok_or(Fault::Long)
+            .and_then(|word| settings.word(word, place));
+        if let Err(fault) = taken {
+            let later = Wrong { place, fault };
+            wrong = Some(wrong.map_or(later, |first| first.first_asked(later)));
+        }
     }
-    r
+    wrong.map_or(Ok(settings), Err)
 }

@@ -1,21 +1,23 @@
 -- Laws of the walk over a script's commands.
-use Prim.Native.Nat.{ℕ, zero, suc, ◌+◌, ◌-◌, ◌<◌, ◌≤◌}
+use Prim.Native.Nat.{ℕ, zero, suc, ◌+◌, ◌<◌, ◌≤◌}
 use mathlib.Core.Path.{◌≡◌, refl, ap, sym, ◌∙◌}
-use mathlib.Core.Bool.{Bool, true, false, false≢true}
-use mathlib.Core.List.{List, [], ◌∷◌, ◌++◌}
+use mathlib.Core.Bool.{Bool, true, false, false≢true, ◌&&◌}
+use mathlib.Core.List.{List, [], ◌∷◌}
 use native.Mathlib.Omega.{arith}
 use native.Mathlib.Nat.{add-zero, zero-add}
 use lib.Dec.{eqb, leb, ltb}
-use lib.ListN.{length, get_or, set, take, drop, length-drop, drop_of_length-le, get_or-eq_default}
-use lib.Seq.{take-length, drop-cons, drop-drop, get_or-drop}
+use lib.ListN.{length, get_or, drop, length-drop, drop_of_length-le, get_or-eq_default}
+use lib.Seq.{drop-cons, drop-drop, get_or-drop}
 use borrow.Author.Tests.{leb-true, ltb-true, ltb-false}
+use Rattle.std.proofs.Common.{ne_eqb, eq-eqb}
+use Rattle.std.specs.List.{fold, list_all, list_any}
 use Rattle.hardware.specs.Prog.{pick}
 use Rattle.bus.specs.declared.command.Command.{Command}
 use Rattle.bus.specs.declared.command.Command.TheVariants.{Start, Send, Read, Stop, Free}
 use Rattle.bus.specs.declared.command.Piece.{Piece}
 use Rattle.script.specs.declared.cursor.Where.{Where}
 use Rattle.script.specs.declared.cursor.Where.TheVariants.{Begin, Address, Sending, Reading, Between, End, Wrong}
-use Rattle.script.specs.Script.{alone, single, commands, complete, starts, on_command, head_sends, head_command, head_width, head_known, command_at, next_at, leads, follows, is_script, length_fits, judged}
+use Rattle.script.specs.Script.{alone, single, commands, complete, starts, on_command, head_sends, head_command, head_width, head_known, command_at, next_at, places_from, places, leads, follows, walked, is_script, length_fits, judged}
 
 -- the head of the bytes
 
@@ -75,17 +77,6 @@ starts_step (b ∷ []) = refl
 starts_step (b ∷ v ∷ s) =
     elim (eqb b 0x20) as (λ x. drop (pick x 2 1) (true ∷ pick x (false ∷ starts s) (starts (v ∷ s))) ≡ starts (drop (pick x 2 1) (b ∷ v ∷ s))) [ true ↦ refl | false ↦ refl ]
 
--- no command begins inside another
-starts_inside : (t : List ℕ) (k : ℕ) → 0 < k → k < head_width t → get_or (starts t) k false ≡ false
-unfolding starts head_width head_sends pick
-starts_inside t zero l h = absurd (omega arith)
-starts_inside [] (suc k) l h = absurd (omega arith)
-starts_inside (b ∷ []) (suc k) l h = absurd (omega arith)
-starts_inside (b ∷ v ∷ s) (suc zero) l h =
-    (elim (eqb b 0x20) as (λ x. 1 < pick x 2 1 → get_or (true ∷ pick x (false ∷ starts s) (starts (v ∷ s))) 1 false ≡ false) [ true ↦ λ _. refl | false ↦ λ g. absurd (omega arith) ]) h
-starts_inside (b ∷ v ∷ s) (suc (suc k)) l h =
-    absurd ((elim (eqb b 0x20) as (λ x. suc (suc k) < pick x 2 1 → ⊥) [ true ↦ λ g. omega arith | false ↦ λ g. omega arith ]) h)
-
 starts_length : (t : List ℕ) → length (starts t) ≡ length t
 unfolding starts pick
 starts_length [] = refl
@@ -125,34 +116,9 @@ aligned_first s at h l =
     let long : 0 < length (drop at s) = rw length-drop (omega arith) in
     rw add-zero at (sym (get_or-drop at (starts s) 0 false) ∙ ap (λ t. get_or t 0 false) h ∙ starts_first (drop at s) long)
 
--- no command begins between a command and the next
-pub aligned_inside : (s : List ℕ) (at k : ℕ) → Aligned s at → 0 < k → at + k < next_at s at → on_command s (at + k) ≡ false
-unfolding on_command next_at
-aligned_inside s at k h l m =
-    sym (get_or-drop at (starts s) k false) ∙ ap (λ t. get_or t k false) h ∙ starts_inside (drop at s) k l (omega arith)
-
--- a position before the next command that is neither this one nor a command before it is none
-pub aligned_before : (s : List ℕ) (place at : ℕ) → Aligned s place → (at < place → on_command s at ≡ false) → (place ≡ at → ⊥) → at < next_at s place
-    → on_command s at ≡ false
-aligned_before s place at h before other l =
-    elim (ltb at place) as (λ x. ltb at place ≡ x → on_command s at ≡ false) [
-      | true ↦ λ e. before (ltb-true at place e)
-      | false ↦ λ e.
-          let le : place ≤ at = ltb-false at place e in
-          let same : place + (at - place) ≡ at = omega arith in
-          rw same at (aligned_inside s place (at - place) h (omega arith) (rw same l))
-    ] refl
-
 pub on_past : (s : List ℕ) (at : ℕ) → length s ≤ at → on_command s at ≡ false
 unfolding on_command
 on_past s at l = get_or-eq_default (starts s) false (rw starts_length l)
-
-pub aligned_past : (s : List ℕ) (place at : ℕ) → length s ≤ place → (at < place → on_command s at ≡ false) → on_command s at ≡ false
-aligned_past s place at l before =
-    elim (ltb at place) as (λ x. ltb at place ≡ x → on_command s at ≡ false) [
-      | true ↦ λ e. before (ltb-true at place e)
-      | false ↦ λ e. on_past s at (omega (arith, ltb-false at place e))
-    ] refl
 
 -- no piece of a clearing sequence stands in a script
 pub free_wrong : (p : Piece) (w : Where) → follows w (Free p) ≡ Wrong
@@ -228,14 +194,6 @@ pub next_within : (s : List ℕ) (at : ℕ) → at ≤ length s → next_at s at
 unfolding next_at
 next_within s at l = omega (arith, rw length-drop at (width_within (drop at s)))
 
--- a loop that goes from a command to the next ends
-
-pub next_less : (s : List ℕ) (at : ℕ) {r : ℕ} → at < length s → r ≡ next_at s at → length s - r < length s - at
-next_less s at l e = omega (arith, next_after_lem s at l)
-
-pub next_in : (s : List ℕ) (at : ℕ) {r : ℕ} → at ≤ length s → r ≡ next_at s at → r ≤ length s
-next_in s at l e = omega (arith, next_within s at l)
-
 pub on_within : (s : List ℕ) (at : ℕ) → on_command s at ≡ true → at < length s
 on_within s at h =
     let out : length s ≤ at → ⊥ = λ l. false≢true (sym (on_past s at l) ∙ h) in
@@ -293,18 +251,88 @@ pub sending_here : (s : List ℕ) (at : ℕ) → at + 1 < length s → head_send
 unfolding head_sends
 sending_here s at l = rw (drop-cons s at 0 (omega arith), drop-cons s (suc at) 0 (omega arith))
 
--- a script is put at the head of a buffer byte by byte
+-- the positions of the commands
 
-pub put_one : (s b : List ℕ) (i : ℕ) → i < length s → i < length b → set (take i s ++ drop i b) i (get_or s i 0) ≡ take (suc i) s ++ drop (suc i) b
-put_one [] b i h k = absurd (omega arith)
-put_one (x ∷ s) [] i h k = absurd (omega arith)
-put_one (x ∷ s) (y ∷ b) zero h k = refl
-put_one (x ∷ s) (y ∷ b) (suc i) h k = ap (λ l. x ∷ l) (put_one s b i (omega arith) (omega arith))
+places_step : (n : ℕ) (t : List ℕ) → 0 < length t → places_from n t ≡ n ∷ places_from (n + head_width t) (drop (head_width t) t)
+unfolding places_from head_width head_sends pick
+places_step n [] l = absurd (omega arith)
+places_step n (b ∷ []) l = refl
+places_step n (b ∷ v ∷ s) l =
+    elim (eqb b 0x20) as (λ x. n ∷ pick x (places_from (n + 2) s) (places_from (n + 1) (v ∷ s)) ≡ n ∷ places_from (n + pick x 2 1) (drop (pick x 2 1) (b ∷ v ∷ s))) [ true ↦ refl | false ↦ refl ]
 
-pub put_all : (s b : List ℕ) (i : ℕ) {l : List ℕ} → length s ≤ i → i ≤ length s → l ≡ take i s ++ drop i b → l ≡ s ++ drop (length s) b
-put_all s b i h k e =
-    let all : i ≡ length s = omega arith in
-    e ∙ ap (λ n. take n s ++ drop n b) all ∙ ap (λ t. t ++ drop (length s) b) (take-length s)
+pub places_at : (s : List ℕ) (at : ℕ) → at < length s → places s at ≡ at ∷ places s (next_at s at)
+unfolding places next_at
+places_at s at l =
+    places_step at (drop at s) (rw length-drop (omega arith)) ∙ ap (λ t. at ∷ places_from (at + head_width (drop at s)) t) (drop-drop (head_width (drop at s)) at s)
+
+pub places_past : (s : List ℕ) (at : ℕ) → length s ≤ at → places s at ≡ []
+unfolding places places_from
+places_past s at l = rw drop_of_length-le
+
+-- what holds past the end, and at a command where it holds at the next, holds from each position on
+by_places : (s : List ℕ) (P : ℕ → Type 0) → ((at : ℕ) → length s ≤ at → P at) → ((at : ℕ) → at < length s → P (next_at s at) → P at) → (at : ℕ) → P at
+by_places s P past step at = go (length s) at (omega arith)
+  where
+    go : (n at : ℕ) → length s ≤ at + n → P at
+    go zero at h = past at (omega arith)
+    go (suc n) at h =
+        elim (ltb at (length s)) as (λ x. ltb at (length s) ≡ x → P at) [
+          | true ↦ λ e.
+              let l : at < length s = ltb-true at (length s) e in
+              step at l (go n (next_at s at) (omega (arith, next_after_lem s at l)))
+          | false ↦ λ e. past at (ltb-false at (length s) e)
+        ] refl
+
+both_known : (x y : Bool) → (x && y) ≡ pick x y false
+unfolding pick
+both_known true y = refl
+both_known false y = refl
+
+pub all_known : (s : List ℕ) (at : ℕ) → list_all (λ p. head_known (drop p s)) (places s at) ≡ complete (drop at s)
+all_known s =
+    by_places s (λ at. list_all (λ p. head_known (drop p s)) (places s at) ≡ complete (drop at s))
+    (λ at l. rw (places_past s at l) (sym (complete_past s at l)))
+    (λ at l h. rw (places_at s at l, complete_at s at l, ← h) (both_known _ _))
+
+pub followed : (s : List ℕ) (at : ℕ) (w : Where) → fold (λ u p. follows u (command_at s p)) w (places s at) ≡ walked w (commands (drop at s))
+unfolding walked
+followed s =
+    by_places s (λ at. (w : Where) → fold (λ u p. follows u (command_at s p)) w (places s at) ≡ walked w (commands (drop at s)))
+    (λ at l w. rw (places_past s at l, commands_past s at l))
+    (λ at l h w. rw (places_at s at l, commands_at s at l) (h (follows w (command_at s at))))
+
+none_below : (t : List ℕ) (n k : ℕ) → k < n → list_any (λ p. eqb p k) (places_from n t) ≡ false
+unfolding places_from pick
+none_below [] n k l = refl
+none_below (b ∷ []) n k l = rw (ne_eqb n k (λ e. omega arith))
+none_below (b ∷ v ∷ s) n k l =
+    rw (ne_eqb n k (λ e. omega arith))
+    (elim (eqb b 0x20) as (λ x. list_any (λ p. eqb p k) (pick x (places_from (n + 2) s) (places_from (n + 1) (v ∷ s))) ≡ false) [ true ↦ none_below s (n + 2) k (omega arith) | false ↦ none_below (v ∷ s) (n + 1) k (omega arith) ])
+
+found_from : (t : List ℕ) (n k : ℕ) → list_any (λ p. eqb p (n + k)) (places_from n t) ≡ get_or (starts t) k false
+unfolding places_from starts pick
+found_from [] n k = refl
+found_from (b ∷ []) n zero = rw (add-zero n, eq-eqb n n refl)
+found_from (b ∷ []) n (suc k) = rw (ne_eqb n (n + suc k) (λ e. omega arith))
+found_from (b ∷ v ∷ s) n zero = rw (add-zero n, eq-eqb n n refl)
+found_from (b ∷ v ∷ s) n (suc zero) =
+    rw (ne_eqb n (n + 1) (λ e. omega arith))
+    (elim (eqb b 0x20) as (λ x. list_any (λ p. eqb p (n + 1)) (pick x (places_from (n + 2) s) (places_from (n + 1) (v ∷ s))) ≡ get_or (pick x (false ∷ starts s) (starts (v ∷ s))) 0 false) [
+      | true ↦ none_below s (n + 2) (n + 1) (omega arith)
+      | false ↦ rw add-zero at (found_from (v ∷ s) (n + 1) 0)
+    ])
+found_from (b ∷ v ∷ s) n (suc (suc k)) =
+    let e : n + suc (suc k) ≡ n + 2 + k = omega arith in
+    let f : n + suc (suc k) ≡ n + 1 + suc k = omega arith in
+    rw (ne_eqb n (n + suc (suc k)) (λ e. omega arith))
+    (elim (eqb b 0x20) as (λ x. list_any (λ p. eqb p (n + suc (suc k))) (pick x (places_from (n + 2) s) (places_from (n + 1) (v ∷ s))) ≡ get_or (pick x (false ∷ starts s) (starts (v ∷ s))) (suc k) false) [
+      | true ↦ rw e (found_from s (n + 2) k)
+      | false ↦ rw f (found_from (v ∷ s) (n + 1) (suc k))
+    ])
+
+pub found : (s : List ℕ) (at : ℕ) → list_any (λ p. eqb p at) (places s 0) ≡ on_command s at
+unfolding places on_command
+found s at = rw zero-add at (found_from s 0 at)
 
 -- each command takes a byte or two
 pub commands_length : (s : List ℕ) → length (commands s) ≤ length s

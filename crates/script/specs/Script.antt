@@ -1,6 +1,6 @@
 -- The bytes of a script, their commands and the questions about them: 10 start; 20 with an operand, send it; 30 read a
 -- byte and acknowledge; 31 read a byte and don't; 40 stop.
-use Rattle.std.specs.Prelude.{ℕ, ◌+◌, ◌-◌, ◌%◌, Bool, true, false, List, [], ◌∷◌, eqb, leb, length, get_or, drop}
+use Rattle.std.specs.Prelude.{ℕ, ◌+◌, ◌-◌, ◌%◌, Bool, true, false, List, [], ◌∷◌, eqb, leb, length, get_or, drop, Ok, Err, Result}
 use Rattle.hardware.specs.Numbers.{refusal_number}
 use Rattle.hardware.specs.Prog.{pick}
 use Rattle.bus.specs.declared.command.Command.{Command}
@@ -8,8 +8,7 @@ use Rattle.bus.specs.declared.command.Command.TheVariants.{Start, Send, Read, St
 use Rattle.script.specs.declared.cursor.Where.{Where}
 use Rattle.script.specs.declared.cursor.Where.TheVariants.{Begin, Address, Sending, Reading, Between, End, Wrong}
 use Rattle.script.specs.declared.reader.Step.{Step}
-use Rattle.script.specs.declared.cursor.Judged.{Judged}
-use Rattle.script.specs.declared.cursor.Judged.TheVariants.{Accepted, Refused}
+use Rattle.hardware.specs.declared.Refusal.{Refusal}
 
 -- the command of a byte that stands alone; one that is unknown or lacks its operand counts as a stop
 unfoldable pub alone : ℕ → Command
@@ -67,6 +66,16 @@ next_at s at = at + head_width (drop at s)
 unfoldable pub step_at : List ℕ → ℕ → Step
 step_at s at = record { command = command_at s at; next = next_at s at }
 
+-- the positions of the commands of bytes that begin at n
+unfoldable pub places_from : ℕ → List ℕ → List ℕ
+places_from n [] = []
+places_from n (b ∷ []) = n ∷ []
+places_from n (b ∷ v ∷ s) = n ∷ pick (eqb b 0x20) (places_from (n + 2) s) (places_from (n + 1) (v ∷ s))
+
+-- those from a command's position on
+unfoldable pub places : List ℕ → ℕ → List ℕ
+places s at = places_from at (drop at s)
+
 -- where a command leads: a start, a send, a read with its acknowledge bit, a stop
 unfoldable pub leads : Where → (ℕ → Where) → (Bool → Where) → Where → Command → Where
 leads start send read stop Start = start
@@ -110,9 +119,9 @@ length_fits s = pick (leb 1 (length s)) (leb (length s) 64) false
 unfoldable pub judged : List ℕ → ℕ
 judged s = pick (length_fits s) (pick (complete s) (pick (is_script s) 0 7) 6) 5
 
-unfoldable pub judged_as : Judged → ℕ
-judged_as Accepted = 0
-judged_as (Refused q) = refusal_number q
+unfoldable pub judged_as : (Result (Unit {0}) Refusal) → ℕ
+judged_as (Ok tt) = 0
+judged_as (Err q) = refusal_number q
 
 unfoldable pub operand : Command → ℕ
 operand Start = 0

@@ -1,11 +1,10 @@
 -- The scripts of `read_byte`, `write_byte`, `read_combined` and `write_combined`, and what writing one yields.
-use Rattle.std.specs.Prelude.{ℕ, ◌%◌, Bool, List, [], ◌∷◌, ◌++◌, eqb, leb, length, drop}
+use Rattle.std.specs.Prelude.{ℕ, ◌%◌, Bool, List, [], ◌∷◌, ◌++◌, eqb, leb, length, drop, Ok, Err, Result}
 use Rattle.std.specs.Int.Bits.{bit_or}
 use Rattle.hardware.specs.Numbers.{refusal_number}
 use Rattle.hardware.specs.Prog.{pick}
-use Rattle.script.specs.declared.write.Wrote.{Wrote}
-use Rattle.script.specs.declared.write.Wrote.TheVariants.{Written, Refused}
 use Rattle.script.specs.Sum.{low, high, high_write, high_read, read_check, write_check}
+use Rattle.hardware.specs.declared.Refusal.{Refusal}
 
 unfoldable pub read_byte_script : ℕ → ℕ → List ℕ
 read_byte_script device offset = 0x10 ∷ 0x20 ∷ device ∷ 0x20 ∷ offset ∷ 0x10 ∷ 0x20 ∷ bit_or device 1 ∷ 0x31 ∷ 0x40 ∷ []
@@ -38,6 +37,6 @@ write_script device script buffer =
     (pick (leb (length script) (length buffer)) (filled (length script) (script ++ drop (length script) buffer)) (unwritten 9 buffer))
     (unwritten 3 buffer)
 
-unfoldable pub wrote_as : Wrote → List ℕ → Buffered
-wrote_as (Written n) buffer = filled n buffer
-wrote_as (Refused q) buffer = unwritten (refusal_number q) buffer
+unfoldable pub wrote_as : (Result ℕ Refusal) → List ℕ → Buffered
+wrote_as (Ok n) buffer = filled n buffer
+wrote_as (Err q) buffer = unwritten (refusal_number q) buffer

@@ -1,13 +1,16 @@
 // The commands of a lent script, by position, and the questions 5 to 7 about a whole script.
+#![tactic(auto, using(crate::proofs::Laws::sending_here, crate::proofs::Laws::sending_short, crate::proofs::Laws::first_at, crate::proofs::Laws::sending_at, crate::proofs::Laws::width_one, crate::proofs::Laws::width_two, crate::proofs::Laws::places_at, crate::proofs::Laws::places_past, crate::proofs::Laws::free_wrong, crate::proofs::Laws::commands_second), unfolding(crate::specs::Script::alone, hardware::specs::Prog::pick, crate::specs::Script::single, crate::specs::Script::command_at, crate::specs::Script::head_command, crate::specs::Script::head_sends, crate::specs::Script::next_at, crate::specs::Script::head_width, crate::specs::Script::head_known, crate::specs::Script::follows, crate::specs::Script::leads, crate::specs::Script::at_end, crate::specs::Script::length_fits, crate::specs::Script::judged, crate::specs::Script::judged_as, crate::specs::Script::operand, crate::specs::Script::device, crate::specs::Script::first_address))]
+
 ghost use Rattle.std.specs.Prelude.{◌≡◌, ℕ, List, length, drop};
-ghost use Rattle.script.specs.Script.{alone, single, head_sends, command_at, next_at, head_known, complete, follows, at_end, is_script, length_fits, judged, judged_as, on_command, operand, device};
+ghost use Rattle.std.specs.Iterator.{YieldsFirst, item_count};
+ghost use Rattle.script.specs.Script.{places, alone, single, head_sends, command_at, next_at, head_known, complete, follows, at_end, is_script, length_fits, judged, judged_as, on_command, operand, device};
 
 use bus::command::Command;
 use hardware::Refusal;
 
 // Where a walk over the commands stands. Begin: a phrase has to come. Address: its address. Sending, Reading: after an
 // even or an odd address. Between: after the last read. End: after the stop. Wrong: no script goes on so.
-#[derive(Clone, Copy)]
+#[derive(Clone, Copy, PartialEq, Eq)]
 pub enum Where {
     Begin,
     Address,
@@ -18,13 +21,6 @@ pub enum Where {
     Wrong,
 }
 
-#[derive(Clone, Copy)]
-pub enum Judged {
-    Accepted,
-    Refused(Refusal),
-}
-
-#[tactic(auto, unfolding(crate::specs::Script::alone, hardware::specs::Prog::pick))]
 fn alone(b: u8) -> Command
     ensures { result ≡ alone b }
 {
@@ -36,7 +32,6 @@ fn alone(b: u8) -> Command
     }
 }
 
-#[tactic(auto, unfolding(crate::specs::Script::single, hardware::specs::Prog::pick))]
 fn single(b: u8) -> bool
     ensures { result ≡ single b }
 {
@@ -50,7 +45,6 @@ fn single(b: u8) -> bool
 }
 
 // Whether a send and its operand stand at the position.
-#[tactic(auto, using(crate::proofs::Laws::sending_here, crate::proofs::Laws::sending_short))]
 fn sending(script: &[u8], at: usize) -> bool
     ensures { result ≡ head_sends (drop at script.now) }
 {
@@ -63,7 +57,6 @@ fn sending(script: &[u8], at: usize) -> bool
 }
 
 // The command at a position.
-#[tactic(auto, using(crate::proofs::Laws::first_at, crate::proofs::Laws::sending_at), unfolding(crate::specs::Script::command_at, crate::specs::Script::head_command, hardware::specs::Prog::pick, crate::specs::Script::head_sends, crate::specs::Script::alone))]
 pub fn command(script: &[u8], at: usize) -> Command
     ensures { result ≡ command_at script.now at }
 {
@@ -77,7 +70,6 @@ pub fn command(script: &[u8], at: usize) -> Command
 }
 
 // The position behind the command at a position.
-#[tactic(auto, using(crate::proofs::Laws::sending_at, crate::proofs::Laws::width_one, crate::proofs::Laws::width_two), unfolding(crate::specs::Script::next_at, crate::specs::Script::head_width))]
 pub fn next(script: &[u8], at: usize) -> usize
     ensures { result ≡ next_at script.now at }
 {
@@ -91,7 +83,6 @@ pub fn next(script: &[u8], at: usize) -> usize
 }
 
 // Whether the command at a position is known and complete.
-#[tactic(auto, using(crate::proofs::Laws::first_at), unfolding(crate::specs::Script::head_known, hardware::specs::Prog::pick, crate::specs::Script::head_sends, crate::specs::Script::single))]
 fn known(script: &[u8], at: usize) -> bool
     ensures { result ≡ head_known (drop at script.now) }
 {
@@ -104,22 +95,43 @@ fn known(script: &[u8], at: usize) -> bool
     false
 }
 
+// The positions of the commands from one on, in their order.
+#[derive(Drop)]
+struct Places<'a> {
+    script: &'a [u8],
+    at: usize,
+}
+
+impl<'a> Iterator for Places<'a> {
+    type Item = usize;
+
+    ghost next_gives = { YieldsFirst (λ s. places s.script.now s.at) };
+
+    ghost remaining = { item_count (λ s. places s.script.now s.at) };
+
+    fn next(&mut self) -> Option<usize> {
+        let at = self.at;
+        if at < self.script.len() {
+            self.at = next(self.script, at);
+            return Some(at);
+        }
+        None
+    }
+}
+
+fn places_of(script: &[u8]) -> Places<'_>
+    ensures { places result.script.now result.at ≡ places script.now 0 }
+{
+    Places { script, at: 0 }
+}
+
 // Question 6.
-#[tactic(auto, using(crate::proofs::Laws::complete_at, crate::proofs::Laws::complete_past, crate::proofs::Laws::next_in, crate::proofs::Laws::next_less), unfolding(hardware::specs::Prog::pick))]
 fn complete(script: &[u8]) -> bool
     ensures { result ≡ complete script.now }
 {
-    let mut at = 0;
-    while at < script.len() {
-        if !known(script, at) {
-            return false;
-        }
-        at = next(script, at);
-    }
-    true
+    places_of(script).all(|at| known(script, at))
 }
 
-#[tactic(auto, unfolding(crate::specs::Script::follows, crate::specs::Script::leads, hardware::specs::Prog::pick))]
 fn started(w: Where) -> Where
     ensures { result ≡ follows w Command.Start }
 {
@@ -134,7 +146,6 @@ fn started(w: Where) -> Where
     }
 }
 
-#[tactic(auto, unfolding(crate::specs::Script::follows, crate::specs::Script::leads, hardware::specs::Prog::pick))]
 fn sent(w: Where, a: u8) -> Where
     ensures { result ≡ follows w (Command.Send a) }
 {
@@ -154,7 +165,6 @@ fn sent(w: Where, a: u8) -> Where
     }
 }
 
-#[tactic(auto, unfolding(crate::specs::Script::follows, crate::specs::Script::leads, hardware::specs::Prog::pick))]
 fn taken(w: Where, level: bool) -> Where
     ensures { result ≡ follows w (Command.Read level) }
 {
@@ -174,7 +184,6 @@ fn taken(w: Where, level: bool) -> Where
     }
 }
 
-#[tactic(auto, unfolding(crate::specs::Script::follows, crate::specs::Script::leads, hardware::specs::Prog::pick))]
 fn stopped(w: Where) -> Where
     ensures { result ≡ follows w Command.Stop }
 {
@@ -189,7 +198,6 @@ fn stopped(w: Where) -> Where
     }
 }
 
-#[tactic(auto, using(crate::proofs::Laws::free_wrong))]
 fn follows(w: Where, c: Command) -> Where
     ensures { result ≡ follows w c }
 {
@@ -202,37 +210,20 @@ fn follows(w: Where, c: Command) -> Where
     }
 }
 
-#[tactic(auto, unfolding(crate::specs::Script::at_end))]
 fn closed(w: Where) -> bool
     ensures { result ≡ at_end w }
 {
-    match w {
-        Where::Begin => false,
-        Where::Address => false,
-        Where::Sending => false,
-        Where::Reading => false,
-        Where::Between => false,
-        Where::End => true,
-        Where::Wrong => false,
-    }
+    w == Where::End
 }
 
 // Question 7.
-#[tactic(auto, using(crate::proofs::Laws::commands_at, crate::proofs::Laws::commands_past, crate::proofs::Laws::next_in, crate::proofs::Laws::next_less), unfolding(crate::specs::Script::walked, crate::specs::Script::is_script))]
 fn is_script(script: &[u8]) -> bool
     ensures { result ≡ is_script script.now }
 {
-    let mut w = Where::Begin;
-    let mut at = 0;
-    while at < script.len() {
-        w = follows(w, command(script, at));
-        at = next(script, at);
-    }
-    closed(w)
+    closed(places_of(script).fold(Where::Begin, |w, at| follows(w, command(script, at))))
 }
 
 // Question 5.
-#[tactic(auto, unfolding(crate::specs::Script::length_fits, hardware::specs::Prog::pick))]
 fn length_fits(n: usize) -> bool
     ensures { (s : List ℕ) → length s ≡ n → result ≡ length_fits s }
 {
@@ -243,38 +234,28 @@ fn length_fits(n: usize) -> bool
 }
 
 // Questions 5, 6 and 7, in this order.
-#[tactic(auto, unfolding(crate::specs::Script::judged, crate::specs::Script::judged_as, hardware::specs::Prog::pick))]
-pub fn judge(script: &[u8]) -> Judged
+pub fn judge(script: &[u8]) -> Result<(), Refusal>
     ensures { judged_as result ≡ judged script.now }
 {
     if length_fits(script.len()) {
         if complete(script) {
             if is_script(script) {
-                return Judged::Accepted;
+                return Ok(());
             }
-            return Judged::Refused(Refusal::Script);
+            return Err(Refusal::Script);
         }
-        return Judged::Refused(Refusal::Command);
+        return Err(Refusal::Command);
     }
-    Judged::Refused(Refusal::ScriptLength)
+    Err(Refusal::ScriptLength)
 }
 
 // Whether the position is that of a command.
-#[tactic(auto, using(crate::proofs::Laws::Aligned, crate::proofs::Laws::aligned_before, crate::proofs::Laws::aligned_first, crate::proofs::Laws::aligned_next, crate::proofs::Laws::aligned_past, crate::proofs::Laws::next_in, crate::proofs::Laws::next_less))]
 pub fn on_command(script: &[u8], at: usize) -> bool
     ensures { result ≡ on_command script.now at }
 {
-    let mut place = 0;
-    while place < script.len() {
-        if place == at {
-            return true;
-        }
-        place = next(script, place);
-    }
-    false
+    places_of(script).any(|place| place == at)
 }
 
-#[tactic(auto, unfolding(crate::specs::Script::operand))]
 fn operand(c: Command) -> u8
     ensures { result ≡ operand c }
 {
@@ -288,7 +269,6 @@ fn operand(c: Command) -> u8
 }
 
 // The first address, which a script sends by its second command, with the lowest bit cleared.
-#[tactic(auto, using(crate::proofs::Laws::commands_second), unfolding(crate::specs::Script::device, crate::specs::Script::first_address))]
 pub fn device(script: &[u8]) -> u8
     ensures { result ≡ device script.now }
 {

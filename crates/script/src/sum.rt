@@ -1,9 +1,10 @@
 // The check bytes of the combined transfers.
+#![tactic(auto, unfolding(crate::specs::Sum::ones_add, crate::specs::Sum::high_write, crate::specs::Sum::high_read, crate::specs::Sum::read_check, crate::specs::Sum::check_byte, crate::specs::Sum::ones_sum, crate::specs::Sum::ones_sum_from, crate::specs::Sum::write_check))]
+
 ghost use Rattle.std.specs.Prelude.{◌≡◌};
 ghost use Rattle.script.specs.Sum.{ones_add, high_read, high_write, low, high, read_check, write_check};
 
 // One's-complement sum, carry folded back in.
-#[tactic(auto, unfolding(crate::specs::Sum::ones_add))]
 pub fn ones_add(a: u8, b: u8) -> u8
     ensures { result ≡ ones_add a b }
 {
@@ -26,7 +27,6 @@ pub(crate) fn high(v: u16) -> u8
 }
 
 // The upper bits of a register's 15, with the flag of a write.
-#[tactic(auto, unfolding(crate::specs::Sum::high_write))]
 pub(crate) fn high_write(reg: u16) -> u8
     ensures { result ≡ high_write reg }
 {
@@ -34,7 +34,6 @@ pub(crate) fn high_write(reg: u16) -> u8
 }
 
 // The same with the flag of a read.
-#[tactic(auto, unfolding(crate::specs::Sum::high_read))]
 pub(crate) fn high_read(reg: u16) -> u8
     ensures { result ≡ high_read reg }
 {
@@ -42,7 +41,6 @@ pub(crate) fn high_read(reg: u16) -> u8
 }
 
 // The check byte of a combined read.
-#[tactic(auto, unfolding(crate::specs::Sum::read_check, crate::specs::Sum::check_byte, crate::specs::Sum::ones_sum, crate::specs::Sum::ones_sum_from))]
 pub fn read_check(reg: u16) -> u8
     ensures { result ≡ read_check reg }
 {
@@ -50,7 +48,6 @@ pub fn read_check(reg: u16) -> u8
 }
 
 // The check byte of a combined write.
-#[tactic(auto, unfolding(crate::specs::Sum::write_check, crate::specs::Sum::check_byte, crate::specs::Sum::ones_sum, crate::specs::Sum::ones_sum_from))]
 pub fn write_check(reg: u16, value: u16) -> u8
     ensures { result ≡ write_check reg value }
 {

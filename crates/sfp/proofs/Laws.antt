@@ -1,11 +1,9 @@
 -- Laws of the classes and of the sum.
-use Rattle.std.proofs.Common.{◌≡◌, ℕ, zero, suc, ◌+◌, ◌*◌, ◌/◌, ◌%◌, ◌<◌, ◌≤◌, Bool, true, false, not, ◌&&◌, ◌||◌, eqb, ltb, List, length, get_or, drop, sym, refl, ap, ◌∙◌, ap₂, add-one, arith, drop-cons}
+use Rattle.std.proofs.Common.{◌≡◌, ℕ, zero, suc, ◌+◌, ◌*◌, ◌/◌, ◌%◌, ◌<◌, ◌≤◌, Bool, true, false, not, ◌&&◌, ◌||◌, eqb, ltb, List, [], ◌∷◌, sym, refl, ap, ◌∙◌, ap₂, arith}
+use Rattle.std.specs.List.{fold}
 use lib.Bits.{and_high}
-use lib.Seq.{drop-length}
 use Rattle.hardware.specs.Prog.{pick}
 use Rattle.hardware.specs.Registers.{none_of}
-use Rattle.sfp.specs.declared.Coded.{Coded}
-use Rattle.sfp.specs.declared.Coded.TheVariants.{Known, Open}
 use Rattle.sfp.specs.declared.Codes.{Codes}
 use Rattle.sfp.specs.declared.Kind.{Kind}
 use Rattle.sfp.specs.declared.Kind.TheVariants.{DaCu, DaActiveLimiting, SrLr, Unknown}
@@ -17,6 +15,7 @@ use Rattle.sfp.specs.Coded.{coded_by, qsfp_coded, qsfp_cable}
 use Rattle.sfp.specs.Qsfp.{qsfp_recorded}
 use Rattle.sfp.specs.Finds.{class_in}
 use Rattle.sfp.specs.Sum.{total, sum_of}
+use Rattle.std.specs.Prelude.{Some, None, Option}
 
 -- SR or LR: one look at both bits, or one at each
 pub either_bit : (v : ℕ) → has v 0x30 ≡ (has v SR || has v LR)
@@ -73,11 +72,11 @@ unfolding kind_of fibre_of
 kind_by_codes at = rw (either_bit (at 3))
 
 -- the kind that the codes decide, or another's
-abbrev pub kind_in : Coded → Kind → Kind
-kind_in (Known kind) other = kind
-kind_in Open other = other
+abbrev pub kind_in : (Option Kind) → Kind → Kind
+kind_in (Some kind) other = kind
+kind_in None other = other
 
-pub coded_kind : {r : Coded} {c : Codes} {bx : Bool} (at : Bytes) → r ≡ coded_by c bx → c ≡ codes_of at → bx ≡ bx10g at
+pub coded_kind : {r : (Option Kind)} {c : Codes} {bx : Bool} (at : Bytes) → r ≡ coded_by c bx → c ≡ codes_of at → bx ≡ bx10g at
     → kind_in r (pick (has (at 60) LIMITING) DaActiveLimiting Unknown) ≡ kind_of at
 unfolding coded_by pick
 coded_kind at e f g =
@@ -85,12 +84,12 @@ coded_kind at e f g =
     ∙ by (has (at 8) PASSIVE_DA) (has (at 8) ACTIVE_DA) (fibre_of (codes_of at) (bx10g at)) (pick (has (at 60) LIMITING) DaActiveLimiting Unknown)
     ∙ kind_by_codes at
   where
-    by : (a b : Bool) (kind other : Kind) → kind_in (pick a (Known DaCu) (pick b Open (Known kind))) other ≡ pick a DaCu (pick b other kind)
+    by : (a b : Bool) (kind other : Kind) → kind_in (pick a (Some DaCu) (pick b None (Some kind))) other ≡ pick a DaCu (pick b other kind)
     by true b kind other = refl
     by false true kind other = refl
     by false false kind other = refl
 
-pub qsfp_coded_kind : {r : Coded} (at : Bytes) → r ≡ qsfp_coded (at 0x83)
+pub qsfp_coded_kind : {r : (Option Kind)} (at : Bytes) → r ≡ qsfp_coded (at 0x83)
     → kind_in r (pick (eqb (at 0x82) 0x23) (pick (ltb 0 (at 0x92)) (qsfp_cable (at 0x93)) Unknown) Unknown) ≡ qsfp_kind_of at
 unfolding qsfp_coded qsfp_cable qsfp_kind_of qsfp_active pick
 qsfp_coded_kind at e =
@@ -98,7 +97,7 @@ qsfp_coded_kind at e =
     (by (has (at 0x83) 0x08) (has (at 0x83) 0x30) (has (at 0x83) 0x01) (eqb (at 0x82) 0x23) (ltb 0 (at 0x92)) (eqb (at 0x93 / 16) 0))
   where
     by : (a b c d e f : Bool)
-        → kind_in (pick a (Known DaCu) (pick b (Known SrLr) (pick c (Known DaActiveLimiting) Open))) (pick d (pick e (pick f DaActiveLimiting Unknown) Unknown) Unknown)
+        → kind_in (pick a (Some DaCu) (pick b (Some SrLr) (pick c (Some DaActiveLimiting) None))) (pick d (pick e (pick f DaActiveLimiting Unknown) Unknown) Unknown)
         ≡ pick a DaCu (pick b SrLr (pick (c || (d && (e && f))) DaActiveLimiting Unknown))
     by true b c d e f = refl
     by false true c d e f = refl
@@ -119,15 +118,12 @@ pub qsfp_recorded_class : {m : Identity} {kind : Kind} (at : Bytes)
 unfolding qsfp_recorded qsfp_multispeed_of
 qsfp_recorded_class at e g = ap class_in (e ∙ ap (qsfp_recorded (at 0x83) (at 0x86)) g)
 
--- the sum of the bytes, from the first and one by one
-pub sum_start : (l : List ℕ) → (0 + total (drop 0 l)) % 256 ≡ sum_of l
+-- the sum of the bytes, the low eight bits at each of them
+summed_from : (n : ℕ) (l : List ℕ) → n < 256 → fold (λ t b. (t + b) % 256) n l ≡ (n + total l) % 256
+unfolding total
+summed_from n [] h = omega (arith, h)
+summed_from n (b ∷ l) h = summed_from ((n + b) % 256) l (omega arith) ∙ omega arith
+
+pub summed : (l : List ℕ) → fold (λ t b. (t + b) % 256) 0 l ≡ sum_of l
 unfolding sum_of
-sum_start l = omega arith
-
-pub total_next : (l : List ℕ) (i : ℕ) → i < length l → total (drop i l) ≡ get_or l i 0 + total (drop (i + 1) l)
-unfolding total
-total_next l i h = rw (drop-cons l i 0 h, add-one i)
-
-pub total_end : (l : List ℕ) (i : ℕ) → i ≡ length l → total (drop i l) ≡ 0
-unfolding total
-total_end l i e = rw (e, drop-length l)
+summed l = summed_from 0 l (omega arith) ∙ omega arith

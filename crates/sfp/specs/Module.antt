@@ -1,5 +1,5 @@
 -- The record of a module, and the methods of the Rust's `Module`, by the module's kind.
-use Rattle.std.specs.Prelude.{ℕ, ◌+◌, Bool, not, ◌&&◌, ◌||◌}
+use Rattle.std.specs.Prelude.{ℕ, ◌+◌, Bool, not, ◌&&◌, ◌||◌, Some, None, Option}
 use Rattle.hardware.specs.declared.Family.{Family}
 use Rattle.hardware.specs.Prog.{pick}
 use Rattle.bus.specs.Layout.{x550em}
@@ -7,8 +7,6 @@ use Rattle.sfp.specs.declared.Identity.{Identity}
 use Rattle.sfp.specs.declared.Kind.{Kind}
 use Rattle.sfp.specs.declared.Kind.TheVariants.{DaCu, Cu1g, Sx1g, Lx1g, Bx1g, Unknown, NotPresent}
 use Rattle.sfp.specs.declared.Module.{Module}
-use Rattle.sfp.specs.declared.methods.Key.{Key}
-use Rattle.sfp.specs.declared.methods.Key.TheVariants.{Key as OneKey, Nothing}
 use Rattle.sfp.specs.Kinds.{is_kind}
 
 -- the record of a module that was identified
@@ -36,5 +34,5 @@ unfoldable pub is_supported : Kind → Family → Bool
 is_supported kind family = is_known kind && not (is_kind kind Cu1g && x550em family)
 
 -- the key of the 82599's NVM sequence on a port: 3 and 4 are passive cables, 5 and 6 all other known modules
-unfoldable pub key_of : Kind → ℕ → Key
-key_of kind lan = pick (is_known kind) (OneKey (pick (is_linear kind) 3 5 + lan)) Nothing
+unfoldable pub key_of : Kind → ℕ → (Option ℕ)
+key_of kind lan = pick (is_known kind) (Some (pick (is_linear kind) 3 5 + lan)) None

@@ -1,4 +1,6 @@
 // Classes of SFP modules by SFF-8472.
+#![tactic(auto, using(crate::proofs::Laws::rate_asked, crate::proofs::Laws::coded_kind, crate::proofs::Laws::recorded_class, crate::proofs::Laws::pick_most), unfolding(hardware::specs::Registers::none_of, crate::specs::Classes::has, crate::specs::Bytes::codes_ask_rate, crate::specs::Identify::fibre_of, hardware::specs::Prog::pick, crate::specs::Classes::is_cable, crate::specs::Identify::recorded, crate::specs::Bytes::sfp_bytes, crate::specs::Classes::asks_reach, crate::specs::Classes::bx10g, crate::specs::Coded::coded_by, crate::specs::Classes::class_of, crate::specs::Classes::asks_active, crate::specs::Classes::requests))]
+
 ghost use Rattle.std.specs.Prelude.{◌≡◌, ◌+◌, ◌&&◌, ◌||◌, nat_le, nat_lt};
 ghost use Rattle.hardware.specs.Prog.{pick};
 ghost use Rattle.hardware.specs.Registers.{none_of};
@@ -8,7 +10,7 @@ ghost use Rattle.sfp.specs.Classes.{has, SX, LX, SR, LR, LIMITING, asks_rate, as
 ghost use Rattle.sfp.specs.Identify.{fibre_of, recorded};
 ghost use Rattle.sfp.specs.Coded.{coded_by};
 
-use crate::{Coded, Codes, Identity, Kind, same};
+use crate::{Codes, Identity, Kind};
 
 // The identifier of an SFP.
 pub const SFP: u8 = 0x03;
@@ -57,7 +59,6 @@ pub struct Classed {
     pub multispeed: bool,
 }
 
-#[tactic(auto, unfolding(hardware::specs::Registers::none_of))]
 pub fn none_of(byte: u8, bits: u8) -> bool
     ensures { result ≡ none_of byte bits }
 {
@@ -65,7 +66,6 @@ pub fn none_of(byte: u8, bits: u8) -> bool
 }
 
 // Whether the byte has one of the bits.
-#[tactic(auto, unfolding(crate::specs::Classes::has))]
 pub fn has(byte: u8, bits: u8) -> bool
     ensures { result ≡ has byte bits }
 {
@@ -73,7 +73,6 @@ pub fn has(byte: u8, bits: u8) -> bool
 }
 
 // Whether byte 12 is requested: the first three parts of the 10G-BX test.
-#[tactic(auto, unfolding(crate::specs::Bytes::codes_ask_rate))]
 pub fn asks_rate(c: Codes) -> bool
     ensures { result ≡ codes_ask_rate c }
 {
@@ -96,7 +95,6 @@ pub fn reach(km: u8, hm: u8) -> bool
 }
 
 // Below the cables: the first that fits. bx: whether the 10G-BX test holds.
-#[tactic(auto, unfolding(crate::specs::Identify::fibre_of, hardware::specs::Prog::pick))]
 pub fn fibre(c: Codes, bx: bool) -> Kind
     ensures { result ≡ fibre_of c bx }
 {
@@ -122,7 +120,6 @@ pub fn fibre(c: Codes, bx: bool) -> Kind
 }
 
 // An active cable, by byte 60.
-#[tactic(auto, unfolding(hardware::specs::Prog::pick))]
 pub fn cable_of(active: u8) -> Kind
     ensures { result ≡ pick (has active LIMITING) DaActiveLimiting Unknown }
 {
@@ -132,14 +129,13 @@ pub fn cable_of(active: u8) -> Kind
     Kind::Unknown
 }
 
-#[tactic(auto, unfolding(crate::specs::Classes::is_cable))]
 pub fn is_cable(kind: Kind) -> bool
     ensures { result ≡ is_cable kind }
 {
-    if same(kind, Kind::DaCu) {
+    if kind.is(Kind::DaCu) {
         return true;
     }
-    same(kind, Kind::DaActiveLimiting)
+    kind.is(Kind::DaActiveLimiting)
 }
 
 // A 1G code with a 10G code.
@@ -152,7 +148,6 @@ pub fn both(g1: u8, one: u8, g10: u8, ten: u8) -> bool
     false
 }
 
-#[tactic(auto, unfolding(crate::specs::Identify::recorded))]
 fn multispeed(c: Codes, kind: Kind) -> bool
     ensures { result ≡ (recorded 0 c kind).multispeed }
 {
@@ -165,7 +160,6 @@ fn multispeed(c: Codes, kind: Kind) -> bool
     is_cable(kind)
 }
 
-#[tactic(auto, unfolding(crate::specs::Identify::recorded))]
 pub fn recorded(identifier: u8, c: Codes, kind: Kind) -> Identity
     ensures { result ≡ recorded identifier c kind }
 {
@@ -179,7 +173,6 @@ pub fn recorded(identifier: u8, c: Codes, kind: Kind) -> Identity
     }
 }
 
-#[tactic(auto, unfolding(crate::specs::Bytes::sfp_bytes, hardware::specs::Prog::pick))]
 fn codes(b: SfpBytes) -> Codes
     ensures { result ≡ codes_of (sfp_bytes b) }
 {
@@ -191,7 +184,6 @@ fn codes(b: SfpBytes) -> Codes
 }
 
 // Whether bytes 14 and 15 are requested.
-#[tactic(auto, using(crate::proofs::Laws::rate_asked), unfolding(crate::specs::Classes::asks_reach, crate::specs::Bytes::sfp_bytes, hardware::specs::Prog::pick))]
 fn asks_reach(b: SfpBytes) -> bool
     ensures { result ≡ asks_reach (sfp_bytes b) }
 {
@@ -202,7 +194,6 @@ fn asks_reach(b: SfpBytes) -> bool
 }
 
 // The 10G-BX test.
-#[tactic(auto, unfolding(crate::specs::Classes::bx10g, crate::specs::Bytes::sfp_bytes, hardware::specs::Prog::pick))]
 fn bx10g(b: SfpBytes) -> bool
     ensures { result ≡ bx10g (sfp_bytes b) }
 {
@@ -213,31 +204,28 @@ fn bx10g(b: SfpBytes) -> bool
 }
 
 // The kind, where byte 60 is not needed for it.
-#[tactic(auto, unfolding(crate::specs::Coded::coded_by, hardware::specs::Prog::pick))]
-pub fn coded(c: Codes, bx: bool) -> Coded
+pub fn coded(c: Codes, bx: bool) -> Option<Kind>
     ensures { result ≡ coded_by c bx }
 {
     if has(c.cable, PASSIVE_DA) {
-        return Coded::Known(Kind::DaCu);
+        return Some(Kind::DaCu);
     }
     if has(c.cable, ACTIVE_DA) {
-        return Coded::Open;
+        return None;
     }
-    Coded::Known(fibre(c, bx))
+    Some(fibre(c, bx))
 }
 
-#[tactic(auto, using(crate::proofs::Laws::coded_kind), unfolding(crate::specs::Bytes::sfp_bytes, hardware::specs::Prog::pick))]
 fn kind_of(b: SfpBytes) -> Kind
     ensures { result ≡ kind_of (sfp_bytes b) }
 {
     match coded(codes(b), bx10g(b)) {
-        Coded::Known(kind) => kind,
-        Coded::Open => cable_of(b.b60),
+        Some(kind) => kind,
+        None => cable_of(b.b60),
     }
 }
 
 // The class of a module with these bytes.
-#[tactic(auto, using(crate::proofs::Laws::recorded_class), unfolding(crate::specs::Classes::class_of, crate::specs::Bytes::sfp_bytes, hardware::specs::Prog::pick))]
 pub fn class(b: SfpBytes) -> Classed
     ensures { classed result ≡ class_of (sfp_bytes b) }
 {
@@ -256,7 +244,6 @@ pub fn class(b: SfpBytes) -> Classed
 }
 
 // The requests for bytes 12, 14 and 15.
-#[tactic(auto, using(crate::proofs::Laws::rate_asked), unfolding(crate::specs::Classes::asks_reach, crate::specs::Bytes::sfp_bytes, hardware::specs::Prog::pick))]
 fn bx_requests(b: SfpBytes) -> u8
     ensures { result ≡ pick (asks_rate (sfp_bytes b)) 1 0 + pick (asks_reach (sfp_bytes b)) 2 0 }
 {
@@ -270,7 +257,6 @@ fn bx_requests(b: SfpBytes) -> u8
 }
 
 // The requests for byte 60.
-#[tactic(auto, unfolding(crate::specs::Classes::asks_active, crate::specs::Bytes::sfp_bytes, hardware::specs::Prog::pick))]
 fn active_requests(b: SfpBytes) -> u8
     ensures { result ≡ pick (asks_active (sfp_bytes b)) 1 0 }
 {
@@ -283,7 +269,6 @@ fn active_requests(b: SfpBytes) -> u8
 }
 
 // How many bytes the identification of a module with these bytes requests.
-#[tactic(auto, using(crate::proofs::Laws::pick_most), unfolding(crate::specs::Classes::requests, crate::specs::Bytes::sfp_bytes, hardware::specs::Prog::pick))]
 pub fn requests_of(b: SfpBytes) -> u8
     ensures { result ≡ requests (sfp_bytes b) }
 {

@@ -10,10 +10,12 @@ pub mod qsfp;
 pub mod rate;
 pub mod sum;
 
+use std::fmt;
+
 // The kinds of `sfp.rs`. DaCu: a passive direct-attach cable of copper. DaActiveLimiting: an active one with a limiting
 // amplifier. SrLr: 10GBASE-SR or -LR. Cu1g: 1000BASE-T. Sx1g, Lx1g: 1000BASE-SX, -LX. Bx10g, Bx1g: both directions on one
 // fibre. Unknown: another identifier than an SFP's, or no rule fits. NotPresent: nothing answered.
-#[derive(Clone, Copy)]
+#[derive(Clone, Copy, PartialEq, Eq)]
 pub enum Kind {
     DaCu,
     DaActiveLimiting,
@@ -25,6 +27,34 @@ pub enum Kind {
     Bx1g,
     Unknown,
     NotPresent,
+}
+
+impl Kind {
+    // `==`, as the contracts say it.
+    #[tactic(auto, unfolding(crate::specs::Kinds::is_kind))]
+    pub fn is(self, other: Kind) -> bool
+        ensures { result ≡ is_kind self other }
+    {
+        self == other
+    }
+}
+
+// The name, padded as the format says.
+impl fmt::Display for Kind {
+    fn fmt<W: fmt::Write>(&self, f: &mut fmt::Formatter<W>) -> fmt::Result {
+        f.pad(match self {
+            Kind::DaCu => "DaCu",
+            Kind::DaActiveLimiting => "DaActiveLimiting",
+            Kind::SrLr => "SrLr",
+            Kind::Cu1g => "Cu1g",
+            Kind::Sx1g => "Sx1g",
+            Kind::Lx1g => "Lx1g",
+            Kind::Bx10g => "Bx10g",
+            Kind::Bx1g => "Bx1g",
+            Kind::Unknown => "Unknown",
+            Kind::NotPresent => "NotPresent",
+        })
+    }
 }
 
 // What identifies a module: all that a call on the bus carries of it. multispeed: 10G is tried, and then 1G. comp10g, comp1g
@@ -43,13 +73,6 @@ pub struct Identity {
 #[derive(Clone, Copy)]
 pub struct Module {
     pub identity: Identity,
-}
-
-// What the codes alone decide: the kind, or that it takes the bytes of an active cable.
-#[derive(Clone, Copy)]
-pub enum Coded {
-    Known(Kind),
-    Open,
 }
 
 // The codes of an SFP that its class goes by: bytes 6, 3 and 8.
@@ -76,12 +99,4 @@ pub fn number(kind: Kind) -> u8
         Kind::Unknown => 8,
         Kind::NotPresent => 9,
     }
-}
-
-// Whether the two are one kind.
-#[tactic(auto, unfolding(crate::specs::Kinds::is_kind))]
-pub fn same(kind: Kind, other: Kind) -> bool
-    ensures { result ≡ is_kind kind other }
-{
-    number(kind) == number(other)
 }

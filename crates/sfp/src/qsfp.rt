@@ -1,4 +1,6 @@
 // Classes of QSFP modules by SFF-8636.
+#![tactic(auto, using(crate::proofs::Laws::qsfp_coded_kind, crate::proofs::Laws::qsfp_recorded_class), unfolding(crate::specs::Qsfp::qsfp_recorded, crate::specs::Coded::qsfp_coded, hardware::specs::Prog::pick, crate::specs::Coded::qsfp_cable, crate::specs::Bytes::qsfp_bytes, crate::specs::Classes::qsfp_class_of))]
+
 ghost use Rattle.std.specs.Prelude.{◌≡◌, ◌==◌, nat_lt};
 ghost use Rattle.sfp.specs.declared.Kind.TheVariants.{Unknown};
 ghost use Rattle.sfp.specs.Bytes.{qsfp_bytes, classed};
@@ -8,7 +10,7 @@ ghost use Rattle.hardware.specs.Prog.{pick};
 ghost use Rattle.sfp.specs.Qsfp.{qsfp_recorded};
 
 use crate::class::Classed;
-use crate::{Coded, Identity, Kind, class};
+use crate::{Identity, Kind, class};
 
 // The identifier of a QSFP.
 pub const QSFP: u8 = 0x0d;
@@ -24,7 +26,6 @@ pub struct QsfpBytes {
     pub b93: u8,
 }
 
-#[tactic(auto, unfolding(crate::specs::Qsfp::qsfp_recorded))]
 fn multispeed(g10: u8, g1: u8) -> bool
     ensures { result ≡ (qsfp_recorded g10 g1 Unknown).multispeed }
 {
@@ -34,7 +35,6 @@ fn multispeed(g10: u8, g1: u8) -> bool
     class::both(g1, class::LX, g10, class::LR)
 }
 
-#[tactic(auto, unfolding(crate::specs::Qsfp::qsfp_recorded))]
 pub fn qsfp_recorded(g10: u8, g1: u8, kind: Kind) -> Identity
     ensures { result ≡ qsfp_recorded g10 g1 kind }
 {
@@ -49,20 +49,19 @@ pub fn qsfp_recorded(g10: u8, g1: u8, kind: Kind) -> Identity
 }
 
 // The kind, where byte 83 decides it.
-#[tactic(auto, unfolding(crate::specs::Coded::qsfp_coded, hardware::specs::Prog::pick))]
-pub fn coded(g10: u8) -> Coded
+pub fn coded(g10: u8) -> Option<Kind>
     ensures { result ≡ qsfp_coded g10 }
 {
     if class::has(g10, 0x08) {
-        return Coded::Known(Kind::DaCu);
+        return Some(Kind::DaCu);
     }
     if class::has(g10, class::SR | class::LR) {
-        return Coded::Known(Kind::SrLr);
+        return Some(Kind::SrLr);
     }
     if class::has(g10, 0x01) {
-        return Coded::Known(Kind::DaActiveLimiting);
+        return Some(Kind::DaActiveLimiting);
     }
-    Coded::Open
+    None
 }
 
 // Byte 82: a cable that cannot be taken off.
@@ -80,7 +79,6 @@ pub fn measured(metres: u8) -> bool
 }
 
 // A cable by byte 93, whose high half is the transmitter's technology.
-#[tactic(auto, unfolding(crate::specs::Coded::qsfp_cable, hardware::specs::Prog::pick))]
 pub fn cable_of(technology: u8) -> Kind
     ensures { result ≡ qsfp_cable technology }
 {
@@ -91,7 +89,6 @@ pub fn cable_of(technology: u8) -> Kind
 }
 
 // The kind where byte 83 does not decide it.
-#[tactic(auto, unfolding(hardware::specs::Prog::pick))]
 fn cabled(b: QsfpBytes) -> Kind
     ensures { result ≡ pick (b.b82 == 0x23) (pick (nat_lt 0 b.b92) (qsfp_cable b.b93) Unknown) Unknown }
 {
@@ -103,18 +100,16 @@ fn cabled(b: QsfpBytes) -> Kind
     Kind::Unknown
 }
 
-#[tactic(auto, using(crate::proofs::Laws::qsfp_coded_kind), unfolding(crate::specs::Bytes::qsfp_bytes, hardware::specs::Prog::pick))]
 fn kind_of(b: QsfpBytes) -> Kind
     ensures { result ≡ qsfp_kind_of (qsfp_bytes b) }
 {
     match coded(b.b83) {
-        Coded::Known(kind) => kind,
-        Coded::Open => cabled(b),
+        Some(kind) => kind,
+        None => cabled(b),
     }
 }
 
 // The class of a module with these bytes.
-#[tactic(auto, using(crate::proofs::Laws::qsfp_recorded_class), unfolding(crate::specs::Classes::qsfp_class_of, crate::specs::Bytes::qsfp_bytes, hardware::specs::Prog::pick))]
 pub fn qsfp_class(b: QsfpBytes) -> Classed
     ensures { classed result ≡ qsfp_class_of (qsfp_bytes b) }
 {

@@ -29,9 +29,6 @@ use Rattle.i2c.proofs.Paired.{transferred_pairs}
 use Rattle.sfp.specs.Rate.{DIAG, or_not, selected, rate_byte, soft_rate_select}
 use Rattle.sfp.proofs.Ends.{RATE_STEPS, rate_ends, BYTE_STEPS, WRITTEN_STEPS, not_ends, rate_byte_ends}
 use Rattle.softrate.specs.declared.walk.Rate.{Rate}
-use Rattle.softrate.specs.declared.calls.RateCall.TheVariants.{Going, Over}
-use Rattle.softrate.specs.declared.calls.RateTold.{RateTold}
-use Rattle.softrate.specs.declared.calls.RateTold.TheVariants.{Ask, End, Refused}
 use Rattle.softrate.specs.Walk.{rest_rate}
 use Rattle.softrate.specs.Calls.{open_rate, step_rate, said_rate, stands_rate, follows_rate}
 use Rattle.hardware.specs.Promise.{Keeps}
@@ -41,6 +38,9 @@ use Rattle.i2c.proofs.Ends.{transferred_ends, handshake_after, request_rest_ends
 use Rattle.softrate.specs.declared.spot.Place.{Place}
 use Rattle.softrate.specs.declared.spot.Place.TheVariants.{Reading, Writing}
 use Rattle.softrate.specs.Spot.{request_at, next_byte, on_place, on_at}
+use Rattle.softrate.specs.Aliases.{RateTold}
+use Rattle.hardware.specs.declared.Told.TheVariants.{Ask, End}
+use Rattle.std.specs.Prelude.{Some, None}
 
 pub rate_runs : (q : Sequence) (family device lan : ℕ) (ten : Bool) (t : RateTold) → said_rate t ≡ open_rate q family device lan ten → (l : List Answer)
     → run_asked (said_rate t) l ≡ and_then (open_port family device lan) (λ port. yes (counted (meter_in blank (soft_rate_select q port ten) l) (run (soft_rate_select q port ten) l)))
@@ -53,17 +53,17 @@ pub rate_finishes : (q : Sequence) (port : Port) (ten : Bool) (l : List Answer) 
 rate_finishes q port ten l h w = run_ends (soft_rate_select q port ten) (RATE_STEPS port.family) l (rate_ends q port ten) h w
 
 -- a state that was handed out, with any answer of the kind that its access awaits, is not refused
-pub rate_accepts : (x : Access) (port : Port) (q : Sequence) (ten : Bool) (m : Meter) (s : Rate) (a : Answer) → stands_rate (Ask x (Going port q ten m s)) → fits x a ≡ true
-    → step_rate (Going port q ten m s) a ≡ yes (tally m (rest_rate q port ten s a))
+pub rate_accepts : (x : Access) (port : Port) (q : Sequence) (ten : Bool) (m : Meter) (s : Rate) (a : Answer) → stands_rate (Ok (Ask x (Some (port, q, ten, m, s)))) → fits x a ≡ true
+    → step_rate (Some (port, q, ten, m, s)) a ≡ yes (tally m (rest_rate q port ten s a))
 unfolding stands_rate step_rate admitting question
 rate_accepts x port q ten m s a h e = rw (h.1, ← h.0, e)
 
 pub rate_steps_on : StepsOn said_rate follows_rate stands_rate
 unfolding follows_rate said_rate stands_rate AwaitedIn Awaited left_asked_after left_after IfYes Asks
-rate_steps_on (Ask y (Going port q ten m s)) u a h k w = (k.yields ∙ rate_accepts y port q ten m s a h (is_true (fits y a) w.0), k.limits, tt)
-rate_steps_on (Ask y Over) u a h k w = absurd h
-rate_steps_on (End f m) u a h k w = absurd k
-rate_steps_on (Refused q) u a h k w = absurd k
+rate_steps_on (Ok (Ask y (Some (port, q, ten, m, s)))) u a h k w = (k.yields ∙ rate_accepts y port q ten m s a h (is_true (fits y a) w.0), k.limits, tt)
+rate_steps_on (Ok (Ask y None)) u a h k w = absurd h
+rate_steps_on (Ok (End (f, m))) u a h k w = absurd k
+rate_steps_on (Err q) u a h k w = absurd k
 
 -- its number falls at every accepted step
 pub rate_falls : Falls said_rate follows_rate stands_rate
@@ -154,9 +154,9 @@ module _ (q : Sequence) (port : Port) (ten : Bool) where
       s.request a
 
 -- from any state that passes question 10, whoever made it, the call takes at most so many steps more
-pub rate_lasts : (x : Access) (port : Port) (q : Sequence) (ten : Bool) (m : Meter) (s : Rate) (ks : List (Exchange RateTold)) → stands_rate (Ask x (Going port q ten m s))
-    → AllKept (Accepts said_rate follows_rate) (Ask x (Going port q ten m s)) ks → Lasts said_rate (Ask x (Going port q ten m s)) ks (suc (rate_after port.family ten s))
+pub rate_lasts : (x : Access) (port : Port) (q : Sequence) (ten : Bool) (m : Meter) (s : Rate) (ks : List (Exchange RateTold)) → stands_rate (Ok (Ask x (Some (port, q, ten, m, s))))
+    → AllKept (Accepts said_rate follows_rate) (Ok (Ask x (Some (port, q, ten, m, s)))) ks → Lasts said_rate (Ok (Ask x (Some (port, q, ten, m, s)))) ks (suc (rate_after port.family ten s))
 unfolding said_rate IfYes
 rate_lasts x port q ten m s ks h k =
-    steps_few said_rate follows_rate stands_rate rate_steps_on (Ask x (Going port q ten m s)) ks (suc (rate_after port.family ten s)) h k
+    steps_few said_rate follows_rate stands_rate rate_steps_on (Ok (Ask x (Some (port, q, ten, m, s)))) ks (suc (rate_after port.family ten s)) h k
     (ask_ends x _ (rate_after port.family ten s) (λ a. ends_tally m _ _ (rate_rest_ends q port ten s a)))

@@ -1,3 +1,4 @@
 pub mod Spot
 pub mod Walk
 pub mod Calls
+pub mod Aliases

@@ -1,11 +1,13 @@
 // Where a rate selection stands: two bytes of page A2, each read, changed and written back.
+#![tactic(auto, using(i2c::proofs::Laws::attempts_few, crate::proofs::Laws::before_fits, crate::proofs::Laws::up_done), unfolding(crate::specs::Spot::offset_of, crate::specs::Spot::request_of, crate::specs::Spot::request_at, crate::specs::Spot::tries_at, crate::specs::Spot::up_to, crate::specs::Spot::before, hardware::specs::Prog::pick, crate::specs::Spot::cap_at, crate::specs::Spot::valid_spot))]
+
 ghost use Rattle.std.specs.Prelude.{◌≡◌};
 ghost use Rattle.softrate.specs.Spot.{offset_of, request_of, request_at, tries_at, up_to, before, cap_at, valid_spot};
 
 use hardware::Port;
 use i2c::once::Request;
 
-// Writing: with the byte that was read.
+// Which request is made; no `Option`, since neither is the want of one. Writing: with the byte that was read.
 #[derive(Clone, Copy)]
 pub enum Place {
     Reading,
@@ -22,7 +24,6 @@ pub struct Spot {
 
 const DIAG: u8 = 0xa2;
 
-#[tactic(auto, unfolding(crate::specs::Spot::offset_of))]
 fn offset(second: bool) -> u8
     ensures { result ≡ offset_of second }
 {
@@ -32,7 +33,6 @@ fn offset(second: bool) -> u8
     0x6e
 }
 
-#[tactic(auto, unfolding(crate::specs::Spot::request_of))]
 fn requested(ten: bool, second: bool, p: Place) -> Request
     ensures { result ≡ request_of ten second p }
 {
@@ -44,7 +44,6 @@ fn requested(ten: bool, second: bool, p: Place) -> Request
     }
 }
 
-#[tactic(auto, unfolding(crate::specs::Spot::request_at))]
 pub fn request(ten: bool, s: Spot) -> Request
     ensures { result ≡ request_at ten s }
 {
@@ -53,7 +52,6 @@ pub fn request(ten: bool, s: Spot) -> Request
 }
 
 // A write has two attempts.
-#[tactic(auto, using(i2c::proofs::Laws::attempts_few), unfolding(crate::specs::Spot::tries_at))]
 pub fn tries(port: Port, p: Place) -> u8
     ensures { result ≡ tries_at port p }
 {
@@ -64,7 +62,6 @@ pub fn tries(port: Port, p: Place) -> u8
 }
 
 // The most transfers of a byte up to a request's end.
-#[tactic(auto, using(i2c::proofs::Laws::attempts_few), unfolding(crate::specs::Spot::up_to))]
 fn up_to(port: Port, p: Place) -> u32
     ensures { result ≡ up_to port p }
 {
@@ -75,7 +72,6 @@ fn up_to(port: Port, p: Place) -> u32
 }
 
 // The most transfers before a byte.
-#[tactic(auto, using(i2c::proofs::Laws::attempts_few), unfolding(crate::specs::Spot::before, hardware::specs::Prog::pick))]
 fn before(port: Port, second: bool) -> u32
     ensures { result ≡ before port second }
 {
@@ -86,7 +82,6 @@ fn before(port: Port, second: bool) -> u32
 }
 
 // The most transfers up to this spot's end.
-#[tactic(auto, using(i2c::proofs::Laws::attempts_few, crate::proofs::Laws::before_fits, crate::proofs::Laws::up_done), unfolding(crate::specs::Spot::cap_at))]
 pub fn cap(port: Port, s: Spot) -> u32
     ensures { result ≡ cap_at port s }
 {
@@ -95,7 +90,6 @@ pub fn cap(port: Port, s: Spot) -> u32
 }
 
 // Before the first byte nothing has failed.
-#[tactic(auto, unfolding(crate::specs::Spot::valid_spot, hardware::specs::Prog::pick))]
 pub fn valid(s: Spot) -> bool
     ensures { result ≡ valid_spot s }
 {

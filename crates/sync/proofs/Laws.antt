@@ -10,7 +10,7 @@ use Rattle.sync.specs.Lock.{swesmbi, swesmbi_next, swesmbi_check, access_swesmbi
 use Rattle.sync.specs.Lock.{lock}
 use Rattle.sync.specs.Resource.{acquire_tries, try_read}
 use Rattle.sync.specs.declared.swesmbi.Swesmbi.TheVariants.{Setting}
-use Rattle.sync.specs.declared.swesmbi.SwesmbiNext.TheVariants.{Going}
+use Rattle.hardware.specs.declared.Next.TheVariants.{Going}
 
 -- with a try left, the wait for SWESMBI begins by reading SWSM
 pub swesmbi_more : (tries : ℕ) → (tries ≡ 0 → ⊥) → swesmbi_next (Going (Setting (tries - 1) Reading)) ≡ erase (swesmbi tries)

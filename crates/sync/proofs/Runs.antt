@@ -17,16 +17,13 @@ use Rattle.hardware.proofs.Longest.{Falls, lasting_falls, Accepts, steps_few}
 use Rattle.hardware.proofs.Ends.{run_ends, ask_ends, ends_erase}
 use Rattle.sync.specs.declared.lock.Lock.{Lock}
 use Rattle.sync.specs.declared.unlock.Unlock.{Unlock}
-use Rattle.sync.specs.declared.calls.LockCall.TheVariants.{Going as LockGoing, Over as LockOver}
-use Rattle.sync.specs.declared.calls.LockTold.{LockTold}
-use Rattle.sync.specs.declared.calls.LockTold.TheVariants.{Ask as LockAsk, End as LockEnd, Refused as LockRefused}
-use Rattle.sync.specs.declared.calls.UnlockCall.TheVariants.{Going as UnlockGoing, Over as UnlockOver}
-use Rattle.sync.specs.declared.calls.UnlockTold.{UnlockTold}
-use Rattle.sync.specs.declared.calls.UnlockTold.TheVariants.{Ask as UnlockAsk, End as UnlockEnd, Refused as UnlockRefused}
 use Rattle.sync.specs.Lock.{lock, rest_lock, unlock, rest_unlock}
 use Rattle.sync.specs.Calls.{open_lock, step_lock, said_lock, stands_lock, open_unlock, step_unlock, said_unlock, stands_unlock, follows_lock, follows_unlock}
 use Rattle.sync.proofs.Ends.{LOCK_STEPS, lock_ends, UNLOCK_STEPS, unlock_ends, lock_after, unlock_after, lock_rest_ends, unlock_rest_ends}
 use Rattle.hardware.specs.Promise.{Keeps}
+use Rattle.sync.specs.Aliases.{UnlockTold, LockTold}
+use Rattle.hardware.specs.declared.Told.TheVariants.{Ask, End}
+use Rattle.std.specs.Prelude.{Ok, Err, Some, None}
 
 pub lock_runs : (family : ℕ) (r : LockTold) → said_lock r ≡ open_lock family → (l : List Answer)
     → run_asked (said_lock r) l ≡ and_then (open_family family) (λ f. yes (run (lock f) l))
@@ -37,17 +34,17 @@ pub lock_finishes : (f : Family) (l : List Answer) → LOCK_STEPS ≤ length l �
 lock_finishes f l h w = run_ends (lock f) LOCK_STEPS l (lock_ends f) h w
 
 -- a state that was handed out, with any answer of the kind that its access awaits, is not refused
-pub lock_accepts : (x : Access) (f : Family) (t : Lock) (a : Answer) → stands_lock (LockAsk x (LockGoing f t)) → fits x a ≡ true
-    → step_lock (LockGoing f t) a ≡ yes (erase (rest_lock f t a))
+pub lock_accepts : (x : Access) (f : Family) (t : Lock) (a : Answer) → stands_lock (Ok (Ask x (Some (f, t)))) → fits x a ≡ true
+    → step_lock (Some (f, t)) a ≡ yes (erase (rest_lock f t a))
 unfolding stands_lock step_lock admitting question
 lock_accepts x f t a h e = rw (h.1, ← h.0, e)
 
 lock_on : StepsOn said_lock follows_lock stands_lock
 unfolding follows_lock said_lock stands_lock AwaitedIn Awaited left_asked_after left_after IfYes Asks
-lock_on (LockAsk y (LockGoing f t)) u a h k w = (k.yields ∙ lock_accepts y f t a h (is_true (fits y a) w.0), k.limits, tt)
-lock_on (LockAsk y LockOver) u a h k w = absurd h
-lock_on (LockEnd o) u a h k w = absurd k
-lock_on (LockRefused q) u a h k w = absurd k
+lock_on (Ok (Ask y (Some (f, t)))) u a h k w = (k.yields ∙ lock_accepts y f t a h (is_true (fits y a) w.0), k.limits, tt)
+lock_on (Ok (Ask y None)) u a h k w = absurd h
+lock_on (Ok (End o)) u a h k w = absurd k
+lock_on (Err q) u a h k w = absurd k
 
 -- its number falls at every accepted step
 pub lock_falls : Falls said_lock follows_lock stands_lock
@@ -66,17 +63,17 @@ unlock_runs family r e l = ap (λ x. run_asked x l) e ∙ runs_open (open_family
 pub unlock_finishes : (f : Family) (l : List Answer) → UNLOCK_STEPS ≤ length l → Awaited (unlock f) l → (v : R (Unit {0})) × ((run (unlock f) l).status ≡ ended v)
 unlock_finishes f l h w = run_ends (unlock f) UNLOCK_STEPS l (unlock_ends f) h w
 
-pub unlock_accepts : (x : Access) (f : Family) (t : Unlock) (a : Answer) → stands_unlock (UnlockAsk x (UnlockGoing f t)) → fits x a ≡ true
-    → step_unlock (UnlockGoing f t) a ≡ yes (erase (rest_unlock f t a))
+pub unlock_accepts : (x : Access) (f : Family) (t : Unlock) (a : Answer) → stands_unlock (Ok (Ask x (Some (f, t)))) → fits x a ≡ true
+    → step_unlock (Some (f, t)) a ≡ yes (erase (rest_unlock f t a))
 unfolding stands_unlock step_unlock admitting question
 unlock_accepts x f t a h e = rw (← h, e)
 
 unlock_on : StepsOn said_unlock follows_unlock stands_unlock
 unfolding follows_unlock said_unlock stands_unlock AwaitedIn Awaited left_asked_after left_after IfYes Asks
-unlock_on (UnlockAsk y (UnlockGoing f t)) u a h k w = (k.yields ∙ unlock_accepts y f t a h (is_true (fits y a) w.0), k.limits, tt)
-unlock_on (UnlockAsk y UnlockOver) u a h k w = absurd h
-unlock_on (UnlockEnd o) u a h k w = absurd k
-unlock_on (UnlockRefused q) u a h k w = absurd k
+unlock_on (Ok (Ask y (Some (f, t)))) u a h k w = (k.yields ∙ unlock_accepts y f t a h (is_true (fits y a) w.0), k.limits, tt)
+unlock_on (Ok (Ask y None)) u a h k w = absurd h
+unlock_on (Ok (End o)) u a h k w = absurd k
+unlock_on (Err q) u a h k w = absurd k
 
 pub unlock_falls : Falls said_unlock follows_unlock stands_unlock
 unlock_falls = lasting_falls said_unlock follows_unlock stands_unlock unlock_on
@@ -87,12 +84,12 @@ pub unlock_driven : (family : ℕ) (t : UnlockTold) → Keeps (said_unlock t ≡
 unlock_driven family t k ks kept w = opened_runs said_unlock follows_unlock stands_unlock unlock_on t ks k kept w ∙ unlock_runs family t k.yields (answers_of ks)
 
 -- from any state that passes question 10, whoever made it, a call takes at most so many steps more
-pub lock_lasts : (x : Access) (f : Family) (s : Lock) (ks : List (Exchange LockTold)) → stands_lock (LockAsk x (LockGoing f s)) → AllKept (Accepts said_lock follows_lock) (LockAsk x (LockGoing f s)) ks → Lasts said_lock (LockAsk x (LockGoing f s)) ks (suc (lock_after s))
+pub lock_lasts : (x : Access) (f : Family) (s : Lock) (ks : List (Exchange LockTold)) → stands_lock (Ok (Ask x (Some (f, s)))) → AllKept (Accepts said_lock follows_lock) (Ok (Ask x (Some (f, s)))) ks → Lasts said_lock (Ok (Ask x (Some (f, s)))) ks (suc (lock_after s))
 unfolding said_lock IfYes
 lock_lasts x f s ks h k =
-    steps_few said_lock follows_lock stands_lock lock_on (LockAsk x (LockGoing f s)) ks (suc (lock_after s)) h k (ask_ends x _ (lock_after s) (λ a. ends_erase _ _ (lock_rest_ends f s a)))
+    steps_few said_lock follows_lock stands_lock lock_on (Ok (Ask x (Some (f, s)))) ks (suc (lock_after s)) h k (ask_ends x _ (lock_after s) (λ a. ends_erase _ _ (lock_rest_ends f s a)))
 
-pub unlock_lasts : (x : Access) (f : Family) (s : Unlock) (ks : List (Exchange UnlockTold)) → stands_unlock (UnlockAsk x (UnlockGoing f s)) → AllKept (Accepts said_unlock follows_unlock) (UnlockAsk x (UnlockGoing f s)) ks → Lasts said_unlock (UnlockAsk x (UnlockGoing f s)) ks (suc (unlock_after s))
+pub unlock_lasts : (x : Access) (f : Family) (s : Unlock) (ks : List (Exchange UnlockTold)) → stands_unlock (Ok (Ask x (Some (f, s)))) → AllKept (Accepts said_unlock follows_unlock) (Ok (Ask x (Some (f, s)))) ks → Lasts said_unlock (Ok (Ask x (Some (f, s)))) ks (suc (unlock_after s))
 unfolding said_unlock IfYes
 unlock_lasts x f s ks h k =
-    steps_few said_unlock follows_unlock stands_unlock unlock_on (UnlockAsk x (UnlockGoing f s)) ks (suc (unlock_after s)) h k (ask_ends x _ (unlock_after s) (λ a. ends_erase _ _ (unlock_rest_ends f s a)))
+    steps_few said_unlock follows_unlock stands_unlock unlock_on (Ok (Ask x (Some (f, s)))) ks (suc (unlock_after s)) h k (ask_ends x _ (unlock_after s) (λ a. ends_erase _ _ (unlock_rest_ends f s a)))

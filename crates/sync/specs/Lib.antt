@@ -2,3 +2,4 @@ pub mod Regs
 pub mod Lock
 pub mod Resource
 pub mod Calls
+pub mod Aliases

@@ -8,22 +8,18 @@ use Rattle.hardware.specs.declared.Answer.{Answer}
 use Rattle.hardware.specs.Asked.{is}
 use Rattle.hardware.specs.Failures.{Semaphore}
 use Rattle.hardware.specs.Prog.{Prog, ret, ask, note, Lapsed, erase, R, Ok, Err, or_err, ◌>>?◌, pick}
-use Rattle.hardware.specs.Registers.{none_of, read, checked, micros, outcome, flag}
+use Rattle.hardware.specs.Registers.{none_of, read, checked, micros, reply}
 use Rattle.hardware.specs.Poll.{poll, access_poll, rest_poll, valid_poll}
 use Rattle.hardware.specs.Change.{change, access_update, rest_update}
 use Rattle.sync.specs.declared.swesmbi.Swesmbi.{Swesmbi}
 use Rattle.sync.specs.declared.swesmbi.Swesmbi.TheVariants.{Setting, Checking, Waiting}
-use Rattle.sync.specs.declared.swesmbi.SwesmbiNext.{SwesmbiNext}
-use Rattle.sync.specs.declared.swesmbi.SwesmbiNext.TheVariants.{Going as SwesmbiGoing, End as SwesmbiEnd}
 use Rattle.sync.specs.declared.lock.Lock.{Lock}
 use Rattle.sync.specs.declared.lock.Lock.TheVariants.{Smbi, Second, Regsmp, Back}
-use Rattle.sync.specs.declared.lock.LockNext.{LockNext}
-use Rattle.sync.specs.declared.lock.LockNext.TheVariants.{Going as LockGoing, End as LockEnd}
 use Rattle.sync.specs.declared.unlock.Unlock.{Unlock}
 use Rattle.sync.specs.declared.unlock.Unlock.TheVariants.{Sync, Swsm}
-use Rattle.sync.specs.declared.unlock.UnlockNext.{UnlockNext}
-use Rattle.sync.specs.declared.unlock.UnlockNext.TheVariants.{Going as UnlockGoing, End as UnlockEnd}
 use Rattle.sync.specs.Regs.{TRIES, SMBI, SWESMBI, REGSMP, smbi_watch, regsmp_watch, set_swesmbi, back_swsm, clear_sync}
+use Rattle.sync.specs.Aliases.{UnlockNext, LockNext, SwesmbiNext}
+use Rattle.hardware.specs.declared.Next.TheVariants.{Going, End}
 
 -- 82599: SWESMBI is ours if it reads back as set; again: what follows the wait
 unfoldable pub swesmbi_seen : (Answer → Prog (R Bool)) → ℕ → Prog (R Bool)
@@ -75,8 +71,8 @@ rest_swesmbi (Checking left) a = or_err (swesmbi_seen (λ _. swesmbi left)) (che
 rest_swesmbi (Waiting left) a = swesmbi left
 
 unfoldable pub swesmbi_next : SwesmbiNext → Prog (R Bool)
-swesmbi_next (SwesmbiGoing s) = ask (access_swesmbi s) (λ a. erase (rest_swesmbi s a))
-swesmbi_next (SwesmbiEnd v) = ret (flag v)
+swesmbi_next (Going s) = ask (access_swesmbi s) (λ a. erase (rest_swesmbi s a))
+swesmbi_next (End v) = ret (reply v)
 
 unfoldable pub valid_swesmbi : Swesmbi → Bool
 valid_swesmbi (Setting left t) = ltb left TRIES
@@ -85,8 +81,8 @@ valid_swesmbi (Waiting left) = ltb left TRIES
 
 -- what is left keeps within the limits
 unfoldable pub valid_swesmbi_next : SwesmbiNext → Bool
-valid_swesmbi_next (SwesmbiGoing s) = valid_swesmbi s
-valid_swesmbi_next (SwesmbiEnd v) = true
+valid_swesmbi_next (Going s) = valid_swesmbi s
+valid_swesmbi_next (End v) = true
 
 unfoldable pub access_lock : Family → Lock → Access
 access_lock family (Smbi t) = access_poll (smbi_watch family) t
@@ -101,8 +97,8 @@ rest_lock family (Regsmp t) a = rest_poll (regsmp_watch family) t a >>? regsmp_d
 rest_lock family (Back held t) a = rest_update (back_swsm family) t a >>? λ _. ret (Err (Semaphore held))
 
 unfoldable pub lock_next : Family → LockNext → Prog (R (Unit {0}))
-lock_next family (LockGoing s) = ask (access_lock family s) (λ a. erase (rest_lock family s a))
-lock_next family (LockEnd o) = ret (outcome o)
+lock_next family (Going s) = ask (access_lock family s) (λ a. erase (rest_lock family s a))
+lock_next family (End o) = ret (reply o)
 
 unfoldable pub valid_lock : Lock → Bool
 valid_lock (Smbi t) = valid_poll TRIES t
@@ -111,8 +107,8 @@ valid_lock (Regsmp t) = valid_poll TRIES t
 valid_lock (Back held t) = true
 
 unfoldable pub valid_lock_next : LockNext → Bool
-valid_lock_next (LockGoing s) = valid_lock s
-valid_lock_next (LockEnd o) = true
+valid_lock_next (Going s) = valid_lock s
+valid_lock_next (End o) = true
 
 unfoldable pub access_unlock : Family → Unlock → Access
 access_unlock family (Sync t) = access_update (clear_sync family REGSMP) t
@@ -123,5 +119,5 @@ rest_unlock family (Sync t) a = rest_update (clear_sync family REGSMP) t a >>? �
 rest_unlock family (Swsm t) a = rest_update (back_swsm family) t a
 
 unfoldable pub unlock_next : Family → UnlockNext → Prog (R (Unit {0}))
-unlock_next family (UnlockGoing s) = ask (access_unlock family s) (λ a. erase (rest_unlock family s a))
-unlock_next family (UnlockEnd o) = ret (outcome o)
+unlock_next family (Going s) = ask (access_unlock family s) (λ a. erase (rest_unlock family s a))
+unlock_next family (End o) = ret (reply o)

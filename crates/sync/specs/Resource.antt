@@ -10,20 +10,18 @@ use Rattle.hardware.specs.declared.Answer.{Answer}
 use Rattle.hardware.specs.Asked.{is}
 use Rattle.hardware.specs.Failures.{Semaphore}
 use Rattle.hardware.specs.Prog.{Prog, ret, ask, note, Lapsed, erase, R, Ok, Err, or_err, ◌>>=◌, ◌>>?◌, pick}
-use Rattle.hardware.specs.Registers.{none_of, read, write, delay, checked, written, micros, outcome}
+use Rattle.hardware.specs.Registers.{none_of, read, write, delay, checked, written, micros, reply}
 use Rattle.hardware.specs.Change.{change, access_update, rest_update}
 use Rattle.hardware.specs.declared.change.Change.{Change}
 use Rattle.sync.specs.declared.acquire_bits.AcquireBits.{AcquireBits}
 use Rattle.sync.specs.declared.acquire_bits.Stage.{Stage}
 use Rattle.sync.specs.declared.acquire_bits.Stage.TheVariants.{Locking, Reading, Taking, Taken, Muxing, Unlocking, Waiting}
-use Rattle.sync.specs.declared.acquire_bits.AcquireBitsNext.{AcquireBitsNext}
-use Rattle.sync.specs.declared.acquire_bits.AcquireBitsNext.TheVariants.{Going as AcquireGoing, End as AcquireEnd}
 use Rattle.sync.specs.declared.release_bits.ReleaseBits.{ReleaseBits}
 use Rattle.sync.specs.declared.release_bits.ReleaseBits.TheVariants.{Muxing as Unmuxing, Locking as Relocking, Clearing, Unlocking as Releasing, Waiting as Settling}
-use Rattle.sync.specs.declared.release_bits.ReleaseBitsNext.{ReleaseBitsNext}
-use Rattle.sync.specs.declared.release_bits.ReleaseBitsNext.TheVariants.{Going as ReleaseGoing, End as ReleaseEnd}
 use Rattle.sync.specs.Regs.{sw_fw_sync, bits, mux, tries, clear_sync, set_mux, release_us}
 use Rattle.sync.specs.Lock.{lock, access_lock, rest_lock, valid_lock, unlock, access_unlock, rest_unlock}
+use Rattle.sync.specs.Aliases.{AcquireBitsNext, ReleaseBitsNext}
+use Rattle.hardware.specs.declared.Next.TheVariants.{Going, End}
 
 -- all the bits that stand against taking a mask
 unfoldable pub against : Family → ℕ → ℕ
@@ -106,7 +104,7 @@ rest_acquire_stage port mask left (Locking t) a =
     rest_lock port.family t a >>? λ _. try_read port mask left
 rest_acquire_stage port mask left Reading a = sync_seen port mask (acquire_tries port mask left) (checked a)
 rest_acquire_stage port mask left (Taking v) a = unlock port.family >>? λ _. taken port mask (written a)
-rest_acquire_stage port mask left (Taken t w) a = rest_unlock port.family t a >>? λ _. taken port mask (outcome w)
+rest_acquire_stage port mask left (Taken t w) a = rest_unlock port.family t a >>? λ _. taken port mask (reply w)
 rest_acquire_stage port mask left (Muxing t) a = rest_update (set_mux true) t a
 rest_acquire_stage port mask left (Unlocking t held) a = rest_unlock port.family t a >>? λ _. try_again port mask left held
 rest_acquire_stage port mask left (Waiting held) a = acquire_tries port mask left held
@@ -115,8 +113,8 @@ unfoldable pub rest_acquire_bits : Port → ℕ → AcquireBits → Answer → P
 rest_acquire_bits port mask s = rest_acquire_stage port mask s.left s.stage
 
 unfoldable pub acquire_bits_next : Port → ℕ → AcquireBitsNext → Prog (R (Unit {0}))
-acquire_bits_next port mask (AcquireGoing s) = ask (access_acquire_bits port mask s) (λ a. erase (rest_acquire_bits port mask s a))
-acquire_bits_next port mask (AcquireEnd o) = ret (outcome o)
+acquire_bits_next port mask (Going s) = ask (access_acquire_bits port mask s) (λ a. erase (rest_acquire_bits port mask s a))
+acquire_bits_next port mask (End o) = ret (reply o)
 
 unfoldable pub valid_acquire_stage : Stage → Bool
 valid_acquire_stage (Locking t) = valid_lock t
@@ -133,8 +131,8 @@ valid_acquire_bits family s = pick (ltb s.left (tries family)) (valid_acquire_st
 
 -- what is left keeps within the limits
 unfoldable pub valid_acquire_bits_next : Family → AcquireBitsNext → Bool
-valid_acquire_bits_next family (AcquireGoing s) = valid_acquire_bits family s
-valid_acquire_bits_next family (AcquireEnd o) = true
+valid_acquire_bits_next family (Going s) = valid_acquire_bits family s
+valid_acquire_bits_next family (End o) = true
 
 unfoldable pub access_release_bits : Port → ℕ → ReleaseBits → Access
 access_release_bits port mask (Unmuxing t) = access_update (set_mux false) t
@@ -148,12 +146,12 @@ rest_release_bits port mask (Unmuxing t) a = rest_update (set_mux false) t a >>?
 rest_release_bits port mask (Relocking t) a =
     rest_lock port.family t a >>? λ _. clearing port mask
 rest_release_bits port mask (Clearing t) a = rest_update (clear_bits port.family mask) t a >>= cleared port mask
-rest_release_bits port mask (Releasing t w) a = rest_unlock port.family t a >>? λ _. or_err (λ _. settle port mask) (outcome w)
+rest_release_bits port mask (Releasing t w) a = rest_unlock port.family t a >>? λ _. or_err (λ _. settle port mask) (reply w)
 rest_release_bits port mask Settling a = ret (Ok tt)
 
 unfoldable pub release_bits_next : Port → ℕ → ReleaseBitsNext → Prog (R (Unit {0}))
-release_bits_next port mask (ReleaseGoing s) = ask (access_release_bits port mask s) (λ a. erase (rest_release_bits port mask s a))
-release_bits_next port mask (ReleaseEnd o) = ret (outcome o)
+release_bits_next port mask (Going s) = ask (access_release_bits port mask s) (λ a. erase (rest_release_bits port mask s a))
+release_bits_next port mask (End o) = ret (reply o)
 
 unfoldable pub valid_release_bits : ReleaseBits → Bool
 valid_release_bits (Unmuxing t) = true
@@ -163,5 +161,5 @@ valid_release_bits (Releasing t w) = true
 valid_release_bits Settling = true
 
 unfoldable pub valid_release_bits_next : ReleaseBitsNext → Bool
-valid_release_bits_next (ReleaseGoing s) = valid_release_bits s
-valid_release_bits_next (ReleaseEnd o) = true
+valid_release_bits_next (Going s) = valid_release_bits s
+valid_release_bits_next (End o) = true

@@ -1,4 +1,6 @@
 // The stepwise calls of `lock` and `unlock`: an opening names the first access, and each step the next, or the end.
+#![tactic(auto, using(hardware::proofs::Laws::admits_no, hardware::proofs::Laws::admits_valid, hardware::proofs::Laws::admits_yes), unfolding(crate::specs::Calls::said_lock, crate::specs::Lock::lock_next, crate::specs::Calls::stands_lock, crate::specs::Lock::valid_lock_next, crate::specs::Calls::open_lock, hardware::specs::Asked::and_then, hardware::specs::Asked::opened, crate::specs::Calls::step_lock, crate::specs::Calls::said_unlock, crate::specs::Lock::unlock_next, crate::specs::Calls::stands_unlock, crate::specs::Calls::open_unlock, crate::specs::Calls::step_unlock))]
+
 ghost use Rattle.std.specs.Prelude.{◌≡◌, true};
 ghost use Rattle.hardware.specs.Asked.{yes};
 ghost use Rattle.hardware.specs.Promise.{Keeps};
@@ -7,104 +9,61 @@ ghost use Rattle.sync.specs.Calls.{open_lock, step_lock, said_lock, stands_lock,
 
 use crate::lock::{Lock, LockNext};
 use crate::unlock::{Unlock, UnlockNext};
-use hardware::{Access, Admitted, Answer, Family, FamilyOpening, Outcome, Refusal};
+use hardware::{Answer, Family, Next, R, Refusal, Told};
 
-#[derive(Clone, Copy)]
-pub enum LockCall {
-    Going(Family, Lock),
-    Over,
-}
+// The state of a call, none once it is over, and so below.
+pub type LockCall = Option<(Family, Lock)>;
 
-#[derive(Clone, Copy)]
-pub enum LockTold {
-    Ask(Access, LockCall),
-    End(Outcome),
-    Refused(Refusal),
-}
+pub type LockTold = Result<Told<LockCall, R<()>>, Refusal>;
 
-#[derive(Clone, Copy)]
-pub enum UnlockCall {
-    Going(Family, Unlock),
-    Over,
-}
+pub type UnlockCall = Option<(Family, Unlock)>;
 
-#[derive(Clone, Copy)]
-pub enum UnlockTold {
-    Ask(Access, UnlockCall),
-    End(Outcome),
-    Refused(Refusal),
-}
+pub type UnlockTold = Result<Told<UnlockCall, R<()>>, Refusal>;
 
-#[tactic(auto, unfolding(crate::specs::Calls::said_lock, crate::specs::Lock::lock_next, crate::specs::Calls::stands_lock, crate::specs::Lock::valid_lock_next))]
 fn lock_told(family: Family, n: LockNext) -> LockTold
     ensures { Keeps (said_lock result ≡ yes (lock_next family n)) (valid_lock_next n ≡ true → stands_lock result) }
 {
     match n {
-        LockNext::Going(t) => LockTold::Ask(
-            crate::lock::access(family, t),
-            LockCall::Going(family, t),
-        ),
-        LockNext::End(o) => LockTold::End(o),
+        Next::Going(t) => Ok(Told::Ask(crate::lock::access(family, t), Some((family, t)))),
+        Next::End(o) => Ok(Told::End(o)),
     }
 }
 
-#[tactic(auto, unfolding(crate::specs::Calls::open_lock, hardware::specs::Asked::and_then, hardware::specs::Asked::family_opened, crate::specs::Calls::said_lock, crate::specs::Calls::stands_lock))]
 pub fn lock_open(family: u32) -> LockTold
     ensures { Keeps (said_lock result ≡ open_lock family) (stands_lock result) }
 {
-    match hardware::open_family(family) {
-        FamilyOpening::Family(f) => lock_told(f, crate::lock::open(f)),
-        FamilyOpening::Refused(q) => LockTold::Refused(q),
-    }
+    let f = hardware::open_family(family)?;
+    lock_told(f, crate::lock::open(f))
 }
 
-#[tactic(auto, using(hardware::proofs::Laws::admits_no, hardware::proofs::Laws::admits_valid, hardware::proofs::Laws::admits_yes), unfolding(crate::specs::Calls::step_lock, crate::specs::Calls::said_lock, crate::specs::Calls::stands_lock))]
 pub fn lock_step(s: LockCall, a: Answer) -> LockTold
     ensures { Keeps (said_lock result ≡ step_lock s a) (stands_lock result) }
 {
-    match s {
-        LockCall::Going(f, t) => {
-            match hardware::admit(crate::lock::valid(t), crate::lock::access(f, t), a) {
-                Admitted::Yes => lock_told(f, crate::lock::step(f, t, a)),
-                Admitted::No(q) => LockTold::Refused(q),
-            }
-        }
-        LockCall::Over => LockTold::Refused(Refusal::Finished),
-    }
+    let (family, t) = s.ok_or(Refusal::Finished)?;
+    hardware::admit(crate::lock::valid(t), crate::lock::access(family, t), a)?;
+    lock_told(family, crate::lock::step(family, t, a))
 }
 
-#[tactic(auto, unfolding(crate::specs::Calls::said_unlock, crate::specs::Lock::unlock_next, crate::specs::Calls::stands_unlock))]
 fn unlock_told(family: Family, n: UnlockNext) -> UnlockTold
     ensures { Keeps (said_unlock result ≡ yes (unlock_next family n)) (stands_unlock result) }
 {
     match n {
-        UnlockNext::Going(t) => UnlockTold::Ask(
-            crate::unlock::access(family, t),
-            UnlockCall::Going(family, t),
-        ),
-        UnlockNext::End(o) => UnlockTold::End(o),
+        Next::Going(t) => Ok(Told::Ask(crate::unlock::access(family, t), Some((family, t)))),
+        Next::End(o) => Ok(Told::End(o)),
     }
 }
 
-#[tactic(auto, unfolding(crate::specs::Calls::open_unlock, hardware::specs::Asked::and_then, hardware::specs::Asked::family_opened, crate::specs::Calls::said_unlock, crate::specs::Calls::stands_unlock))]
 pub fn unlock_open(family: u32) -> UnlockTold
     ensures { Keeps (said_unlock result ≡ open_unlock family) (stands_unlock result) }
 {
-    match hardware::open_family(family) {
-        FamilyOpening::Family(f) => unlock_told(f, crate::unlock::open(f)),
-        FamilyOpening::Refused(q) => UnlockTold::Refused(q),
-    }
+    let f = hardware::open_family(family)?;
+    unlock_told(f, crate::unlock::open(f))
 }
 
-#[tactic(auto, using(hardware::proofs::Laws::admits_no, hardware::proofs::Laws::admits_yes), unfolding(crate::specs::Calls::step_unlock, crate::specs::Calls::said_unlock, crate::specs::Calls::stands_unlock))]
 pub fn unlock_step(s: UnlockCall, a: Answer) -> UnlockTold
     ensures { Keeps (said_unlock result ≡ step_unlock s a) (stands_unlock result) }
 {
-    match s {
-        UnlockCall::Going(f, t) => match hardware::admit(true, crate::unlock::access(f, t), a) {
-            Admitted::Yes => unlock_told(f, crate::unlock::step(f, t, a)),
-            Admitted::No(q) => UnlockTold::Refused(q),
-        },
-        UnlockCall::Over => UnlockTold::Refused(Refusal::Finished),
-    }
+    let (f, t) = s.ok_or(Refusal::Finished)?;
+    hardware::admit(true, crate::unlock::access(f, t), a)?;
+    unlock_told(f, crate::unlock::step(f, t, a))
 }

@@ -1,8 +1,10 @@
 // The register semaphore: SMBI, then SWESMBI on the 82599 and REGSMP on the others.
+#![tactic(auto, using(hardware::proofs::Prog::going, hardware::proofs::Prog::over), unfolding(crate::specs::Lock::lapsed, crate::specs::Lock::lock_next, crate::specs::Lock::access_lock, crate::specs::Lock::rest_lock, hardware::specs::Change::change, hardware::specs::Change::access_update, hardware::specs::Change::rest_update, hardware::specs::Prog::erase, crate::specs::Lock::valid_lock_next, crate::specs::Lock::valid_lock, hardware::specs::Change::update_next, hardware::specs::Prog::followed, hardware::specs::Prog::or_err, hardware::specs::Registers::reply, hardware::specs::Failures::failure_of, crate::specs::Lock::swesmbi_done, hardware::specs::Prog::pick, crate::specs::Lock::swesmbi_next, crate::specs::Lock::valid_swesmbi_next, crate::specs::Lock::regsmp_done, hardware::specs::Poll::poll_next, hardware::specs::Poll::valid_poll_next, crate::specs::Lock::second, crate::specs::Lock::smbi_done, crate::specs::Lock::lock))]
+
 ghost use Rattle.std.specs.Prelude.{◌≡◌, true};
 ghost use Rattle.hardware.specs.Failures.{Semaphore};
 ghost use Rattle.hardware.specs.Prog.{erase, followed, or_err, ret, Err};
-ghost use Rattle.hardware.specs.Registers.{word, flag};
+ghost use Rattle.hardware.specs.Registers.{reply};
 ghost use Rattle.hardware.specs.Poll.{poll_next, valid_poll_next};
 ghost use Rattle.hardware.specs.Change.{update_next};
 ghost use Rattle.sync.specs.Regs.{TRIES, smbi_watch, regsmp_watch, back_swsm};
@@ -11,7 +13,7 @@ ghost use Rattle.sync.specs.Lock.{lock, second, lapsed, smbi_done, swesmbi_done,
 use crate::regs::{REGSMP, SMBI, SWESMBI, TRIES};
 use crate::swesmbi::{Swesmbi, SwesmbiNext};
 use hardware::poll::{Poll, PollNext};
-use hardware::{Access, Answer, Error, Family, Flag, Outcome, Update, UpdateNext, Word};
+use hardware::{Access, Answer, Error, Family, Next, R, Update, UpdateNext};
 
 // Back: SWSM's bits go back, and the held bits are then reported.
 #[derive(Clone, Copy)]
@@ -22,95 +24,84 @@ pub enum Lock {
     Back(u32, Update),
 }
 
-#[derive(Clone, Copy)]
-pub enum LockNext {
-    Going(Lock),
-    End(Outcome),
-}
+pub type LockNext = Next<Lock, R<()>>;
 
 // SWESMBI or REGSMP did not come.
-#[tactic(auto, unfolding(crate::specs::Lock::lapsed, crate::specs::Lock::lock_next, crate::specs::Lock::access_lock, crate::specs::Lock::rest_lock, hardware::specs::Change::change, hardware::specs::Change::access_update, hardware::specs::Change::rest_update, hardware::specs::Prog::erase, crate::specs::Lock::valid_lock_next, crate::specs::Lock::valid_lock))]
 fn lapse(family: Family, held: u32) -> LockNext
     ensures yields { lock_next family result ≡ erase (lapsed family held) }
     ensures limits { valid_lock_next result ≡ true }
 {
-    LockNext::Going(Lock::Back(held, Update::Reading))
+    Next::Going(Lock::Back(held, Update::Reading))
 }
 
-#[tactic(auto, using(hardware::proofs::Prog::going), unfolding(crate::specs::Lock::lock_next, crate::specs::Lock::access_lock, crate::specs::Lock::rest_lock, hardware::specs::Change::update_next, crate::specs::Lock::valid_lock_next, crate::specs::Lock::valid_lock, hardware::specs::Prog::followed, hardware::specs::Prog::erase, hardware::specs::Prog::or_err, hardware::specs::Registers::outcome, hardware::specs::Failures::failure_of))]
 fn back(family: Family, held: u32, n: UpdateNext) -> LockNext
     ensures yields { lock_next family result ≡ followed (update_next (back_swsm family) n) (or_err (λ _. ret (Err (Semaphore held)))) }
     ensures limits { valid_lock_next result ≡ true }
 {
     match n {
-        UpdateNext::Going(t) => LockNext::Going(Lock::Back(held, t)),
-        UpdateNext::End(o) => match o {
-            Outcome::Ok => LockNext::End(Outcome::Err(Error::Semaphore(held))),
-            Outcome::Err(e) => LockNext::End(Outcome::Err(e)),
+        Next::Going(t) => Next::Going(Lock::Back(held, t)),
+        Next::End(o) => match o {
+            Ok(()) => Next::End(Err(Error::Semaphore(held))),
+            Err(e) => Next::End(Err(e)),
         },
     }
 }
 
-#[tactic(auto, unfolding(crate::specs::Lock::lock_next, crate::specs::Lock::swesmbi_done, hardware::specs::Prog::erase, hardware::specs::Prog::or_err, hardware::specs::Prog::pick, hardware::specs::Registers::outcome, hardware::specs::Registers::flag, crate::specs::Lock::valid_lock_next))]
-fn swesmbi_done(family: Family, v: Flag) -> LockNext
-    ensures yields { lock_next family result ≡ erase (or_err (swesmbi_done family) (flag v)) }
+fn swesmbi_done(family: Family, v: R<bool>) -> LockNext
+    ensures yields { lock_next family result ≡ erase (or_err (swesmbi_done family) (reply v)) }
     ensures limits { valid_lock_next result ≡ true }
 {
     match v {
-        Flag::Ok(got) => {
+        Ok(got) => {
             if got {
-                return LockNext::End(Outcome::Ok);
+                return Next::End(Ok(()));
             }
             lapse(family, SWESMBI)
         }
-        Flag::Err(e) => LockNext::End(Outcome::Err(e)),
+        Err(e) => Next::End(Err(e)),
     }
 }
 
-#[tactic(auto, using(hardware::proofs::Prog::going), unfolding(crate::specs::Lock::swesmbi_next, crate::specs::Lock::rest_lock, crate::specs::Lock::access_lock, crate::specs::Lock::lock_next, crate::specs::Lock::valid_lock_next, crate::specs::Lock::valid_lock, crate::specs::Lock::valid_swesmbi_next, hardware::specs::Prog::followed))]
 fn swesmbi(family: Family, n: SwesmbiNext) -> LockNext
     ensures yields { lock_next family result ≡ followed (swesmbi_next n) (or_err (swesmbi_done family)) }
     ensures limits { valid_swesmbi_next n ≡ true → valid_lock_next result ≡ true }
 {
     match n {
-        SwesmbiNext::Going(t) => LockNext::Going(Lock::Second(t)),
-        SwesmbiNext::End(v) => swesmbi_done(family, v),
+        Next::Going(t) => Next::Going(Lock::Second(t)),
+        Next::End(v) => swesmbi_done(family, v),
     }
 }
 
-#[tactic(auto, unfolding(crate::specs::Lock::lock_next, crate::specs::Lock::regsmp_done, hardware::specs::Prog::erase, hardware::specs::Prog::or_err, hardware::specs::Prog::pick, hardware::specs::Registers::word, hardware::specs::Registers::outcome, crate::specs::Lock::valid_lock_next))]
-fn regsmp_done(family: Family, w: Word) -> LockNext
-    ensures yields { lock_next family result ≡ erase (or_err (regsmp_done family) (word w)) }
+fn regsmp_done(family: Family, w: R<u32>) -> LockNext
+    ensures yields { lock_next family result ≡ erase (or_err (regsmp_done family) (reply w)) }
     ensures limits { valid_lock_next result ≡ true }
 {
     match w {
-        Word::Ok(v) => {
+        Ok(v) => {
             if hardware::none_of(v, REGSMP) {
-                return LockNext::End(Outcome::Ok);
+                return Next::End(Ok(()));
             }
             lapse(family, REGSMP)
         }
-        Word::Err(e) => LockNext::End(Outcome::Err(e)),
+        Err(e) => Next::End(Err(e)),
     }
 }
 
-#[tactic(auto, using(hardware::proofs::Prog::going), unfolding(crate::specs::Lock::rest_lock, crate::specs::Lock::access_lock, crate::specs::Lock::lock_next, hardware::specs::Poll::poll_next, crate::specs::Lock::valid_lock_next, crate::specs::Lock::valid_lock, hardware::specs::Poll::valid_poll_next, hardware::specs::Prog::followed))]
 fn regsmp(family: Family, n: PollNext) -> LockNext
     ensures yields { lock_next family result ≡ followed (poll_next (regsmp_watch family) n) (or_err (regsmp_done family)) }
     ensures limits { valid_poll_next TRIES n ≡ true → valid_lock_next result ≡ true }
 {
     match n {
-        PollNext::Going(t) => LockNext::Going(Lock::Regsmp(t)),
-        PollNext::End(w) => regsmp_done(family, w),
+        Next::Going(t) => Next::Going(Lock::Regsmp(t)),
+        Next::End(w) => regsmp_done(family, w),
     }
 }
 
-#[tactic(auto, using(hardware::proofs::Prog::over), unfolding(crate::specs::Lock::second, hardware::specs::Prog::pick))]
 fn second(family: Family) -> LockNext
     ensures yields { lock_next family result ≡ erase (second family) }
     ensures limits { valid_lock_next result ≡ true }
 {
-    if hardware::same(family, Family::F82599) {
+    if family.is(Family::F82599) {
         return swesmbi(family, crate::swesmbi::open(TRIES));
     }
     regsmp(
@@ -119,34 +110,31 @@ fn second(family: Family) -> LockNext
     )
 }
 
-#[tactic(auto, unfolding(crate::specs::Lock::smbi_done, hardware::specs::Prog::or_err, hardware::specs::Prog::pick, hardware::specs::Registers::word, crate::specs::Lock::lock_next, hardware::specs::Prog::erase, hardware::specs::Registers::outcome, crate::specs::Lock::valid_lock_next, hardware::specs::Failures::failure_of))]
-fn smbi_done(family: Family, w: Word) -> LockNext
-    ensures yields { lock_next family result ≡ erase (or_err (smbi_done family) (word w)) }
+fn smbi_done(family: Family, w: R<u32>) -> LockNext
+    ensures yields { lock_next family result ≡ erase (or_err (smbi_done family) (reply w)) }
     ensures limits { valid_lock_next result ≡ true }
 {
     match w {
-        Word::Ok(v) => {
+        Ok(v) => {
             if hardware::none_of(v, SMBI) {
                 return second(family);
             }
-            LockNext::End(Outcome::Err(Error::Semaphore(SMBI)))
+            Next::End(Err(Error::Semaphore(SMBI)))
         }
-        Word::Err(e) => LockNext::End(Outcome::Err(e)),
+        Err(e) => Next::End(Err(e)),
     }
 }
 
-#[tactic(auto, using(hardware::proofs::Prog::going), unfolding(crate::specs::Lock::rest_lock, crate::specs::Lock::access_lock, crate::specs::Lock::lock_next, hardware::specs::Poll::poll_next, crate::specs::Lock::valid_lock_next, crate::specs::Lock::valid_lock, hardware::specs::Poll::valid_poll_next, hardware::specs::Prog::followed))]
 fn smbi(family: Family, n: PollNext) -> LockNext
     ensures yields { lock_next family result ≡ followed (poll_next (smbi_watch family) n) (or_err (smbi_done family)) }
     ensures limits { valid_poll_next TRIES n ≡ true → valid_lock_next result ≡ true }
 {
     match n {
-        PollNext::Going(t) => LockNext::Going(Lock::Smbi(t)),
-        PollNext::End(w) => smbi_done(family, w),
+        Next::Going(t) => Next::Going(Lock::Smbi(t)),
+        Next::End(w) => smbi_done(family, w),
     }
 }
 
-#[tactic(auto, using(hardware::proofs::Prog::over), unfolding(crate::specs::Lock::lock))]
 pub fn open(family: Family) -> LockNext
     ensures yields { lock_next family result ≡ erase (lock family) }
     ensures limits { valid_lock_next result ≡ true }
@@ -157,7 +145,6 @@ pub fn open(family: Family) -> LockNext
     )
 }
 
-#[tactic(auto, unfolding(crate::specs::Lock::access_lock))]
 pub fn access(family: Family, s: Lock) -> Access
     ensures { result ≡ access_lock family s }
 {
@@ -169,7 +156,6 @@ pub fn access(family: Family, s: Lock) -> Access
     }
 }
 
-#[tactic(auto, using(hardware::proofs::Prog::over), unfolding(crate::specs::Lock::rest_lock, crate::specs::Lock::valid_lock, crate::specs::Lock::lock, crate::specs::Lock::second))]
 pub fn step(family: Family, s: Lock, a: Answer) -> LockNext
     ensures yields { lock_next family result ≡ erase (rest_lock family s a) }
     ensures limits { valid_lock s ≡ true → valid_lock_next result ≡ true }
@@ -192,7 +178,6 @@ pub fn step(family: Family, s: Lock, a: Answer) -> LockNext
     }
 }
 
-#[tactic(auto, unfolding(crate::specs::Lock::valid_lock, hardware::specs::Prog::pick))]
 pub fn valid(s: Lock) -> bool
     ensures { result ≡ valid_lock s }
 {

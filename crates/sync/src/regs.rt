@@ -1,4 +1,6 @@
 // The registers, bits and waits of the software/firmware semaphores.
+#![tactic(auto, unfolding(hardware::specs::Prog::pick, crate::specs::Regs::phy, crate::specs::Regs::swsm, crate::specs::Regs::sw_fw_sync, crate::specs::Regs::bits82599, crate::specs::Regs::bits_x540, crate::specs::Regs::bits, crate::specs::Regs::mux, crate::specs::Regs::smbi_watch, crate::specs::Regs::regsmp_watch, crate::specs::Regs::back_swsm, crate::specs::Regs::clear_sync, crate::specs::Regs::set_mux, crate::specs::Regs::release_us))]
+
 ghost use Rattle.std.specs.Prelude.{◌≡◌};
 ghost use Rattle.sync.specs.Regs.{phy, swsm, sw_fw_sync, bits, bits82599, bits_x540, mux, tries, smbi_watch, regsmp_watch, back_swsm, clear_sync, set_mux, release_us};
 
@@ -56,18 +58,16 @@ pub struct Masks {
     pub hw: u32,
 }
 
-#[tactic(auto, unfolding(hardware::specs::Prog::pick, crate::specs::Regs::phy))]
 pub fn phy(lan: u8) -> u32
     ensures { result ≡ phy lan }
 {
     if lan == 1 { PHY1 } else { PHY0 }
 }
 
-#[tactic(auto, unfolding(crate::specs::Regs::swsm, crate::specs::Regs::sw_fw_sync, hardware::specs::Prog::pick))]
 pub fn regs(family: Family) -> Addresses
     ensures { (result.swsm ≡ swsm family) × (result.sw_fw_sync ≡ sw_fw_sync family) }
 {
-    if hardware::same(family, Family::X553) {
+    if family.is(Family::X553) {
         return Addresses {
             swsm: SWSM_X553,
             sw_fw_sync: SW_FW_SYNC_X553,
@@ -79,7 +79,6 @@ pub fn regs(family: Family) -> Addresses
     }
 }
 
-#[tactic(auto, unfolding(hardware::specs::Prog::pick, crate::specs::Regs::bits82599))]
 fn bits_82599(mask: u32) -> Masks
     ensures { result ≡ bits82599 mask }
 {
@@ -91,7 +90,6 @@ fn bits_82599(mask: u32) -> Masks
     }
 }
 
-#[tactic(auto, unfolding(hardware::specs::Prog::pick, crate::specs::Regs::bits_x540))]
 fn bits_x540(mask: u32) -> Masks
     ensures { result ≡ bits_x540 mask }
 {
@@ -105,22 +103,20 @@ fn bits_x540(mask: u32) -> Masks
     Masks { sw, fw, hw: FLASH }
 }
 
-#[tactic(auto, unfolding(hardware::specs::Prog::pick, crate::specs::Regs::bits))]
 pub fn bits(family: Family, mask: u32) -> Masks
     ensures { result ≡ bits family mask }
 {
-    if hardware::same(family, Family::F82599) {
+    if family.is(Family::F82599) {
         return bits_82599(mask);
     }
     bits_x540(mask)
 }
 
-#[tactic(auto, unfolding(hardware::specs::Prog::pick, crate::specs::Regs::mux))]
 pub fn mux(port: Port, mask: u32) -> bool
     ensures { result ≡ mux port mask }
 {
     let family = port.family;
-    if hardware::same(family, Family::X552) {
+    if family.is(Family::X552) {
         if port.lan == 1 {
             if hardware::none_of(mask, I2C0 | I2C1) {
                 return false;
@@ -143,7 +139,6 @@ pub fn tries(family: Family) -> u32
     }
 }
 
-#[tactic(auto, unfolding(hardware::specs::Prog::pick, crate::specs::Regs::smbi_watch))]
 pub fn smbi(family: Family) -> Watch
     ensures { result ≡ smbi_watch family }
 {
@@ -154,7 +149,6 @@ pub fn smbi(family: Family) -> Watch
     }
 }
 
-#[tactic(auto, unfolding(hardware::specs::Prog::pick, crate::specs::Regs::regsmp_watch))]
 pub fn regsmp(family: Family) -> Watch
     ensures { result ≡ regsmp_watch family }
 {
@@ -166,12 +160,11 @@ pub fn regsmp(family: Family) -> Watch
 }
 
 // Our own bits of SWSM given back, and a flush.
-#[tactic(auto, unfolding(crate::specs::Regs::back_swsm, hardware::specs::Prog::pick))]
 pub fn back(family: Family) -> Change
     ensures { result ≡ back_swsm family }
 {
     let register = regs(family).swsm;
-    if hardware::same(family, Family::F82599) {
+    if family.is(Family::F82599) {
         return Change {
             register,
             bits: Bits::Clear(SWESMBI | SMBI),
@@ -185,7 +178,6 @@ pub fn back(family: Family) -> Change
     }
 }
 
-#[tactic(auto, unfolding(hardware::specs::Prog::pick, crate::specs::Regs::clear_sync))]
 pub fn clear_sync(family: Family, cleared: u32) -> Change
     ensures { result ≡ clear_sync family cleared }
 {
@@ -196,7 +188,6 @@ pub fn clear_sync(family: Family, cleared: u32) -> Change
     }
 }
 
-#[tactic(auto, unfolding(hardware::specs::Prog::pick, crate::specs::Regs::set_mux))]
 pub fn set_mux(on: bool) -> Change
     ensures { result ≡ set_mux on }
 {
@@ -214,7 +205,6 @@ pub fn set_mux(on: bool) -> Change
     }
 }
 
-#[tactic(auto, unfolding(hardware::specs::Prog::pick, crate::specs::Regs::release_us))]
 pub fn release_us(mask: u32) -> u32
     ensures { result ≡ release_us mask }
 {

@@ -1,7 +1,9 @@
 // A mask is given back in SW_FW_SYNC: the mux first, then the software bits; then, from the X540 on, a wait.
+#![tactic(auto, using(hardware::proofs::Prog::going, hardware::proofs::Prog::over), unfolding(crate::specs::Resource::clear_bits, crate::specs::Resource::release_bits_next, hardware::specs::Prog::erase, hardware::specs::Prog::or_err, hardware::specs::Prog::pick, hardware::specs::Registers::reply, crate::specs::Resource::settle, crate::specs::Resource::valid_release_bits, crate::specs::Resource::valid_release_bits_next, crate::specs::Resource::access_release_bits, crate::specs::Resource::rest_release_bits, crate::specs::Lock::unlock_next, hardware::specs::Prog::followed, crate::specs::Resource::cleared, hardware::specs::Change::update_next, crate::specs::Lock::lock_next, crate::specs::Lock::valid_lock_next, crate::specs::Resource::clearing, hardware::specs::Change::change, hardware::specs::Change::access_update, hardware::specs::Change::rest_update, crate::specs::Resource::unmuxed, crate::specs::Resource::muxed, crate::specs::Resource::release_bits, crate::specs::Resource::try_again, crate::specs::Resource::against, crate::specs::Resource::valid_acquire_stage, crate::specs::Resource::valid_acquire_bits))]
+
 ghost use Rattle.std.specs.Prelude.{◌≡◌, true, false};
 ghost use Rattle.hardware.specs.Prog.{erase, followed, or_err};
-ghost use Rattle.hardware.specs.Registers.{outcome};
+ghost use Rattle.hardware.specs.Registers.{reply};
 ghost use Rattle.hardware.specs.Change.{update_next};
 ghost use Rattle.sync.specs.Regs.{set_mux};
 ghost use Rattle.sync.specs.Lock.{lock_next, valid_lock_next, unlock_next};
@@ -10,7 +12,7 @@ ghost use Rattle.sync.specs.Resource.{clear_bits, clearing, settle, cleared, unm
 use crate::lock::{Lock, LockNext};
 use crate::unlock::{Unlock, UnlockNext};
 use hardware::change::Change;
-use hardware::{Access, Answer, Family, Micros, Outcome, Port, Update, UpdateNext};
+use hardware::{Access, Answer, Family, Micros, Next, Port, R, Update, UpdateNext};
 
 // Unlocking: with how the write that cleared the bits ended.
 #[derive(Clone, Copy)]
@@ -18,89 +20,78 @@ pub enum ReleaseBits {
     Muxing(Update),
     Locking(Lock),
     Clearing(Update),
-    Unlocking(Unlock, Outcome),
+    Unlocking(Unlock, R<()>),
     Waiting,
 }
 
-#[derive(Clone, Copy)]
-pub enum ReleaseBitsNext {
-    Going(ReleaseBits),
-    End(Outcome),
-}
+pub type ReleaseBitsNext = Next<ReleaseBits, R<()>>;
 
-#[tactic(auto, unfolding(crate::specs::Resource::clear_bits))]
 fn change(family: Family, mask: u32) -> Change
     ensures { result ≡ clear_bits family mask }
 {
     crate::regs::clear_sync(family, crate::regs::bits(family, mask).sw)
 }
 
-#[tactic(auto, unfolding(crate::specs::Resource::release_bits_next, hardware::specs::Prog::erase, hardware::specs::Prog::or_err, hardware::specs::Prog::pick, hardware::specs::Registers::outcome, crate::specs::Resource::settle, crate::specs::Resource::valid_release_bits, crate::specs::Resource::valid_release_bits_next, crate::specs::Resource::access_release_bits, crate::specs::Resource::rest_release_bits))]
-fn finish(port: Port, mask: u32, w: Outcome) -> ReleaseBitsNext
-    ensures yields { release_bits_next port mask result ≡ erase (or_err (λ _. settle port mask) (outcome w)) }
+fn finish(port: Port, mask: u32, w: R<()>) -> ReleaseBitsNext
+    ensures yields { release_bits_next port mask result ≡ erase (or_err (λ _. settle port mask) (reply w)) }
     ensures limits { valid_release_bits_next result ≡ true }
 {
     match w {
-        Outcome::Ok => {
+        Ok(()) => {
             let family = port.family;
-            if hardware::same(family, Family::F82599) {
-                return ReleaseBitsNext::End(Outcome::Ok);
+            if family.is(Family::F82599) {
+                return Next::End(Ok(()));
             }
-            ReleaseBitsNext::Going(ReleaseBits::Waiting)
+            Next::Going(ReleaseBits::Waiting)
         }
-        Outcome::Err(e) => ReleaseBitsNext::End(Outcome::Err(e)),
+        Err(e) => Next::End(Err(e)),
     }
 }
 
-#[tactic(auto, using(hardware::proofs::Prog::going), unfolding(crate::specs::Resource::release_bits_next, crate::specs::Resource::access_release_bits, crate::specs::Resource::rest_release_bits, crate::specs::Lock::unlock_next, crate::specs::Resource::valid_release_bits_next, crate::specs::Resource::valid_release_bits, hardware::specs::Prog::followed, hardware::specs::Prog::or_err, hardware::specs::Registers::outcome, hardware::specs::Prog::erase))]
-fn unlocking(port: Port, mask: u32, w: Outcome, n: UnlockNext) -> ReleaseBitsNext
-    ensures yields { release_bits_next port mask result ≡ followed (unlock_next port.family n) (or_err (λ _. or_err (λ _. settle port mask) (outcome w))) }
+fn unlocking(port: Port, mask: u32, w: R<()>, n: UnlockNext) -> ReleaseBitsNext
+    ensures yields { release_bits_next port mask result ≡ followed (unlock_next port.family n) (or_err (λ _. or_err (λ _. settle port mask) (reply w))) }
     ensures limits { valid_release_bits_next result ≡ true }
 {
     match n {
-        UnlockNext::Going(t) => ReleaseBitsNext::Going(ReleaseBits::Unlocking(t, w)),
-        UnlockNext::End(o) => match o {
-            Outcome::Ok => finish(port, mask, w),
-            Outcome::Err(e) => ReleaseBitsNext::End(Outcome::Err(e)),
+        Next::Going(t) => Next::Going(ReleaseBits::Unlocking(t, w)),
+        Next::End(o) => match o {
+            Ok(()) => finish(port, mask, w),
+            Err(e) => Next::End(Err(e)),
         },
     }
 }
 
-#[tactic(auto, using(hardware::proofs::Prog::over), unfolding(crate::specs::Resource::cleared))]
-fn clear_done(port: Port, mask: u32, w: Outcome) -> ReleaseBitsNext
-    ensures yields { release_bits_next port mask result ≡ erase (cleared port mask (outcome w)) }
+fn clear_done(port: Port, mask: u32, w: R<()>) -> ReleaseBitsNext
+    ensures yields { release_bits_next port mask result ≡ erase (cleared port mask (reply w)) }
     ensures limits { valid_release_bits_next result ≡ true }
 {
     let family = port.family;
     unlocking(port, mask, w, crate::unlock::open(family))
 }
 
-#[tactic(auto, using(hardware::proofs::Prog::going), unfolding(crate::specs::Resource::release_bits_next, crate::specs::Resource::access_release_bits, crate::specs::Resource::rest_release_bits, hardware::specs::Change::update_next, crate::specs::Resource::valid_release_bits_next, crate::specs::Resource::valid_release_bits, hardware::specs::Prog::followed))]
 fn clearing(port: Port, mask: u32, n: UpdateNext) -> ReleaseBitsNext
     ensures yields { release_bits_next port mask result ≡ followed (update_next (clear_bits port.family mask) n) (cleared port mask) }
     ensures limits { valid_release_bits_next result ≡ true }
 {
     match n {
-        UpdateNext::Going(t) => ReleaseBitsNext::Going(ReleaseBits::Clearing(t)),
-        UpdateNext::End(o) => clear_done(port, mask, o),
+        Next::Going(t) => Next::Going(ReleaseBits::Clearing(t)),
+        Next::End(o) => clear_done(port, mask, o),
     }
 }
 
-#[tactic(auto, using(hardware::proofs::Prog::going), unfolding(crate::specs::Resource::release_bits_next, crate::specs::Resource::access_release_bits, crate::specs::Resource::rest_release_bits, crate::specs::Lock::lock_next, crate::specs::Resource::valid_release_bits_next, crate::specs::Resource::valid_release_bits, crate::specs::Lock::valid_lock_next, hardware::specs::Prog::followed, hardware::specs::Prog::erase, hardware::specs::Prog::or_err, hardware::specs::Registers::outcome, crate::specs::Resource::clearing, hardware::specs::Change::change, hardware::specs::Change::access_update, hardware::specs::Change::rest_update))]
 fn locking(port: Port, mask: u32, n: LockNext) -> ReleaseBitsNext
     ensures yields { release_bits_next port mask result ≡ followed (lock_next port.family n) (or_err (λ _. clearing port mask)) }
     ensures limits { valid_lock_next n ≡ true → valid_release_bits_next result ≡ true }
 {
     match n {
-        LockNext::Going(t) => ReleaseBitsNext::Going(ReleaseBits::Locking(t)),
-        LockNext::End(o) => match o {
-            Outcome::Ok => ReleaseBitsNext::Going(ReleaseBits::Clearing(Update::Reading)),
-            Outcome::Err(e) => ReleaseBitsNext::End(Outcome::Err(e)),
+        Next::Going(t) => Next::Going(ReleaseBits::Locking(t)),
+        Next::End(o) => match o {
+            Ok(()) => Next::Going(ReleaseBits::Clearing(Update::Reading)),
+            Err(e) => Next::End(Err(e)),
         },
     }
 }
 
-#[tactic(auto, using(hardware::proofs::Prog::over), unfolding(crate::specs::Resource::unmuxed))]
 fn lock(port: Port, mask: u32) -> ReleaseBitsNext
     ensures yields { release_bits_next port mask result ≡ erase (unmuxed port mask) }
     ensures limits { valid_release_bits_next result ≡ true }
@@ -109,32 +100,29 @@ fn lock(port: Port, mask: u32) -> ReleaseBitsNext
     locking(port, mask, crate::lock::open(family))
 }
 
-#[tactic(auto, using(hardware::proofs::Prog::going), unfolding(crate::specs::Resource::release_bits_next, crate::specs::Resource::access_release_bits, crate::specs::Resource::rest_release_bits, hardware::specs::Change::update_next, crate::specs::Resource::valid_release_bits_next, crate::specs::Resource::valid_release_bits, hardware::specs::Prog::followed, hardware::specs::Prog::or_err, hardware::specs::Registers::outcome, hardware::specs::Prog::erase))]
 fn muxing(port: Port, mask: u32, n: UpdateNext) -> ReleaseBitsNext
     ensures yields { release_bits_next port mask result ≡ followed (update_next (set_mux false) n) (or_err (λ _. unmuxed port mask)) }
     ensures limits { valid_release_bits_next result ≡ true }
 {
     match n {
-        UpdateNext::Going(t) => ReleaseBitsNext::Going(ReleaseBits::Muxing(t)),
-        UpdateNext::End(o) => match o {
-            Outcome::Ok => lock(port, mask),
-            Outcome::Err(e) => ReleaseBitsNext::End(Outcome::Err(e)),
+        Next::Going(t) => Next::Going(ReleaseBits::Muxing(t)),
+        Next::End(o) => match o {
+            Ok(()) => lock(port, mask),
+            Err(e) => Next::End(Err(e)),
         },
     }
 }
 
-#[tactic(auto, unfolding(crate::specs::Resource::release_bits_next, crate::specs::Resource::access_release_bits, crate::specs::Resource::rest_release_bits, hardware::specs::Prog::erase, hardware::specs::Prog::pick, crate::specs::Resource::muxed, crate::specs::Resource::release_bits, hardware::specs::Change::change, hardware::specs::Change::access_update, hardware::specs::Change::rest_update, crate::specs::Resource::valid_release_bits, crate::specs::Resource::valid_release_bits_next, hardware::specs::Prog::or_err))]
 pub fn open(port: Port, mask: u32) -> ReleaseBitsNext
     ensures yields { release_bits_next port mask result ≡ erase (release_bits port mask) }
     ensures limits { valid_release_bits_next result ≡ true }
 {
     if crate::regs::mux(port, mask) {
-        return ReleaseBitsNext::Going(ReleaseBits::Muxing(Update::Reading));
+        return Next::Going(ReleaseBits::Muxing(Update::Reading));
     }
     lock(port, mask)
 }
 
-#[tactic(auto, unfolding(crate::specs::Resource::access_release_bits))]
 pub fn access(port: Port, mask: u32, s: ReleaseBits) -> Access
     ensures { result ≡ access_release_bits port mask s }
 {
@@ -148,7 +136,6 @@ pub fn access(port: Port, mask: u32, s: ReleaseBits) -> Access
     }
 }
 
-#[tactic(auto, using(hardware::proofs::Prog::over), unfolding(crate::specs::Resource::rest_release_bits, crate::specs::Resource::valid_release_bits, crate::specs::Resource::release_bits_next, hardware::specs::Prog::erase, hardware::specs::Registers::outcome, crate::specs::Resource::try_again, crate::specs::Resource::settle, crate::specs::Resource::cleared, crate::specs::Resource::clearing, crate::specs::Resource::clear_bits, crate::specs::Resource::against, crate::specs::Resource::unmuxed, crate::specs::Resource::release_bits, hardware::specs::Change::change, hardware::specs::Change::access_update, hardware::specs::Change::rest_update, crate::specs::Resource::valid_acquire_stage, crate::specs::Resource::valid_acquire_bits, crate::specs::Resource::valid_release_bits_next))]
 pub fn step(port: Port, mask: u32, s: ReleaseBits, a: Answer) -> ReleaseBitsNext
     ensures yields { release_bits_next port mask result ≡ erase (rest_release_bits port mask s a) }
     ensures limits { valid_release_bits s ≡ true → valid_release_bits_next result ≡ true }
@@ -167,11 +154,10 @@ pub fn step(port: Port, mask: u32, s: ReleaseBits, a: Answer) -> ReleaseBitsNext
             hardware::change::step(change(family, mask), t, a),
         ),
         ReleaseBits::Unlocking(t, w) => unlocking(port, mask, w, crate::unlock::step(family, t, a)),
-        ReleaseBits::Waiting => ReleaseBitsNext::End(Outcome::Ok),
+        ReleaseBits::Waiting => Next::End(Ok(())),
     }
 }
 
-#[tactic(auto, unfolding(hardware::specs::Prog::pick, crate::specs::Resource::valid_release_bits))]
 pub fn valid(s: ReleaseBits) -> bool
     ensures { result ≡ valid_release_bits s }
 {

@@ -28,13 +28,13 @@ use Rattle.script.proofs.Grammar.{accepts_script, script_begins}
 use Rattle.script.proofs.Laws.{accepted}
 use Rattle.transfer.specs.declared.attempt.Sequence.{Sequence}
 use Rattle.transfer.specs.declared.attempt.Sequence.TheVariants.{Pulses, Rounds}
-use Rattle.transfer.specs.declared.calls.ScriptTold.{ScriptTold}
 use Rattle.transfer.specs.Transfer.{handing, tells, did, is_read, took_by, handed, transfer}
 use Rattle.transfer.specs.Attempt.{clearing, or_cleared, cleared, or_tried, tried, begun, attempting, attempt}
 use Rattle.transfer.specs.Calls.{without, dropped, script, open_script, said_script, stands_script, follows_script}
 use Rattle.transfer.specs.Bytes.{gives, giving, script_giving, reads}
 use Rattle.transfer.proofs.Laws.{did_holds, judged_yes}
 use Rattle.transfer.proofs.Runs.{script_driven}
+use Rattle.transfer.specs.Aliases.{ScriptTold}
 
 -- a command begins with an access, with which a byte goes out
 

@@ -9,8 +9,6 @@ use lib.ListN.{length, drop}
 use Rattle.hardware.specs.declared.Access.{Access}
 use Rattle.hardware.specs.declared.Answer.{Answer}
 use Rattle.hardware.specs.declared.Meter.{Meter}
-use Rattle.hardware.specs.declared.Outcome.{Outcome}
-use Rattle.hardware.specs.declared.Outcome.TheVariants.{Ok, Err}
 use Rattle.hardware.specs.declared.Port.{Port}
 use Rattle.hardware.specs.declared.Refusal.{Refusal}
 use Rattle.hardware.specs.declared.Refusal.TheVariants.{Family, Lan, Device, Attempts, ScriptLength, Command as RefusedCommand, Script, Block, Buffer, State, Finished, Kind}
@@ -28,19 +26,18 @@ use Rattle.bus.specs.Command.{commanded}
 use Rattle.bus.specs.Layout.{layout_of}
 use Rattle.bus.proofs.Commands.{job_start, job_send, job_read, job_stop, job_free}
 use Rattle.bus.proofs.Spreads.{Spreads, Throughout, start_holds, send_holds, in_byte_holds, out_bit_holds, stop_holds, free_holds}
-use Rattle.script.specs.declared.cursor.Judged.{Judged}
-use Rattle.script.specs.declared.cursor.Judged.TheVariants.{Accepted, Refused}
 use Rattle.script.specs.Script.{commands, command_at, next_at, judged, judged_as, device}
 use Rattle.script.proofs.Laws.{commands_at}
 use Rattle.transfer.specs.declared.attempt.Sequence.TheVariants.{Pulses}
 use Rattle.transfer.specs.declared.attempt.Attempt.{Attempt}
 use Rattle.transfer.specs.declared.attempt.Attempt.TheVariants.{New}
-use Rattle.transfer.specs.declared.attempt.AttemptNext.{AttemptNext}
-use Rattle.transfer.specs.declared.attempt.AttemptNext.TheVariants.{Going}
-use Rattle.transfer.specs.declared.transfer.TransferNext.TheVariants.{End}
 use Rattle.transfer.specs.Transfer.{Mode, handing, keeping, tells, did, is_read, took_by, handed, transfer, ran_on, transfer_next}
 use Rattle.transfer.specs.Attempt.{attempting, attempt, access_attempt, heard_attempt, rest_attempt, awaiting, attempt_next}
 use Rattle.transfer.specs.Calls.{dropped, single, script, rest_script, judged_then}
+use Rattle.transfer.specs.Aliases.{AttemptNext}
+use Rattle.transfer.specs.declared.transfer.Handing.TheVariants.{Going, End}
+use Rattle.std.specs.Prelude.{Ok, Err, Result}
+use Rattle.hardware.specs.declared.Error.{Error}
 
 pub tells_stays : {A : Type 0} (b : ℕ) (n : Note) (p : Prog A) → stays n (tells handing b p) ≡ tells handing b (stays n p)
 unfolding tells
@@ -111,11 +108,11 @@ unfolding tells
 told_twice keeping b d left x f = refl
 told_twice handing b d left x f = sym (tells_heard handing b left (ask x f)) ∙ tells_heard handing b left (give d (ask x f)) ∙ ap (tells handing b) (tells_heard handing d left (ask x f))
 
-pub told_end : (m : Mode) (b : ℕ) (l : Layout) (device : ℕ) (s : List ℕ) (ctl : ℕ) (t : Taken) (o : Outcome)
-    → transfer_next m l device s (End ctl t o) ≡ tells m b (transfer_next m l device s (End ctl t o))
+pub told_end : (m : Mode) (b : ℕ) (l : Layout) (device : ℕ) (s : List ℕ) (ctl : ℕ) (t : Taken) (o : (Result (Unit {0}) Error))
+    → transfer_next m l device s (End (ctl, t, o)) ≡ tells m b (transfer_next m l device s (End (ctl, t, o)))
 unfolding tells transfer_next
 told_end keeping b l device s ctl t o = refl
-told_end handing b l device s ctl t Ok = refl
+told_end handing b l device s ctl t (Ok tt) = refl
 told_end handing b l device s ctl t (Err e) = refl
 
 told_going : {A B : Type 0} (m : Mode) (b : ℕ) (x : Access) (p : Answer → Prog A) (k : A → Prog B)
@@ -135,7 +132,7 @@ pub judged_yes : {A : Type 0} (s : List ℕ) (k : Asked A) → judged s ≡ 0 �
 unfolding judged_then question
 judged_yes s k h = rw h
 
-pub judged_accepted : (s : List ℕ) {j : Judged} → j ≡ Accepted → judged_as j ≡ judged s → judged s ≡ 0
+pub judged_accepted : (s : List ℕ) {j : (Result (Unit {0}) Refusal)} → j ≡ (Ok tt) → judged_as j ≡ judged s → judged s ≡ 0
 unfolding judged_as
 judged_accepted s h e = rw h at (sym e)
 
@@ -154,7 +151,7 @@ numbered State k = refl
 numbered Finished k = refl
 numbered Kind k = refl
 
-pub judged_no : {A : Type 0} (s : List ℕ) (k : Asked A) {j : Judged} {q : Refusal} → j ≡ Refused q → judged_as j ≡ judged s
+pub judged_no : {A : Type 0} (s : List ℕ) (k : Asked A) {j : (Result (Unit {0}) Refusal)} {q : Refusal} → j ≡ Err q → judged_as j ≡ judged s
     → judged_then s k ≡ no (refusal_number q)
 unfolding judged_then judged_as
 judged_no s k {q = q} h e = rw (← e, h) (numbered q k)

@@ -8,7 +8,6 @@ use Rattle.hardware.specs.Longest.{longest}
 use Rattle.hardware.specs.Prog.{erase}
 use Rattle.hardware.proofs.Longest.{longest_opened}
 use Rattle.bus.specs.declared.Layout.{Layout}
-use Rattle.bus.specs.declared.clear.ClearNext.{ClearNext}
 use Rattle.bus.specs.Clear.{clear_next}
 use Rattle.bus.specs.Steps.{CLEAR_STEPS, JOB_STEPS}
 use Rattle.bus.proofs.Ends.{job_after, clear_after}
@@ -21,6 +20,7 @@ use Rattle.transfer.specs.declared.attempt.Attempt.TheVariants.{New, Moving, Cle
 use Rattle.transfer.specs.Attempt.{clearing}
 use Rattle.transfer.specs.Left.{behind, COMMANDS_STEPS, transfer_left, attempt_left}
 use Rattle.transfer.proofs.Ends.{CLEARING_STEPS, clearing_ends, clearing_most, next_beyond}
+use Rattle.bus.specs.Aliases.{ClearNext}
 
 pub accepted_length : (s : List ℕ) → judged s ≡ 0 → length s ≤ 64
 accepted_length s h = (fits_length s (accepted s h).0).1

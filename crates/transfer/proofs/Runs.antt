@@ -27,9 +27,6 @@ use Rattle.bus.specs.Bus.{none}
 use Rattle.bus.specs.Layout.{layout_of}
 use Rattle.transfer.specs.declared.attempt.Attempt.{Attempt}
 use Rattle.transfer.specs.declared.attempt.Sequence.TheVariants.{Pulses}
-use Rattle.transfer.specs.declared.calls.ScriptCall.TheVariants.{Going, Over}
-use Rattle.transfer.specs.declared.calls.ScriptTold.{ScriptTold}
-use Rattle.transfer.specs.declared.calls.ScriptTold.TheVariants.{Ask, Read, End, Refused}
 use Rattle.transfer.specs.Transfer.{handing, transfer}
 use Rattle.transfer.specs.Attempt.{attempt, attempting}
 use Rattle.transfer.specs.Calls.{dropped, script, rest_script, judged_then, open_script, stepped_script, step_script, said_script, stands_script, follows_script, ScriptAt, said_at, follows_lent}
@@ -40,6 +37,9 @@ use Rattle.transfer.proofs.Left.{attempt_some, attempt_most, attempt_left_lem}
 use Rattle.transfer.proofs.Noteless.{transfer_noteless, attempting_noteless}
 use Rattle.hardware.specs.Promise.{Keeps}
 use borrow.Author.Tests.{eqb-true}
+use Rattle.transfer.specs.Aliases.{ScriptTold}
+use Rattle.transfer.specs.declared.calls.Said.TheVariants.{Ask, Read, End}
+use Rattle.std.specs.Prelude.{Ok, Err, Some, None}
 
 dropped_noteless : (r : R Taken) → Noteless (dropped r)
 unfolding dropped
@@ -101,24 +101,24 @@ pub script_finishes : (port : Port) (s : List ℕ) (l : List Answer) → judged 
 script_finishes port s l h n w = run_ends (script port s) SCRIPT_STEPS l (script_ends port s h) n w
 
 -- a state that was handed out, with the script and any answer of the kind that its access awaits, is not refused
-pub script_accepts : (x : Access) (port : Port) (m : Meter) (t : Attempt) (s : List ℕ) (a : Answer) → stands_script (Ask x (Going port m t)) s
-    → judged s ≡ 0 → fits x a ≡ true → step_script (Going port m t) s a ≡ yes (tally m (rest_script port s t a))
+pub script_accepts : (x : Access) (port : Port) (m : Meter) (t : Attempt) (s : List ℕ) (a : Answer) → stands_script (Ok (Ask x (Some (port, m, t)))) s
+    → judged s ≡ 0 → fits x a ≡ true → step_script (Some (port, m, t)) s a ≡ yes (tally m (rest_script port s t a))
 unfolding stands_script step_script stepped_script admitting question
 script_accepts x port m t s a h j e = judged_yes s _ j ∙ (rw (h.1, ← h.0, e))
 
-pub script_read_accepts : (b : ℕ) (x : Access) (port : Port) (m : Meter) (t : Attempt) (s : List ℕ) (a : Answer) → stands_script (Read b x (Going port m t)) s
-    → judged s ≡ 0 → fits x a ≡ true → step_script (Going port m t) s a ≡ yes (tally m (rest_script port s t a))
+pub script_read_accepts : (b : ℕ) (x : Access) (port : Port) (m : Meter) (t : Attempt) (s : List ℕ) (a : Answer) → stands_script (Ok (Read b x (Some (port, m, t)))) s
+    → judged s ≡ 0 → fits x a ≡ true → step_script (Some (port, m, t)) s a ≡ yes (tally m (rest_script port s t a))
 unfolding stands_script step_script stepped_script admitting question
 script_read_accepts b x port m t s a h j e = judged_yes s _ j ∙ (rw (h.1, ← h.0, e))
 
 pub script_steps_on : (s : List ℕ) → judged s ≡ 0 → StepsOn (λ t. said_script t s) (follows_script s) (λ t. stands_script t s)
 unfolding follows_script said_script stands_script AwaitedIn Awaited left_asked_after left_after IfYes Asks
-script_steps_on s j (Ask y (Going port m t)) u a h k w = (k.yields ∙ script_accepts y port m t s a h j (is_true (fits y a) w.0), k.limits, tt)
-script_steps_on s j (Ask y Over) u a h k w = absurd h
-script_steps_on s j (Read b y (Going port m t)) u a h k w = (k.yields ∙ script_read_accepts b y port m t s a h j (is_true (fits y a) w.0), k.limits, tt)
-script_steps_on s j (Read b y Over) u a h k w = absurd h
-script_steps_on s j (End o m) u a h k w = absurd k
-script_steps_on s j (Refused q) u a h k w = absurd k
+script_steps_on s j (Ok (Ask y (Some (port, m, t)))) u a h k w = (k.yields ∙ script_accepts y port m t s a h j (is_true (fits y a) w.0), k.limits, tt)
+script_steps_on s j (Ok (Ask y None)) u a h k w = absurd h
+script_steps_on s j (Ok (Read b y (Some (port, m, t)))) u a h k w = (k.yields ∙ script_read_accepts b y port m t s a h j (is_true (fits y a) w.0), k.limits, tt)
+script_steps_on s j (Ok (Read b y None)) u a h k w = absurd h
+script_steps_on s j (Ok (End o m)) u a h k w = absurd k
+script_steps_on s j (Err q) u a h k w = absurd k
 
 -- its number falls at every accepted step, with one script
 pub script_falls : (s : List ℕ) → judged s ≡ 0 → Falls (λ t. said_script t s) (follows_script s) (λ t. stands_script t s)
@@ -149,22 +149,22 @@ script_rest_ends port s t a h =
 
 -- from any state that passes question 10, whoever made it, the call takes at most so many steps more with any accepted script
 -- that is lent at each of them
-pub script_lasts : (x : Access) (port : Port) (m : Meter) (s : List ℕ) (t : Attempt) (ks : List (Exchange ScriptTold)) → judged s ≡ 0 → stands_script (Ask x (Going port m t)) s
-    → AllKept (Accepts (λ u. said_script u s) (follows_script s)) (Ask x (Going port m t)) ks → Lasts (λ u. said_script u s) (Ask x (Going port m t)) ks (suc (attempt_after t))
+pub script_lasts : (x : Access) (port : Port) (m : Meter) (s : List ℕ) (t : Attempt) (ks : List (Exchange ScriptTold)) → judged s ≡ 0 → stands_script (Ok (Ask x (Some (port, m, t)))) s
+    → AllKept (Accepts (λ u. said_script u s) (follows_script s)) (Ok (Ask x (Some (port, m, t)))) ks → Lasts (λ u. said_script u s) (Ok (Ask x (Some (port, m, t)))) ks (suc (attempt_after t))
 unfolding said_script IfYes
 script_lasts x port m s t ks j h k =
-    steps_few (λ u. said_script u s) (follows_script s) (λ u. stands_script u s) (script_steps_on s j) (Ask x (Going port m t)) ks (suc (attempt_after t)) h k
+    steps_few (λ u. said_script u s) (follows_script s) (λ u. stands_script u s) (script_steps_on s j) (Ok (Ask x (Some (port, m, t)))) ks (suc (attempt_after t)) h k
     (ask_ends x _ (attempt_after t) (λ a. ends_tally m _ _ (script_rest_ends port s t a j)))
 
 -- what one script leads on from, any does
 said_any : (u : ScriptTold) (s z : List ℕ) → Unrefused (said_script u s) → Unrefused (said_script u z)
 unfolding said_script IfYes
-said_any (Ask x (Going port m t)) s z h = tt
-said_any (Ask x Over) s z h = h
-said_any (Read b x (Going port m t)) s z h = tt
-said_any (Read b x Over) s z h = h
-said_any (End o m) s z h = tt
-said_any (Refused q) s z h = h
+said_any (Ok (Ask x (Some (port, m, t)))) s z h = tt
+said_any (Ok (Ask x None)) s z h = h
+said_any (Ok (Read b x (Some (port, m, t)))) s z h = tt
+said_any (Ok (Read b x None)) s z h = h
+said_any (Ok (End o m)) s z h = tt
+said_any (Err q) s z h = h
 
 goes : (t u : ScriptAt) (a : Answer) → follows_lent t a u → Unrefused (said_at u)
 unfolding follows_lent said_at
@@ -180,19 +180,19 @@ pub lent_falls : (t u : ScriptAt) (a : Answer) → follows_lent t a u → script
 unfolding follows_lent follows_script step_script stepped_script judged_then script_left call_left
 lent_falls t u a k = by t.told k.0
   where
-    less : (port : Port) (m : Meter) (c : Attempt) → script_left u.told ≤ call_left (Going port m c) - 1 → script_left u.told < attempt_left (layout_of port.family) c
+    less : (port : Port) (m : Meter) (c : Attempt) → script_left u.told ≤ call_left (Some (port, m, c)) - 1 → script_left u.told < attempt_left (layout_of port.family) c
     less port m c h = omega (arith, attempt_some (layout_of port.family) c, h)
 
-    over : said_script u.told t.script ≡ step_script Over t.script a → ⊥
+    over : said_script u.told t.script ≡ step_script None t.script a → ⊥
     over e = never_yes _ _ _ _ (subst Unrefused e k.1)
 
     by : (v : ScriptTold) → follows_script t.script v a u.told → script_left u.told < script_left v
-    by (Ask x (Going port m c)) k = less port m c k.within
-    by (Ask x Over) k = absurd (over k.yields)
-    by (Read b x (Going port m c)) k = less port m c k.within
-    by (Read b x Over) k = absurd (over k.yields)
-    by (End o m) k = absurd k
-    by (Refused q) k = absurd k
+    by (Ok (Ask x (Some (port, m, c)))) k = less port m c k.within
+    by (Ok (Ask x None)) k = absurd (over k.yields)
+    by (Ok (Read b x (Some (port, m, c)))) k = less port m c k.within
+    by (Ok (Read b x None)) k = absurd (over k.yields)
+    by (Ok (End o m)) k = absurd k
+    by (Err q) k = absurd k
 
 lent_over : (t : ScriptAt) → Unrefused (said_at t) → script_left t.told ≡ 0 → IfYes (λ p. Asks p → ⊥) (said_at t)
 unfolding said_at said_script script_left call_left IfYes Asks
@@ -202,12 +202,12 @@ lent_over t y e = by t.told y e
     none port c e = omega (arith, attempt_some (layout_of port.family) c, e)
 
     by : (v : ScriptTold) → Unrefused (said_script v t.script) → script_left v ≡ 0 → IfYes (λ p. Asks p → ⊥) (said_script v t.script)
-    by (Ask x (Going port m c)) y e = absurd (none port c e)
-    by (Ask x Over) y e = absurd y
-    by (Read b x (Going port m c)) y e = absurd (none port c e)
-    by (Read b x Over) y e = absurd y
-    by (End o m) y e = λ k. k
-    by (Refused q) y e = absurd y
+    by (Ok (Ask x (Some (port, m, c)))) y e = absurd (none port c e)
+    by (Ok (Ask x None)) y e = absurd y
+    by (Ok (Read b x (Some (port, m, c)))) y e = absurd (none port c e)
+    by (Ok (Read b x None)) y e = absurd y
+    by (Ok (End o m)) y e = λ k. k
+    by (Err q) y e = absurd y
 
 -- So with at most n accesses left, as the contract of an opening says of what it tells, the call takes at most n accepted steps more,
 -- each lent an accepted script of its own, and has ended after n
@@ -219,7 +219,7 @@ script_lasts_within t ks n y h kept =
 
 -- from any state, whoever made it
 pub script_lasts_lent : (x : Access) (port : Port) (m : Meter) (s : List ℕ) (t : Attempt) (ks : List (Exchange ScriptAt))
-    → AllKept follows_lent (record { told = Ask x (Going port m t); script = s }) ks
-    → Lasts said_at (record { told = Ask x (Going port m t); script = s }) ks (attempt_most t)
+    → AllKept follows_lent (record { told = Ok (Ask x (Some (port, m, t))); script = s }) ks
+    → Lasts said_at (record { told = Ok (Ask x (Some (port, m, t))); script = s }) ks (attempt_most t)
 unfolding said_at said_script script_left call_left IfYes
 script_lasts_lent x port m s t ks kept = script_lasts_within _ ks (attempt_most t) tt (attempt_left_lem (layout_of port.family) t) kept

@@ -1,12 +1,12 @@
 -- `attempt` of `i2c.rs`: the read of I2CCTL by `Bus::new`, the commands, and after an I2c failure the clearing.
-use Rattle.std.specs.Prelude.{ℕ, Bool, true, List}
+use Rattle.std.specs.Prelude.{ℕ, Bool, true, List, Result}
 use Rattle.hardware.specs.declared.Access.{Access}
 use Rattle.hardware.specs.declared.Access.TheVariants.{Read}
 use Rattle.hardware.specs.declared.Answer.{Answer}
 use Rattle.hardware.specs.Failures.{Failure, I2c, failure_of}
 use Rattle.hardware.specs.Marks.{acknowledged}
 use Rattle.hardware.specs.Prog.{Prog, ret, ask, note, Attempt as Begins, erase, R, Ok, Err, or_err, ◌>>=◌, ◌>>?◌, pick}
-use Rattle.hardware.specs.Registers.{read_raw, raw}
+use Rattle.hardware.specs.Registers.{read_raw, raw, reply}
 use Rattle.bus.specs.declared.Layout.{Layout}
 use Rattle.bus.specs.declared.Taken.{Taken}
 use Rattle.bus.specs.Bus.{Held, Bus, none, is_i2c, clear, clear_rounds}
@@ -16,11 +16,10 @@ use Rattle.transfer.specs.declared.attempt.Sequence.{Sequence}
 use Rattle.transfer.specs.declared.attempt.Sequence.TheVariants.{Pulses, Rounds}
 use Rattle.transfer.specs.declared.attempt.Attempt.{Attempt}
 use Rattle.transfer.specs.declared.attempt.Attempt.TheVariants.{New, Moving, Clearing}
-use Rattle.transfer.specs.declared.attempt.Got.{Got}
-use Rattle.transfer.specs.declared.attempt.Got.TheVariants.{Ok as GotOk, Err as GotErr}
-use Rattle.transfer.specs.declared.attempt.AttemptNext.{AttemptNext}
-use Rattle.transfer.specs.declared.attempt.AttemptNext.TheVariants.{Going, Read as Handing, End}
 use Rattle.transfer.specs.Transfer.{Mode, tells, transfer, access_transfer, heard_transfer, rest_transfer, valid_transfer}
+use Rattle.transfer.specs.Aliases.{AttemptNext}
+use Rattle.transfer.specs.declared.transfer.Handing.TheVariants.{Going, Read as Hands, End}
+use Rattle.hardware.specs.declared.Error.{Error}
 
 unfoldable pub clearing : Sequence → Layout → Bus
 clearing Pulses l = clear l
@@ -70,17 +69,13 @@ rest_attempt m q l device s New a = or_err (begun q l device (transfer m l devic
 rest_attempt m q l device s (Moving t) a = rest_transfer m l device s t a >>= tried q l device
 rest_attempt m q l device s (Clearing c) a = rest_clear l c a >>= cleared device
 
-unfoldable pub got : Got → R Taken
-got (GotOk t) = Ok t
-got (GotErr e) = Err (failure_of e)
-
 unfoldable pub awaiting : Mode → Sequence → Layout → ℕ → List ℕ → Attempt → Prog (R Taken)
 awaiting m q l device s t = acknowledged (heard_attempt t) (ask (access_attempt l t) (λ a. erase (rest_attempt m q l device s t a)))
 
 unfoldable pub attempt_next : Mode → Sequence → Layout → ℕ → List ℕ → AttemptNext → Prog (R Taken)
 attempt_next m q l device s (Going t) = awaiting m q l device s t
-attempt_next m q l device s (Handing b t) = tells m b (awaiting m q l device s t)
-attempt_next m q l device s (End g) = ret (got g)
+attempt_next m q l device s (Hands b t) = tells m b (awaiting m q l device s t)
+attempt_next m q l device s (End g) = ret (reply g)
 
 unfoldable pub valid_attempt : Layout → List ℕ → Attempt → Bool
 valid_attempt l s New = true
@@ -89,5 +84,5 @@ valid_attempt l s (Clearing c) = valid_clear l c
 
 unfoldable pub valid_attempt_next : Layout → List ℕ → AttemptNext → Bool
 valid_attempt_next l s (Going t) = valid_attempt l s t
-valid_attempt_next l s (Handing b t) = valid_attempt l s t
+valid_attempt_next l s (Hands b t) = valid_attempt l s t
 valid_attempt_next l s (End g) = true

@@ -1,6 +1,6 @@
 -- What the call of a script yields: a refusal by its number, or what is left of the call. Its result has the meter beside
 -- it.
-use Rattle.std.specs.Prelude.{ℕ, ◌-◌, ◌≤◌, ◌≡◌, Bool, true, false, List, eqb}
+use Rattle.std.specs.Prelude.{ℕ, ◌-◌, ◌≤◌, ◌≡◌, Bool, true, false, List, eqb, Some, None}
 use Rattle.hardware.specs.declared.Answer.{Answer}
 use Rattle.hardware.specs.declared.Meter.{Meter}
 use Rattle.hardware.specs.declared.Port.{Port}
@@ -8,22 +8,20 @@ use Rattle.hardware.specs.Asked.{Asked, yes, no, question, and_then, open_port, 
 use Rattle.hardware.specs.Marks.{valid_held}
 use Rattle.hardware.specs.Numbers.{refusal_number}
 use Rattle.hardware.specs.Prog.{Prog, ret, ask, give, R, Ok, Err, ◌>>=◌, Counted, Attempt as AttemptBegins, metered, blank, tally, pick}
-use Rattle.hardware.specs.Registers.{outcome}
+use Rattle.hardware.specs.Registers.{reply}
 use Rattle.bus.specs.declared.Taken.{Taken}
 use Rattle.bus.specs.Bus.{none}
 use Rattle.bus.specs.Layout.{layout_of}
 use Rattle.script.specs.Script.{commands, device, judged}
 use Rattle.transfer.specs.declared.attempt.Attempt.{Attempt}
 use Rattle.transfer.specs.declared.attempt.Sequence.TheVariants.{Pulses}
-use Rattle.transfer.specs.declared.calls.ScriptCall.{ScriptCall}
-use Rattle.transfer.specs.declared.calls.ScriptCall.TheVariants.{Going, Over}
-use Rattle.transfer.specs.declared.calls.ScriptTold.{ScriptTold}
-use Rattle.transfer.specs.declared.calls.ScriptTold.TheVariants.{Ask, Read, End, Refused}
 use Rattle.transfer.specs.Transfer.{handing, transfer}
 use Rattle.transfer.specs.Attempt.{attempt, access_attempt, rest_attempt, valid_attempt}
 use Rattle.transfer.specs.Left.{call_left, script_left}
 use Rattle.hardware.specs.Promise.{Bounds}
 use Rattle.hardware.specs.Runs.{Unrefused}
+use Rattle.transfer.specs.Aliases.{ScriptTold, ScriptCall}
+use Rattle.transfer.specs.declared.calls.Said.TheVariants.{Ask, Read, End}
 
 -- the result of a script has no bytes, they were handed out
 unfoldable pub without : R Taken → R (Unit {0})
@@ -60,9 +58,9 @@ valid_script port m s t = pick (valid_held port m) (pick (eqb m.transfers 1) (va
 
 -- 10, 11, 12. The finished state is well formed
 unfoldable pub stepped_script : ScriptCall → List ℕ → Answer → Asked (Prog (Counted (R (Unit {0}))))
-stepped_script (Going port m t) s a =
+stepped_script (Some (port, m, t)) s a =
     admitting (valid_script port m s t) (access_attempt (layout_of port.family) t) a (yes (tally m (rest_script port s t a)))
-stepped_script Over s a = no 11
+stepped_script None s a = no 11
 
 -- a step: 5 to 7 again, of the script that is lent now
 unfoldable pub step_script : ScriptCall → List ℕ → Answer → Asked (Prog (Counted (R (Unit {0}))))
@@ -70,28 +68,28 @@ step_script c s a = judged_then s (stepped_script c s a)
 
 -- what was told, where the script s is lent on
 unfoldable pub said_script : ScriptTold → List ℕ → Asked (Prog (Counted (R (Unit {0}))))
-said_script (Ask x (Going port m t)) s = yes (ask x (λ a. tally m (rest_script port s t a)))
-said_script (Ask x Over) s = no 0
-said_script (Read b x (Going port m t)) s = yes (give b (ask x (λ a. tally m (rest_script port s t a))))
-said_script (Read b x Over) s = no 0
-said_script (End o m) s = yes (ret (record { meter = m; result = outcome o }))
-said_script (Refused q) s = no (refusal_number q)
+said_script (Ok (Ask x (Some (port, m, t)))) s = yes (ask x (λ a. tally m (rest_script port s t a)))
+said_script (Ok (Ask x None)) s = no 0
+said_script (Ok (Read b x (Some (port, m, t)))) s = yes (give b (ask x (λ a. tally m (rest_script port s t a))))
+said_script (Ok (Read b x None)) s = no 0
+said_script (Ok (End o m)) s = yes (ret (record { meter = m; result = reply o }))
+said_script (Err q) s = no (refusal_number q)
 
 -- a state to go on from comes with the access it awaits, and passes question 10 with the script s
 unfoldable pub stands_script : ScriptTold → List ℕ → Type 0
-stands_script (Ask x (Going port m t)) s = (x ≡ access_attempt (layout_of port.family) t) × (valid_script port m s t ≡ true)
-stands_script (Ask x Over) s = ⊥
-stands_script (Read b x (Going port m t)) s = (x ≡ access_attempt (layout_of port.family) t) × (valid_script port m s t ≡ true)
-stands_script (Read b x Over) s = ⊥
-stands_script (End o m) s = Unit {0}
-stands_script (Refused q) s = Unit {0}
+stands_script (Ok (Ask x (Some (port, m, t)))) s = (x ≡ access_attempt (layout_of port.family) t) × (valid_script port m s t ≡ true)
+stands_script (Ok (Ask x None)) s = ⊥
+stands_script (Ok (Read b x (Some (port, m, t)))) s = (x ≡ access_attempt (layout_of port.family) t) × (valid_script port m s t ≡ true)
+stands_script (Ok (Read b x None)) s = ⊥
+stands_script (Ok (End o m)) s = Unit {0}
+stands_script (Err q) s = Unit {0}
 
 -- what a step told, u, follows what was told before it, t, where s is lent: as the step promises
 unfoldable pub follows_script : List ℕ → ScriptTold → Answer → ScriptTold → Type 0
-follows_script s (Ask x c) a u = Bounds (said_script u s ≡ step_script c s a) (stands_script u s) (script_left u ≤ call_left c - 1)
-follows_script s (Read b x c) a u = Bounds (said_script u s ≡ step_script c s a) (stands_script u s) (script_left u ≤ call_left c - 1)
-follows_script s (End o m) a u = ⊥
-follows_script s (Refused q) a u = ⊥
+follows_script s (Ok (Ask x c)) a u = Bounds (said_script u s ≡ step_script c s a) (stands_script u s) (script_left u ≤ call_left c - 1)
+follows_script s (Ok (Read b x c)) a u = Bounds (said_script u s ≡ step_script c s a) (stands_script u s) (script_left u ≤ call_left c - 1)
+follows_script s (Ok (End o m)) a u = ⊥
+follows_script s (Err q) a u = ⊥
 
 -- what was told, and the script that is lent to the step after it
 pub record ScriptAt : Type 0 where

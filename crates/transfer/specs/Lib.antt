@@ -3,3 +3,4 @@ pub mod Attempt
 pub mod Left
 pub mod Calls
 pub mod Bytes
+pub mod Aliases

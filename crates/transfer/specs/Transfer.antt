@@ -1,9 +1,8 @@
 -- The commands of a script on the bus. A byte that was read is handed out with the access that follows it, where the
 -- caller takes such bytes.
-use Rattle.std.specs.Prelude.{ℕ, Bool, true, false, List, [], ◌∷◌, drop}
+use Rattle.std.specs.Prelude.{ℕ, Bool, true, false, List, [], ◌∷◌, drop, Ok, Err}
 use Rattle.hardware.specs.declared.Access.{Access}
 use Rattle.hardware.specs.declared.Answer.{Answer}
-use Rattle.hardware.specs.declared.Outcome.TheVariants.{Ok as OutcomeOk, Err as OutcomeErr}
 use Rattle.hardware.specs.Failures.{failure_of}
 use Rattle.hardware.specs.Marks.{acknowledged}
 use Rattle.hardware.specs.Prog.{Prog, ret, ask, note, give, erase, pick}
@@ -15,8 +14,8 @@ use Rattle.bus.specs.Bus.{Held, Bus, done, fail, took, start, stop, send, in_byt
 use Rattle.bus.specs.Command.{freed, access_job, heard_job, rest_job, valid_job}
 use Rattle.script.specs.Script.{commands, command_at, next_at, on_command}
 use Rattle.transfer.specs.declared.transfer.Transfer.{Transfer}
-use Rattle.transfer.specs.declared.transfer.TransferNext.{TransferNext}
-use Rattle.transfer.specs.declared.transfer.TransferNext.TheVariants.{Going, Read as Handing, End}
+use Rattle.transfer.specs.Aliases.{TransferNext}
+use Rattle.transfer.specs.declared.transfer.Handing.TheVariants.{Going, Read as Hands, End}
 
 -- a script's caller takes the bytes; the Rust's four transfers keep them
 pub data Mode : Type 0 where
@@ -73,9 +72,9 @@ asking m l device s t = acknowledged (heard_transfer t) (ask (access_transfer l 
 
 unfoldable pub transfer_next : Mode → Layout → ℕ → List ℕ → TransferNext → Prog Held
 transfer_next m l device s (Going t) = asking m l device s t
-transfer_next m l device s (Handing b t) = tells m b (asking m l device s t)
-transfer_next m l device s (End ctl t OutcomeOk) = done t ctl
-transfer_next m l device s (End ctl t (OutcomeErr e)) = fail (failure_of e) ctl
+transfer_next m l device s (Hands b t) = tells m b (asking m l device s t)
+transfer_next m l device s (End (ctl, t, Ok tt)) = done t ctl
+transfer_next m l device s (End (ctl, t, Err e)) = fail (failure_of e) ctl
 
 -- the position is that of a command of the script lent now, and the counters of the command are within their limits
 unfoldable pub valid_transfer : Layout → List ℕ → Transfer → Bool
@@ -83,5 +82,5 @@ valid_transfer l s t = pick (on_command s t.at) (valid_job l (command_at s t.at)
 
 unfoldable pub valid_transfer_next : Layout → List ℕ → TransferNext → Bool
 valid_transfer_next l s (Going t) = valid_transfer l s t
-valid_transfer_next l s (Handing b t) = valid_transfer l s t
-valid_transfer_next l s (End ctl t o) = true
+valid_transfer_next l s (Hands b t) = valid_transfer l s t
+valid_transfer_next l s (End (ctl, t, o)) = true

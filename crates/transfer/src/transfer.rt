@@ -1,4 +1,6 @@
 // The commands of a lent script, one after the other.
+#![tactic(auto, using(bus::proofs::Laws::picked, script::proofs::Laws::commands_past, crate::proofs::Laws::transfer_at, crate::proofs::Laws::told_end, crate::proofs::Laws::told_twice, script::proofs::Laws::on_next, crate::proofs::Laws::after_other, crate::proofs::Laws::after_read_lem, crate::proofs::Left::next_behind, bus::proofs::Laws::picked_first, bus::proofs::Laws::picked_second), unfolding(crate::specs::Transfer::is_read, crate::specs::Transfer::took_by, hardware::specs::Prog::pick, script::specs::Script::step_at, crate::specs::Transfer::transfer_next, crate::specs::Transfer::asking, crate::specs::Transfer::access_transfer, crate::specs::Transfer::rest_transfer, bus::specs::Command::job_next, crate::specs::Transfer::valid_transfer_next, crate::specs::Transfer::valid_transfer, crate::specs::Left::transfer_left, crate::specs::Left::transfer_next_left, crate::specs::Transfer::transfer, hardware::specs::Prog::erase, bus::specs::Command::valid_job_next, bus::specs::Left::job_next_left, bus::specs::Bus::or_held, hardware::specs::Registers::reply))]
+
 ghost use Rattle.std.specs.Prelude.{ℕ, ◌+◌, ◌<◌, ◌≤◌, ◌≡◌, true, length, drop, List};
 ghost use Rattle.hardware.specs.Asked.{fits, InType};
 ghost use Rattle.hardware.specs.Prog.{erase};
@@ -13,7 +15,7 @@ ghost use Rattle.transfer.specs.Left.{behind, transfer_left, transfer_next_left}
 use bus::command::Command;
 use bus::job::{Job, JobNext};
 use bus::{Layout, Taken};
-use hardware::{Access, Answer, Byte, Outcome};
+use hardware::{Access, Answer, Next, R};
 
 // at: the position of the command in the script.
 #[derive(Clone, Copy)]
@@ -23,15 +25,17 @@ pub struct Transfer {
     pub job: Job,
 }
 
-// Read: with the byte that is handed out.
+// What follows an answer. Read: with the byte that is handed out.
 #[derive(Clone, Copy)]
-pub enum TransferNext {
-    Going(Transfer),
-    Read(u8, Transfer),
-    End(u32, Taken, Outcome),
+pub enum Handing<S, T> {
+    Going(S),
+    Read(u8, S),
+    End(T),
 }
 
-#[tactic(auto, unfolding(crate::specs::Transfer::is_read))]
+// The end: the control word, the bytes read and how the script ended.
+pub type TransferNext = Handing<Transfer, (u32, Taken, R<()>)>;
+
 fn is_read(c: Command) -> bool
     ensures { result ≡ is_read c }
 {
@@ -44,7 +48,6 @@ fn is_read(c: Command) -> bool
     }
 }
 
-#[tactic(auto, unfolding(crate::specs::Transfer::took_by, hardware::specs::Prog::pick))]
 fn took(c: Command, t: Taken, b: u8) -> Taken
     ensures { result ≡ took_by c t b }
 {
@@ -59,36 +62,33 @@ fn took(c: Command, t: Taken, b: u8) -> Taken
 }
 
 // What is left of a script from a position on.
-#[tactic(auto, using(bus::proofs::Laws::picked, script::proofs::Laws::commands_past, crate::proofs::Laws::transfer_at), unfolding(script::specs::Script::step_at, crate::specs::Transfer::transfer_next, crate::specs::Transfer::asking, crate::specs::Transfer::access_transfer, crate::specs::Transfer::rest_transfer, bus::specs::Command::job_next, crate::specs::Transfer::valid_transfer_next, crate::specs::Transfer::valid_transfer, crate::specs::Left::transfer_left, crate::specs::Left::transfer_next_left, crate::specs::Transfer::transfer, hardware::specs::Prog::erase))]
 pub fn from(l: Layout, script: &[u8], at: usize, taken: Taken, ctl: u32) -> TransferNext
     ensures { Bounds ((m : Mode) (device : ℕ) → transfer_next m l device script.now result ≡ erase (transfer m l device (commands (drop at script.now)) taken ctl)) ((at < length script.now → on_command script.now at ≡ true) → valid_transfer_next l script.now result ≡ true) ((n : ℕ) → CLEAR_STEPS ≤ n → (at < length script.now → JOB_STEPS + behind at ≤ n) → transfer_next_left l result ≤ n) }
 {
     if at < script.len() {
         let here = script::reader::at(script, at);
         let c = here.command;
-        return TransferNext::Going(Transfer {
+        return Handing::Going(Transfer {
             at,
             taken,
             job: bus::job::open(l, c, ctl),
         });
     }
-    TransferNext::End(ctl, taken, Outcome::Ok)
+    Handing::End((ctl, taken, Ok(())))
 }
 
 // A byte was read; it is handed out with the access that follows.
-#[tactic(auto, using(crate::proofs::Laws::told_end, crate::proofs::Laws::told_twice), unfolding(crate::specs::Transfer::transfer_next, crate::specs::Transfer::valid_transfer_next, crate::specs::Left::transfer_next_left, crate::specs::Transfer::asking))]
 fn told(b: u8, n: TransferNext) -> TransferNext
     ensures { Bounds ((m : Mode) (l : Layout) (device : ℕ) (s : List ℕ) → transfer_next m l device s result ≡ tells m b (transfer_next m l device s n)) ((l : Layout) (s : List ℕ) → valid_transfer_next l s n ≡ true → valid_transfer_next l s result ≡ true) ((l : Layout) → transfer_next_left l result ≡ transfer_next_left l n) }
 {
     match n {
-        TransferNext::Going(t) => TransferNext::Read(b, t),
-        TransferNext::Read(_, t) => TransferNext::Read(b, t),
-        TransferNext::End(ctl, taken, o) => TransferNext::End(ctl, taken, o),
+        Handing::Going(t) => Handing::Read(b, t),
+        Handing::Read(_, t) => Handing::Read(b, t),
+        Handing::End((ctl, taken, o)) => Handing::End((ctl, taken, o)),
     }
 }
 
 // The command at a position is done, with the byte that was heard.
-#[tactic(auto, using(script::proofs::Laws::on_next, crate::proofs::Laws::after_other, crate::proofs::Laws::after_read_lem, crate::proofs::Left::next_behind), unfolding(script::specs::Script::step_at))]
 fn after(l: Layout, script: &[u8], at: usize, taken: Taken, b: u8, ctl: u32) -> TransferNext
     ensures { Bounds ((m : Mode) (device : ℕ) → transfer_next m l device script.now result ≡ erase (ran_on m l device script.now at taken b ctl)) (on_command script.now at ≡ true → valid_transfer_next l script.now result ≡ true) (length script.now ≤ 64 → transfer_next_left l result ≤ behind at) }
 {
@@ -102,20 +102,18 @@ fn after(l: Layout, script: &[u8], at: usize, taken: Taken, b: u8, ctl: u32) -> 
     n
 }
 
-#[tactic(auto, using(bus::proofs::Laws::picked), unfolding(crate::specs::Transfer::transfer_next, crate::specs::Transfer::asking, crate::specs::Transfer::access_transfer, crate::specs::Transfer::rest_transfer, bus::specs::Command::job_next, crate::specs::Transfer::valid_transfer_next, crate::specs::Transfer::valid_transfer, bus::specs::Command::valid_job_next, bus::specs::Left::job_next_left, crate::specs::Left::transfer_left, crate::specs::Left::transfer_next_left, bus::specs::Bus::or_held, hardware::specs::Registers::byte, hardware::specs::Prog::erase))]
 fn jobbed(l: Layout, device: u8, script: &[u8], at: usize, taken: Taken, n: JobNext) -> TransferNext
     ensures { Bounds ((m : Mode) → transfer_next m l device script.now result ≡ job_next l device (command_at script.now at) n (ran_on m l device script.now at taken)) (on_command script.now at ≡ true → valid_job_next l (command_at script.now at) n ≡ true → valid_transfer_next l script.now result ≡ true) (length script.now ≤ 64 → transfer_next_left l result ≤ job_next_left l n + behind at) }
 {
     match n {
-        JobNext::Going(job) => TransferNext::Going(Transfer { at, taken, job }),
-        JobNext::End(ctl, o) => match o {
-            Byte::Ok(b) => after(l, script, at, taken, b, ctl),
-            Byte::Err(e) => TransferNext::End(ctl, taken, Outcome::Err(e)),
+        Next::Going(job) => Handing::Going(Transfer { at, taken, job }),
+        Next::End((ctl, o)) => match o {
+            Ok(b) => after(l, script, at, taken, b, ctl),
+            Err(e) => Handing::End((ctl, taken, Err(e))),
         },
     }
 }
 
-#[tactic(auto, unfolding(crate::specs::Transfer::access_transfer))]
 pub fn access(l: Layout, s: Transfer) -> Access
     ensures { result ≡ access_transfer l s }
 {
@@ -130,7 +128,6 @@ pub fn heard(s: Transfer) -> u8
     bus::job::heard(job)
 }
 
-#[tactic(auto, using(bus::proofs::Laws::picked_first, bus::proofs::Laws::picked_second), unfolding(script::specs::Script::step_at, crate::specs::Transfer::rest_transfer, crate::specs::Transfer::valid_transfer, crate::specs::Transfer::access_transfer, crate::specs::Left::transfer_left))]
 pub fn step(l: Layout, device: u8, script: &[u8], s: Transfer, a: Answer) -> TransferNext
     ensures { Bounds ((m : Mode) → transfer_next m l device script.now result ≡ erase (rest_transfer m l device script.now s a)) (valid_transfer l script.now s ≡ true → valid_transfer_next l script.now result ≡ true) (length script.now ≤ 64 → fits (access_transfer l s) a ≡ true → InType a → transfer_next_left l result < transfer_left l s) }
 {
@@ -149,7 +146,6 @@ pub fn step(l: Layout, device: u8, script: &[u8], s: Transfer, a: Answer) -> Tra
     )
 }
 
-#[tactic(auto, unfolding(script::specs::Script::step_at, crate::specs::Transfer::valid_transfer, hardware::specs::Prog::pick))]
 pub fn valid(l: Layout, script: &[u8], s: Transfer) -> bool
     ensures { result ≡ valid_transfer l script.now s }
 {

@@ -10,15 +10,12 @@ use bench::receiver::{Chosen, Receiver, Stage};
 use bench::register::BenchState;
 use bench::{Bench, Page};
 use hardware::Port;
-use std::num::{wrapping_add_u8, wrapping_sub_u8};
+use std::array;
 
-// The states of the receiver.
+// The states of the receiver, and the words at the start.
 pub const ROWS: u8 = 39;
 
-// Of them Address 8 and AckWrite, in which the next fall of SCL makes the module pull SDA, or release it.
-pub const ADDRESSED: u8 = 9;
-
-pub const ACK_WRITE: u8 = 20;
+pub const COLUMNS: u8 = 4;
 
 // sent: the byte at the offset of the page chosen, which the module sends in the state Send.
 #[derive(Clone, Copy)]
@@ -28,53 +25,46 @@ pub struct Row {
     pub sent: u8,
 }
 
-// From the highest, the bits of 5a are 0, 1, 0, 1, 1, 0, 1, 0; those of a5 are the others.
-fn sent(place: u8, bit: u8) -> u8 {
-    let five = match place {
-        0 | 2 | 5 | 7 => bit == 0,
-        _ => bit == 1,
-    };
-    if five {
-        return 0x5a;
+impl Row {
+    pub(crate) fn plain(stage: Stage) -> Self {
+        Row {
+            stage,
+            noted: true,
+            sent: 0x5a,
+        }
     }
-    0xa5
-}
 
-fn plain(stage: Stage) -> Row {
-    Row {
-        stage,
-        noted: true,
-        sent: 0x5a,
+    // From the highest, the bits of 5a are 0, 1, 0, 1, 1, 0, 1, 0; those of a5 are the others.
+    fn sending(place: u8, bit: u8) -> Self {
+        let five = match place {
+            0 | 2 | 5 | 7 => bit == 0,
+            _ => bit == 1,
+        };
+        Row {
+            sent: if five { 0x5a } else { 0xa5 },
+            ..Row::plain(Stage::Send(place))
+        }
     }
-}
 
-fn sending(place: u8, bit: u8) -> Row {
-    Row {
-        stage: Stage::Send(place),
-        noted: true,
-        sent: sent(place, bit),
-    }
-}
-
-fn listening(noted: bool) -> Row {
-    Row {
-        stage: Stage::Listen,
-        noted,
-        sent: 0x5a,
+    fn listening(noted: bool) -> Self {
+        Row {
+            noted,
+            ..Row::plain(Stage::Listen)
+        }
     }
 }
 
 // State n: Send with each place's bit 0 and 1, Listen with SDA noted low and high.
 pub(crate) fn row_at(n: u8) -> Row {
     match n {
-        0 => plain(Stage::Idle),
-        1..=9 => plain(Stage::Address(n - 1)),
-        10..=18 => plain(Stage::Receive(n - 10)),
-        19 => plain(Stage::AckRead),
-        20 => plain(Stage::AckWrite),
-        21..=36 => sending((n - 21) / 2, (n - 21) % 2),
-        37 => listening(false),
-        _ => listening(true),
+        0 => Row::plain(Stage::Idle),
+        1..=9 => Row::plain(Stage::Address(n - 1)),
+        10..=18 => Row::plain(Stage::Receive(n - 10)),
+        19 => Row::plain(Stage::AckRead),
+        20 => Row::plain(Stage::AckWrite),
+        21..=36 => Row::sending((n - 21) / 2, (n - 21) % 2),
+        37 => Row::listening(false),
+        _ => Row::listening(true),
     }
 }
 
@@ -120,14 +110,14 @@ fn apart(column: u8) -> u32
 pub(crate) fn word(port: Port, column: u8) -> u32
     ensures { ready (layout_of port.family) result ≡ true }
 {
-    let family = port.family;
-    if bus::x550em(family) {
-        if bench::register::has_mux(port) {
-            return apart(column);
-        }
-        return late(column);
+    if !bus::x550em(port.family) {
+        return early(column);
     }
-    early(column)
+    if bench::register::has_mux(port) {
+        apart(column)
+    } else {
+        late(column)
+    }
 }
 
 // ESDP at the start, with the mux off in every second one; in each some bit besides bit 1 is clear, bit 31.
@@ -145,30 +135,25 @@ pub(crate) fn esdp(column: u8) -> u32
 // With the first two words A0 is chosen, with the others A2; with every second one the next byte is the offset. The bits
 // taken are those of the address A0.
 fn receiver(row: Row, column: u8) -> Receiver {
-    let stage = row.stage;
-    let page = if column < 2 { Chosen::A0 } else { Chosen::A2 };
     Receiver {
-        stage,
+        stage: row.stage,
         bits: 0xa0,
-        page,
+        page: if column < 2 { Chosen::A0 } else { Chosen::A2 },
         first: column % 2 == 0,
         noted: row.noted,
     }
 }
 
-// Byte i is first + i, and after 255 comes 0.
-fn counted(first: u8) -> [u8; 256]
-    ensures { (i : ℕ) → i < 256 → slice_index result i ≡ (first + i) % 256 }
+// Byte i is FIRST + i, and after 255 comes 0.
+fn counted<const FIRST: u8>() -> [u8; 256]
+    ensures { (i : ℕ) → i < 256 → slice_index result i ≡ (FIRST + i) % 256 }
 {
-    let mut bytes = [0u8; 256];
-    let mut byte = first;
-    let mut i = 0;
-    while i < 256 {
-        bytes[i] = byte;
-        byte = wrapping_add_u8(byte, 1);
-        i += 1;
-    }
-    bytes
+    array::from_fn(
+        |i|
+            requires { i < 256 }
+            ensures { result ≡ (FIRST + i) % 256 }
+        { FIRST.wrapping_add(i as u8) },
+    )
 }
 
 // Byte i of A0 is i + 11, of A2 it is i + 91 (hexadecimal): at both offsets stands the row's byte.
@@ -177,15 +162,13 @@ fn module(row: Row, column: u8) -> Bench
     ensures { (under result.a0 ≡ row.sent) × (under result.a2 ≡ row.sent) }
 {
     let receiver = receiver(row, column);
-    let low = counted(0x11);
-    let high = counted(0x91);
     let a0 = Page {
-        offset: wrapping_sub_u8(row.sent, 0x11),
-        bytes: low,
+        offset: row.sent.wrapping_sub(0x11),
+        bytes: counted::<0x11>(),
     };
     let a2 = Page {
-        offset: wrapping_sub_u8(row.sent, 0x91),
-        bytes: high,
+        offset: row.sent.wrapping_sub(0x91),
+        bytes: counted::<0x91>(),
     };
     Bench { receiver, a0, a2 }
 }
@@ -193,11 +176,10 @@ fn module(row: Row, column: u8) -> Bench
 pub(crate) fn state(port: Port, row: Row, column: u8) -> BenchState
     ensures { ready (layout_of port.family) result.word ≡ true }
 {
-    let bench = module(row, column);
     BenchState {
         word: word(port, column),
         esdp: esdp(column),
-        bench,
+        bench: module(row, column),
     }
 }
 
@@ -205,10 +187,9 @@ pub(crate) fn state(port: Port, row: Row, column: u8) -> BenchState
 pub(crate) fn pulled(row: Row) -> BenchState
     ensures { result.word ≡ 0xffffddff }
 {
-    let bench = module(row, 2);
     BenchState {
         word: 0xffff_ddff,
         esdp: 0,
-        bench,
+        bench: module(row, 2),
     }
 }

@@ -1,6 +1,5 @@
-use Rattle.std.proofs.Common.{rules}
 use Rattle.bench.proofs.Laws.{asks_at_lem, fall_at_lem, pick_false, pick_true}
-use Rattle.bench.specs.Receiver.{asks_at, at, fall_at}
+use Rattle.bench.specs.Receiver.{asks_at, fall_at}
 use Rattle.hardware.specs.Prog.{pick}
 use Rattle.std.proofs.Common.{sym, refl, ◌∙◌, add-one, le-ltb, lt-ltb}
 use Rattle.bench.proofs.receiver.fall.Goals as goal

@@ -2,6 +2,6 @@ use Rattle.host.specs.Open.{OpenedBy}
 use Rattle.host.specs.Shown.{Shows, over_identify, shows_identify}
 use Rattle.host.proofs.open.sulfryk_identify_qsfp_open.Goals as goal
 
-pub returns-in-Known : goal.returns-in-Known
+pub returns-in-Some : goal.returns-in-Some
 unfolding OpenedBy Shows
-returns-in-Known c = rw (← c.by_number.ensures, c.in-Known.is) (c.identify_qsfp_open_with.result, c.identify_qsfp_open_with.ensures, shows_identify over_identify c.identify_qsfp_open_with.result c.identify.result (rw c.identify_over-over.ensures at c.identify.ensures))
+returns-in-Some c = rw (← c.by_number.ensures, c.in-Some.is) (c.identify_qsfp_open_with.result, c.identify_qsfp_open_with.ensures, shows_identify over_identify c.identify_qsfp_open_with.result c.identify.result (rw c.identify_over-over.ensures at c.identify.ensures))

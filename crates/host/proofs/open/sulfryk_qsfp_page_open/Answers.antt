@@ -2,6 +2,6 @@ use Rattle.host.specs.Open.{OpenedBy}
 use Rattle.host.specs.Shown.{Shows, over_page, shows_page}
 use Rattle.host.proofs.open.sulfryk_qsfp_page_open.Goals as goal
 
-pub returns-in-Known : goal.returns-in-Known
+pub returns-in-Some : goal.returns-in-Some
 unfolding OpenedBy Shows
-returns-in-Known c = rw (← c.by_number.ensures, c.in-Known.is) (c.qsfp_page_open_with.result, c.qsfp_page_open_with.ensures, shows_page over_page c.qsfp_page_open_with.result c.page.result (rw c.page_over-over.ensures at c.page.ensures))
+returns-in-Some c = rw (← c.by_number.ensures, c.in-Some.is) (c.qsfp_page_open_with.result, c.qsfp_page_open_with.ensures, shows_page over_page c.qsfp_page_open_with.result c.page.result (rw c.page_over-over.ensures at c.page.ensures))

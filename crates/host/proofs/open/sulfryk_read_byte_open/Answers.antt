@@ -2,6 +2,6 @@ use Rattle.host.specs.Open.{OpenedBy}
 use Rattle.host.specs.Shown.{Shows, over_transfer, shows_transfer}
 use Rattle.host.proofs.open.sulfryk_read_byte_open.Goals as goal
 
-pub returns-in-Known : goal.returns-in-Known
+pub returns-in-Some : goal.returns-in-Some
 unfolding OpenedBy Shows
-returns-in-Known c = rw (← c.by_number.ensures, c.in-Known.is) (c.read_byte_open_with.result, c.read_byte_open_with.ensures, shows_transfer over_transfer c.read_byte_open_with.result c.transfer.result (rw c.transfer_over-over.ensures at c.transfer.ensures))
+returns-in-Some c = rw (← c.by_number.ensures, c.in-Some.is) (c.read_byte_open_with.result, c.read_byte_open_with.ensures, shows_transfer over_transfer c.read_byte_open_with.result c.transfer.result (rw c.transfer_over-over.ensures at c.transfer.ensures))

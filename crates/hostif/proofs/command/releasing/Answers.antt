@@ -1,7 +1,7 @@
 use Rattle.std.proofs.Common.{arith, rules}
 use Rattle.hardware.specs.Change.{access_update, change, rest_update}
 use Rattle.hardware.specs.Prog.{◌>>=◌, erase, followed}
-use Rattle.hardware.specs.Registers.{byte, flag, outcome, word}
+use Rattle.hardware.specs.Registers.{reply}
 use Rattle.hardware.proofs.Prog.{going}
 use Rattle.hostif.specs.Hostif.{access_command, acquired, both, closed, command_next, hicr_read, released, request, requested, respond, rest_command, valid_command, valid_command_next}
 use Rattle.sync.specs.Resource.{release_bits_next, valid_release_bits_next}
@@ -13,5 +13,5 @@ unfolding command_next access_command rest_command release_bits_next valid_comma
 returns-in-Going c = record { yields = λ l. rw c.in-Going.is (going _ _ _); limits = λ m h. rw c.in-Going.is at h; within = rw c.in-Going.is (omega arith) }
 
 pub returns-in-End : goal.returns-in-End
-unfolding command_next release_bits_next followed ◌>>=◌ erase word outcome byte flag hicr_read request respond both closed released requested acquired change access_update rest_update valid_command valid_command_next command_next_left
+unfolding command_next release_bits_next followed ◌>>=◌ erase reply hicr_read request respond both closed released requested acquired change access_update rest_update valid_command valid_command_next command_next_left
 returns-in-End c = search rules

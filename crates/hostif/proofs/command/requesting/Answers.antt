@@ -1,7 +1,7 @@
 use Rattle.std.proofs.Common.{arith, rules}
 use Rattle.hardware.specs.Change.{access_update, change, rest_update}
 use Rattle.hardware.specs.Prog.{◌>>=◌, followed}
-use Rattle.hardware.specs.Registers.{byte, flag, outcome, word}
+use Rattle.hardware.specs.Registers.{reply}
 use Rattle.hardware.proofs.Prog.{going}
 use Rattle.hostif.specs.Hostif.{access_command, acquired, both, closed, command_next, hicr_read, released, request, request_next, requested, respond, rest_command, valid_command, valid_command_next, valid_request_next}
 use Rattle.hostif.specs.Left.{command_left, command_next_left, request_next_left}
@@ -12,5 +12,5 @@ unfolding request_next command_next access_command rest_command valid_command_ne
 returns-in-Going c = record { yields = λ l. rw c.in-Going.is (going _ _ _); limits = λ m h. rw c.in-Going.is at h; within = rw c.in-Going.is (omega arith) }
 
 pub returns-in-End : goal.returns-in-End
-unfolding request_next followed ◌>>=◌ word outcome byte flag hicr_read request respond both closed released requested acquired change access_update rest_update valid_command
+unfolding request_next followed ◌>>=◌ reply hicr_read request respond both closed released requested acquired change access_update rest_update valid_command
 returns-in-End c = search rules

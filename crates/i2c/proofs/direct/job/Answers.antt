@@ -6,12 +6,12 @@ use Rattle.i2c.specs.I2c.{device_of}
 use Rattle.i2c.proofs.Moves.{carrying_on}
 use Rattle.i2c.proofs.direct.job.Goals as goal
 
-pub returns-in-On : goal.returns-in-On
+pub returns-then-within : goal.returns-then-within
 unfolding within FoundIn
-returns-in-On c =
+returns-then-within c =
     let args = c.args in
     let w = sym c.within.ensures ∙ c.if-within.true in
-    let found = rw c.in-On.is at c.command.ensures in
+    let found = rw c.in_ok-c.was at c.command.ensures in
     moved_map _ _
     (λ x next j taken.
     carrying_on args.port args.r args.tries args.cap args.m args.left args.at taken args.j next args.a x

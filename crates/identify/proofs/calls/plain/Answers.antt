@@ -1,10 +1,12 @@
+use Rattle.std.proofs.lemmas.Result.{err_from_is_err_and}
 use Rattle.hardware.proofs.Laws.{admits_no}
 use Rattle.identify.specs.Calls.{said_identify, stands_identify, step_identify}
 use mathlib.Core.Path.{sym}
 use Rattle.identify.proofs.calls.plain.Goals as goal
 
-pub returns-in-No : goal.returns-in-No
+pub returns-in_err-admit : goal.returns-in_err-admit
 unfolding step_identify said_identify stands_identify
-returns-in-No c =
+returns-in_err-admit c =
     let h = rw (c.valid.ensures, c.access.ensures) at c.admit.ensures in
-    rw c.in-Going.is (record { yields = sym (admits_no _ _ _ _ c.in-No.is h); limits = tt })
+    let p = err_from_is_err_and c.from_residual-in_err-admit.result c.from_residual-in_err-admit.ensures.1 in
+    rw (c.in_ok-port.ensures.ok_part, p.1, p.2) (record { yields = sym (admits_no _ _ _ _ c.in_err-admit.was h); limits = tt })

@@ -8,9 +8,9 @@ use Rattle.light.proofs.Laws.{cap_most, own}
 use Rattle.light.specs.Light.{byte_seen, light_from, request_at}
 use Rattle.light.specs.Sensed.{measured_of}
 use Rattle.light.specs.Walk.{access_light, light_next, rest_light, valid_light, valid_light_next}
-use Rattle.transfer.specs.Attempt.{got}
 use borrow.Author.Tests.{le-leb}
 use mathlib.Core.Path.{refl}
+use Rattle.hardware.specs.Registers.{reply}
 use Rattle.light.proofs.walk.begin.Goals as goal
 
 pub returns-in-Going : goal.returns-in-Going
@@ -28,7 +28,7 @@ returns-in-Going c =
     }
 
 pub returns-in-Err : goal.returns-in-Err
-unfolding light_next light_from measured_of erase valued value_of got byte_seen or_err valid_light_next
+unfolding light_next light_from measured_of erase valued value_of reply byte_seen or_err valid_light_next
 returns-in-Err c =
     let port = c.args.port in
     let q = c.args.q in

@@ -7,9 +7,9 @@ use Rattle.i2c.specs.I2c.{locked, value_of}
 use Rattle.page.proofs.Laws.{cap_most, filled_begun, filled_over, own}
 use Rattle.page.specs.Page.{byte_seen, page_from, paged_of, place_of, request_at}
 use Rattle.page.specs.Walk.{access_page, filled_next, filling, page_next, rest_page, valid_page, valid_page_next}
-use Rattle.transfer.specs.Attempt.{got}
 use borrow.Author.Tests.{lt-ltb}
 use mathlib.Core.Path.{refl}
+use Rattle.hardware.specs.Registers.{reply}
 use Rattle.page.proofs.walk.begin.Goals as goal
 
 pub returns-in-Going : goal.returns-in-Going
@@ -28,7 +28,7 @@ returns-in-Going c =
     }
 
 pub returns-in-Err : goal.returns-in-Err
-unfolding page_next filled_next filling page_from paged_of erase valued value_of got byte_seen valid_page_next
+unfolding page_next filled_next filling page_from paged_of erase valued value_of reply byte_seen valid_page_next
 returns-in-Err c =
     let port = c.args.port in
     let q = c.args.q in

@@ -1,13 +1,12 @@
-use Rattle.std.proofs.Common.{◌≡◌, ◌∙◌, true, rules}
-use Rattle.hardware.specs.Prog.{pick}
-use Rattle.script.proofs.Laws.{complete_at, next_in}
+use Rattle.std.proofs.Common.{◌∙◌, drop, rules, tests}
+use Rattle.std.proofs.lemmas.Iterator.Consumers.{YieldsList-from_first}
+use Rattle.std.proofs.lemmas.Iterator.Search.{all_from_yields_List}
+use Rattle.script.specs.Script.{head_known, places}
+use Rattle.script.proofs.Laws.{all_known}
 use Rattle.script.proofs.cursor.complete.Goals as goal
 
-pub loop-at-preserved : goal.loop-at-preserved
-unfolding pick
-loop-at-preserved c =
-    let step = complete_at c.args.script.now c.loop-at.at c.loop-at-test.true in
-    let is_known : c.known.result ≡ true = search rules in (
-      next_in _ _ c.loop-at.invariant.0 c.next-at.ensures,
-      rw c.next-at.ensures (c.loop-at.invariant.1 ∙ rw (← c.known.ensures, is_known) at step),
-    )
+pub returns : goal.returns
+returns c =
+    all_from_yields_List (λ at. head_known (drop at c.args.script.now)) c.all.new.self _ _ c.all.ensures.ran
+    (YieldsList-from_first (λ at. at) (λ p. places p.script.now p.at) _ c.places_of.ensures) (λ x b q k. search (rules, tests))
+    ∙ all_known c.args.script.now 0

@@ -1,11 +1,12 @@
-use Rattle.script.proofs.Laws.{aligned_before, aligned_next, next_in}
+use Rattle.std.proofs.Common.{◌∙◌, eqb, rules, tests}
+use Rattle.std.proofs.lemmas.Iterator.Consumers.{YieldsList-from_first}
+use Rattle.std.proofs.lemmas.Iterator.Search.{any_from_yields_List}
+use Rattle.script.specs.Script.{places}
+use Rattle.script.proofs.Laws.{found}
 use Rattle.script.proofs.cursor.on_command.Goals as goal
 
-pub loop-place-preserved : goal.loop-place-preserved
-loop-place-preserved c =
-    let s = c.args.script.now in
-    let place = c.loop-place.place in (
-      next_in _ _ c.loop-place.invariant.0 c.next-place.ensures,
-      rw c.next-place.ensures (aligned_next s place c.loop-place.invariant.1),
-      λ l. aligned_before s place c.args.at c.loop-place.invariant.1 c.loop-place.invariant.2 c.if-place-at.false (rw c.next-place.ensures at l),
-    )
+pub returns : goal.returns
+returns c =
+    any_from_yields_List (λ place. eqb place c.args.at) c.any.new.self _ _ c.any.ensures.ran
+    (YieldsList-from_first (λ at. at) (λ p. places p.script.now p.at) _ c.places_of.ensures) (λ x b q k. search (rules, tests))
+    ∙ found c.args.script.now c.args.at

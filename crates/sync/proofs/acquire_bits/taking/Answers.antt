@@ -1,7 +1,7 @@
 use Rattle.std.proofs.Common.{rules}
 use Rattle.hardware.specs.Change.{access_update, rest_update}
 use Rattle.hardware.specs.Prog.{◌>>=◌, erase, followed, or_err, pick}
-use Rattle.hardware.specs.Registers.{outcome}
+use Rattle.hardware.specs.Registers.{reply}
 use Rattle.hardware.proofs.Prog.{going}
 use Rattle.sync.specs.Lock.{unlock_next}
 use Rattle.sync.specs.Resource.{access_acquire_bits, access_acquire_stage, acquire_bits_next, rest_acquire_bits, rest_acquire_stage, valid_acquire_bits, valid_acquire_bits_next, valid_acquire_stage}
@@ -12,9 +12,9 @@ unfolding acquire_bits_next access_acquire_bits access_acquire_stage rest_acquir
 returns-in-Going-clause-yields c = rw c.in-Going.is (going _ _ _)
 
 pub returns-in-Ok-clause-yields : goal.returns-in-Ok-clause-yields
-unfolding unlock_next followed ◌>>=◌ or_err outcome access_update rest_update valid_acquire_stage valid_acquire_bits
+unfolding unlock_next followed ◌>>=◌ or_err reply access_update rest_update valid_acquire_stage valid_acquire_bits
 returns-in-Ok-clause-yields c = search rules
 
 pub returns-in-Err-clause-yields : goal.returns-in-Err-clause-yields
-unfolding acquire_bits_next unlock_next followed ◌>>=◌ erase or_err outcome access_update rest_update valid_acquire_stage valid_acquire_bits valid_acquire_bits_next
+unfolding acquire_bits_next unlock_next followed ◌>>=◌ erase or_err reply access_update rest_update valid_acquire_stage valid_acquire_bits valid_acquire_bits_next
 returns-in-Err-clause-yields c = search rules

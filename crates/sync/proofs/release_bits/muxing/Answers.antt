@@ -1,7 +1,7 @@
 use Rattle.std.proofs.Common.{rules}
 use Rattle.hardware.specs.Change.{update_next}
 use Rattle.hardware.specs.Prog.{◌>>=◌, erase, followed, or_err}
-use Rattle.hardware.specs.Registers.{outcome}
+use Rattle.hardware.specs.Registers.{reply}
 use Rattle.hardware.proofs.Prog.{going}
 use Rattle.sync.specs.Resource.{access_release_bits, release_bits_next, rest_release_bits, valid_release_bits, valid_release_bits_next}
 use Rattle.sync.proofs.release_bits.muxing.Goals as goal
@@ -11,9 +11,9 @@ unfolding release_bits_next access_release_bits rest_release_bits update_next va
 returns-in-Going-clause-yields c = rw c.in-Going.is (going _ _ _)
 
 pub returns-in-Ok-clause-yields : goal.returns-in-Ok-clause-yields
-unfolding update_next followed ◌>>=◌ or_err outcome valid_release_bits
+unfolding update_next followed ◌>>=◌ or_err reply valid_release_bits
 returns-in-Ok-clause-yields c = search rules
 
 pub returns-in-Err-clause-yields : goal.returns-in-Err-clause-yields
-unfolding release_bits_next update_next followed ◌>>=◌ erase or_err outcome valid_release_bits valid_release_bits_next
+unfolding release_bits_next update_next followed ◌>>=◌ erase or_err reply valid_release_bits valid_release_bits_next
 returns-in-Err-clause-yields c = search rules

@@ -4,9 +4,9 @@ use Rattle.hardware.specs.Prog.{◌>>=◌, erase, pick}
 use Rattle.sync.specs.Lock.{access_unlock, rest_unlock, unlock, unlock_next}
 use Rattle.sync.proofs.unlock.open.Goals as goal
 
-pub returns-then-same : goal.returns-then-same
+pub returns-then-is : goal.returns-then-is
 unfolding unlock pick unlock_next access_unlock rest_unlock change access_update rest_update erase ◌>>=◌
-returns-then-same c = search rules
+returns-then-is c = search rules
 
 pub returns : goal.returns
 unfolding unlock pick unlock_next access_unlock rest_unlock change access_update rest_update erase ◌>>=◌

@@ -2,9 +2,10 @@ use Rattle.std.proofs.Common.{arith, rules}
 use Rattle.hardware.specs.Prog.{◌>>=◌, erase, followed}
 use Rattle.hardware.proofs.Prog.{heard_on}
 use Rattle.transfer.proofs.Laws.{told_on}
-use Rattle.transfer.specs.Attempt.{access_attempt, heard_attempt, attempt_next, awaiting, got, or_tried, rest_attempt, tried, valid_attempt, valid_attempt_next}
+use Rattle.transfer.specs.Attempt.{access_attempt, heard_attempt, attempt_next, awaiting, or_tried, rest_attempt, tried, valid_attempt, valid_attempt_next}
 use Rattle.transfer.specs.Transfer.{asking, transfer_next, valid_transfer_next}
 use Rattle.transfer.specs.Left.{attempt_next_left, attempt_left, transfer_next_left}
+use Rattle.hardware.specs.Registers.{reply}
 use Rattle.transfer.proofs.attempt.from_transfer.Goals as goal
 
 pub returns-in-Going : goal.returns-in-Going
@@ -26,7 +27,7 @@ returns-in-Read c =
     }
 
 pub returns-in-Ok : goal.returns-in-Ok
-unfolding attempt_next got followed ◌>>=◌ erase valid_attempt_next transfer_next tried or_tried attempt_next_left
+unfolding attempt_next reply followed ◌>>=◌ erase valid_attempt_next transfer_next tried or_tried attempt_next_left
 returns-in-Ok c = search rules
 
 pub returns-in-Err : goal.returns-in-Err

@@ -50,8 +50,10 @@ pub fn acquire_step(s: AcquireCall, a: Answer) -> AcquireTold
 {
     let (port, hw, acquire) = s.ok_or(Refusal::Finished)?;
     let valid = valid_acquire(port, acquire);
-    hardware::admit(valid, crate::acquire::access(port, hw, acquire), a)?;
-    acquire_told(port, hw, crate::acquire::step(port, hw, acquire, a))
+    match hardware::admit(valid, crate::acquire::access(port, hw, acquire), a) {
+        Ok(()) => acquire_told(port, hw, crate::acquire::step(port, hw, acquire, a)),
+        Err(q) => Err(q),
+    }
 }
 
 fn release_told(port: Port, hw: u32, n: ReleaseNext) -> ReleaseTold

@@ -114,8 +114,10 @@ pub fn plain(s: IdentifyCall, a: Answer) -> IdentifyTold
     ensures { Keeps (said_identify result ≡ step_identify s a) (stands_identify result) }
 {
     let (port, q, m, t) = s.ok_or(Refusal::Finished)?;
-    hardware::admit(valid(port, m, t), crate::walk::access(port, t), a)?;
-    told(port, q, m, crate::walk::step(port, q, t, a))
+    match hardware::admit(valid(port, m, t), crate::walk::access(port, t), a) {
+        Ok(()) => told(port, q, m, crate::walk::step(port, q, t, a)),
+        Err(n) => Err(n),
+    }
 }
 
 // The same: the direct way where there is one, else the plain one.

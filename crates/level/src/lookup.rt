@@ -39,12 +39,24 @@ pub(crate) fn table() -> &'static [u16; 482]
     &LEAST
 }
 
-// The place of the last entry that is not above the count.
+// The place of the last entry that is not above the count. Nine halvings leave one place of 482.
+#[tactic(auto, using(crate::proofs::Search::Between, crate::proofs::Search::start, crate::proofs::Search::up, crate::proofs::Search::down, crate::proofs::Search::found))]
 pub(crate) fn place(count: u16) -> usize
     requires { 1 ≤ count }
     ensures { Greatest count result }
 {
-    table().partition_point(|least| *least <= count) - 1
+    let least = table();
+    let mut lo: usize = 0;
+    let mut hi: usize = 482;
+    for _ in 0u8..9 {
+        let mid = (lo + hi) / 2;
+        if least[mid] <= count {
+            lo = mid;
+        } else {
+            hi = mid;
+        }
+    }
+    lo
 }
 
 #[tactic(auto, using(crate::proofs::Levels::place_fits, crate::proofs::Levels::tenths_fits, crate::proofs::Levels::tenths_is))]

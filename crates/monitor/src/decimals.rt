@@ -2,8 +2,15 @@
 use std::fmt;
 use std::fmt::{Display, Formatter};
 
+// What `raised` makes of 0.
+const ZERO: u32 = 32_768;
+
 fn sign(n: i16) -> &'static str {
-    if n < 0 { "-" } else { "" }
+    if unsigned::raised(n) < ZERO { "-" } else { "" }
+}
+
+fn size(n: i16) -> u32 {
+    unsigned::raised(n).abs_diff(ZERO)
 }
 
 // A count of ten-thousandths.
@@ -22,7 +29,7 @@ pub struct Tenths(pub i16);
 
 impl Display for Tenths {
     fn fmt<W: fmt::Write>(&self, f: &mut Formatter<W>) -> fmt::Result {
-        let size = self.0.unsigned_abs();
+        let size = size(self.0);
         write!(f, "{}{}.{}", sign(self.0), size / 10, size % 10)
     }
 }
@@ -33,7 +40,7 @@ pub struct Parts(pub i16);
 
 impl Display for Parts {
     fn fmt<W: fmt::Write>(&self, f: &mut Formatter<W>) -> fmt::Result {
-        let size = u32::from(self.0.unsigned_abs());
+        let size = size(self.0);
         let decimals = size % 256 * 390_625;
         write!(
             f,

@@ -7,39 +7,22 @@ use crate::queue::{Queue, Source};
 use crate::reads::{Change, Turns};
 use crate::rng;
 use crate::rules::{Rule, Rules};
-use std::str::FromStr;
 use transfer::attempt::Sequence;
 
 // Added to the register's number in a rule of the lines.
 const MARK: u32 = 0x8000_0000;
 
-// The numbers of a line, with a blank between two; None after the last.
-#[derive(Drop)]
+// The numbers of a line that are left.
+#[derive(Clone, Copy)]
 struct Numbers<'a> {
-    rest: Option<&'a str>,
+    rest: &'a [u32],
 }
 
-impl<'a> Numbers<'a> {
-    // A number has up to ten digits.
-    fn next(&mut self) -> Result<u32, Malformed> {
-        let text = self.rest.ok_or(Malformed)?;
-        let (word, rest) = match text.split_once(' ') {
-            Some((word, rest)) => (word, Some(rest)),
-            None => (text, None),
-        };
-        self.rest = rest;
-        if 10 < word.len() || !word.bytes().all(|b| b.is_ascii_digit()) {
-            return Err(Malformed);
-        }
-        word.parse().map_err(|_| Malformed)
-    }
-
+impl Numbers<'_> {
     fn several<const N: usize>(&mut self) -> Result<[u32; N], Malformed> {
-        let mut numbers = [0u32; N];
-        for number in numbers.iter_mut() {
-            *number = self.next()?;
-        }
-        Ok(numbers)
+        let (numbers, rest) = self.rest.split_first_chunk::<N>().ok_or(Malformed)?;
+        self.rest = rest;
+        Ok(*numbers)
     }
 }
 
@@ -143,11 +126,11 @@ pub struct Case {
     summary: Summary,
 }
 
-impl FromStr for Case {
-    type Err = Malformed;
+impl TryFrom<&[u32]> for Case {
+    type Error = Malformed;
 
-    fn from_str(line: &str) -> Result<Self, Malformed> {
-        let mut numbers = Numbers { rest: Some(line) };
+    fn try_from(line: &[u32]) -> Result<Self, Malformed> {
+        let mut numbers = Numbers { rest: line };
         let [number, family, device, lan, a, b, c] = numbers.several::<7>()?;
         let [stream, fail_at, ones_at, count] = numbers.several::<4>()?;
         let (call, sequence) = called(number)?;
@@ -169,7 +152,7 @@ impl FromStr for Case {
             rules: rules(&mut numbers, count, queue(call, asked))?,
         };
         let [accesses, sum, code, v1, v2, v3] = numbers.several::<6>()?;
-        if numbers.rest.is_some() {
+        if !numbers.rest.is_empty() {
             return Err(Malformed);
         }
         let values = [v1, v2, v3];

@@ -8,6 +8,7 @@ mod case;
 mod host;
 mod levels;
 mod lights;
+mod line;
 mod lines;
 mod methods;
 mod modules;
@@ -23,9 +24,9 @@ mod sensors;
 mod transfers;
 
 use asked::Malformed;
-use case::Case;
+use line::Line;
 use std::io;
-use std::io::{BufRead, BufReader, Read};
+use std::io::Read;
 
 // The lines read, those that agree, and those that differ and were named.
 #[derive(Clone, Copy, Default)]
@@ -49,35 +50,41 @@ impl Tally {
     }
 }
 
-fn case_of(line: &[u8]) -> Result<Case, Malformed> {
-    let text = str::from_utf8(line).map_err(|_| Malformed)?;
-    text.parse()
+// A byte of the list. A line that is malformed is named; false then.
+fn fed(rt: &impl Print, tally: &mut Tally, line: &mut Line, b: u8) -> io::Result<bool> {
+    match line.byte(b) {
+        Ok(None) => {}
+        Ok(Some(case)) => tally.count(rt, case.agrees())?,
+        Err(Malformed) => {
+            println!(rt; "line {} is malformed", tally.lines.wrapping_add(1))?;
+            return Ok(false);
+        }
+    }
+    Ok(true)
 }
 
-// The bytes of the longest line: 45 numbers of up to ten digits, a blank or the line's end behind each.
-const LONGEST: u64 = 495;
-
-fn main(rt: HostRuntime) -> io::Result<()> {
-    let alloc = rt.alloc();
-    let mut tally = Tally::default();
-    let mut input = BufReader::new(alloc, rt.reader())?;
+// The list, up to its end or a line that is malformed. False: there is such a line. The last line may lack its end.
+fn all(rt: &impl Print, input: &mut impl Read, tally: &mut Tally) -> io::Result<bool> {
+    let mut line = Line::EMPTY;
+    let mut buffer = [0; 65536];
     for _ in 0..u64::MAX {
-        let mut line = Vec::new(alloc);
-        // A byte more than the longest, so that what is cut off is no case.
-        if input
-            .by_ref()
-            .take(LONGEST + 1)
-            .read_until(b'\n', &mut line)?
-            == 0
-        {
+        let n = input.read(&mut buffer)?;
+        if n == 0 {
             break;
         }
-        match case_of(line.strip_suffix(b"\n").unwrap_or(&line)) {
-            Ok(case) => tally.count(&rt, case.agrees())?,
-            Err(Malformed) => {
-                return println!(rt; "line {} is malformed", tally.lines.wrapping_add(1));
+        for b in &buffer[..n] {
+            if !fed(rt, tally, &mut line, *b)? {
+                return Ok(false);
             }
         }
     }
-    println!(rt; "{} cases, {} agree", tally.lines, tally.agree)
+    Ok(line.is_empty() || fed(rt, tally, &mut line, b'\n')?)
+}
+
+fn main(rt: HostRuntime) -> io::Result<()> {
+    let mut tally = Tally::default();
+    if all(&rt, &mut rt.reader(), &mut tally)? {
+        println!(rt; "{} cases, {} agree", tally.lines, tally.agree)?;
+    }
+    Ok(())
 }

@@ -99,9 +99,14 @@ fn named<T: Copy>(text: &[u8], values: &[(&str, T)], otherwise: Fault) -> Result
         .ok_or(otherwise)
 }
 
+// The papers' number of a family by its name; 5 is that of none.
+fn family_number(text: &[u8]) -> u32 {
+    named(text, &FAMILIES, Fault::Name).map_or(5, |f| u32::from(hardware::family_number(f)))
+}
+
 // Question 1.
 fn family(text: &[u8]) -> Result<Family, Fault> {
-    named(text, &FAMILIES, Fault::Refused(Refusal::Family))
+    hardware::open_family(family_number(text)).map_err(Fault::Refused)
 }
 
 // Question 2, which the 82599's opening puts to any number; what is no number is not 0 or 1 either.

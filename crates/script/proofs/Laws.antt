@@ -77,6 +77,17 @@ starts_step (b ∷ []) = refl
 starts_step (b ∷ v ∷ s) =
     elim (eqb b 0x20) as (λ x. drop (pick x 2 1) (true ∷ pick x (false ∷ starts s) (starts (v ∷ s))) ≡ starts (drop (pick x 2 1) (b ∷ v ∷ s))) [ true ↦ refl | false ↦ refl ]
 
+-- no command begins inside another
+starts_inside : (t : List ℕ) (k : ℕ) → 0 < k → k < head_width t → get_or (starts t) k false ≡ false
+unfolding starts head_width head_sends pick
+starts_inside t zero l h = absurd (omega arith)
+starts_inside [] (suc k) l h = absurd (omega arith)
+starts_inside (b ∷ []) (suc k) l h = absurd (omega arith)
+starts_inside (b ∷ v ∷ s) (suc zero) l h =
+    (elim (eqb b 0x20) as (λ x. 1 < pick x 2 1 → get_or (true ∷ pick x (false ∷ starts s) (starts (v ∷ s))) 1 false ≡ false) [ true ↦ λ _. refl | false ↦ λ g. absurd (omega arith) ]) h
+starts_inside (b ∷ v ∷ s) (suc (suc k)) l h =
+    absurd ((elim (eqb b 0x20) as (λ x. suc (suc k) < pick x 2 1 → ⊥) [ true ↦ λ g. omega arith | false ↦ λ g. omega arith ]) h)
+
 starts_length : (t : List ℕ) → length (starts t) ≡ length t
 unfolding starts pick
 starts_length [] = refl
@@ -115,6 +126,12 @@ unfolding on_command
 aligned_first s at h l =
     let long : 0 < length (drop at s) = rw length-drop (omega arith) in
     rw add-zero at (sym (get_or-drop at (starts s) 0 false) ∙ ap (λ t. get_or t 0 false) h ∙ starts_first (drop at s) long)
+
+-- no command begins between a command and the next
+pub aligned_inside : (s : List ℕ) (at k : ℕ) → Aligned s at → 0 < k → at + k < next_at s at → on_command s (at + k) ≡ false
+unfolding on_command next_at
+aligned_inside s at k h l m =
+    sym (get_or-drop at (starts s) k false) ∙ ap (λ t. get_or t k false) h ∙ starts_inside (drop at s) k l (omega arith)
 
 pub on_past : (s : List ℕ) (at : ℕ) → length s ≤ at → on_command s at ≡ false
 unfolding on_command

@@ -48,10 +48,8 @@ fn single(b: u8) -> bool
 fn sending(script: &[u8], at: usize) -> bool
     ensures { result ≡ head_sends (drop at script.now) }
 {
-    if at < script.len() {
-        if 1 < script.len() - at {
-            return script[at] == 0x20;
-        }
+    if at < script.len().saturating_sub(1) {
+        return script[at] == 0x20;
     }
     false
 }
@@ -111,8 +109,13 @@ impl<'a> Iterator for Places<'a> {
 
     fn next(&mut self) -> Option<usize> {
         let at = self.at;
+        // Asked first: what looks at the command then need not ask again.
+        if sending(self.script, at) {
+            self.at = at + 2;
+            return Some(at);
+        }
         if at < self.script.len() {
-            self.at = next(self.script, at);
+            self.at = at + 1;
             return Some(at);
         }
         None

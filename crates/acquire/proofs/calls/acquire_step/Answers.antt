@@ -1,12 +1,10 @@
-use Rattle.std.proofs.lemmas.Result.{err_from_is_err_and}
 use Rattle.hardware.proofs.Laws.{admits_no}
 use Rattle.acquire.specs.Calls.{said_acquire, stands_acquire, step_acquire}
 use mathlib.Core.Path.{sym}
 use Rattle.acquire.proofs.calls.acquire_step.Goals as goal
 
-pub returns-in_err-admit : goal.returns-in_err-admit
+pub returns-in-Err : goal.returns-in-Err
 unfolding step_acquire said_acquire stands_acquire
-returns-in_err-admit c =
+returns-in-Err c =
     let h = rw (c.valid_acquire-valid.ensures, c.access.ensures) at c.admit.ensures in
-    let p = err_from_is_err_and c.from_residual-in_err-admit.result c.from_residual-in_err-admit.ensures.1 in
-    rw (c.in_ok-port.ensures.ok_part, p.1, p.2) (record { yields = sym (admits_no _ _ _ _ c.in_err-admit.was h); limits = tt })
+    rw c.in_ok-port.ensures.ok_part (record { yields = sym (admits_no _ _ _ _ c.in-Err.is h); limits = tt })

@@ -48,7 +48,9 @@ fn single(b: u8) -> bool
 fn sending(script: &[u8], at: usize) -> bool
     ensures { result ≡ head_sends (drop at script.now) }
 {
-    if at < script.len().saturating_sub(1) {
+    // Asked of what is left: by `at < script.len().saturating_sub(1)` the compiler makes the width a sum and no branch, and a
+    // walk then waits for each byte before it has the next position.
+    if 1 < script.len().saturating_sub(at) {
         return script[at] == 0x20;
     }
     false
